@@ -1,0 +1,69 @@
+-- The eight operators: their numbers on the tape, their signs, and which of them two bytes begin with.
+use Prim.Native.Nat.{ℕ}
+use mathlib.Core.Bool.{Bool, true, false}
+use lib.Dec.{eqb}
+use Rattle.data.specs.Bytes.{less-than, greater-than, exclamation, question, equals}
+use Rattle.operator.specs.declared.Operator.{Operator}
+use Rattle.operator.specs.declared.Operator.the-variants.{LessThan, LessThanEqual, GreaterThan, GreaterThanEqual, NotEqual, Exact, Equal, Exists}
+use Rattle.operator.specs.declared.Sighted.{Sighted}
+use Rattle.operator.specs.declared.Sighted.the-variants.{Sign, Nothing}
+use Rattle.operator.specs.declared.Symbol.{Symbol}
+
+-- document 01's number for each operator
+abbrev pub number-of : Operator → ℕ
+number-of LessThan = 1
+number-of LessThanEqual = 2
+number-of GreaterThan = 3
+number-of GreaterThanEqual = 4
+number-of NotEqual = 5
+number-of Exact = 6
+number-of Equal = 7
+number-of Exists = 8
+
+abbrev one-byte : ℕ → Symbol
+one-byte b = record { first = b; second = 0 }
+
+abbrev with-equals : ℕ → Symbol
+with-equals b = record { first = b; second = equals }
+
+-- how each operator is written; a second byte of 0 is none
+abbrev pub symbol-of : Operator → Symbol
+symbol-of LessThan = one-byte less-than
+symbol-of LessThanEqual = with-equals less-than
+symbol-of GreaterThan = one-byte greater-than
+symbol-of GreaterThanEqual = with-equals greater-than
+symbol-of NotEqual = with-equals exclamation
+symbol-of Exact = with-equals equals
+symbol-of Equal = one-byte equals
+symbol-of Exists = with-equals question
+
+-- the two-byte operator where `=` follows, else the one-byte one
+abbrev pub bare-or-doubled : Bool → Operator → Operator → Sighted
+bare-or-doubled true bare long = Sign long 2
+bare-or-doubled false bare long = Sign bare 1
+
+-- the two-byte operator where `=` follows, else none
+abbrev pub only-doubled : Bool → Operator → Sighted
+only-doubled true long = Sign long 2
+only-doubled false long = Nothing
+
+-- the operator that two bytes begin with: `<=` `<` `>=` `>` `!=` `?=` `==` `=`, or none
+unfoldable pub sighted : ℕ → ℕ → Sighted
+sighted first second =
+    let doubled : Bool = eqb second equals in
+    elim (eqb first less-than) [
+      | true ↦ bare-or-doubled doubled LessThan LessThanEqual
+      | false ↦ elim (eqb first greater-than) [
+        | true ↦ bare-or-doubled doubled GreaterThan GreaterThanEqual
+        | false ↦ elim (eqb first exclamation) [
+          | true ↦ only-doubled doubled NotEqual
+          | false ↦ elim (eqb first question) [
+            | true ↦ only-doubled doubled Exists
+            | false ↦ elim (eqb first equals) [
+              | true ↦ bare-or-doubled doubled Equal Exact
+              | false ↦ Nothing
+            ]
+          ]
+        ]
+      ]
+    ]

@@ -1,0 +1,136 @@
+// The operators of the save format: eight kinds, their numbers and signs, and which of them stands at a place.
+ghost use mathlib.Core.Path.{_≡_};
+ghost use Rattle.operator.specs.Operators.{number-of, symbol-of, sighted, bare-or-doubled, only-doubled};
+
+pub enum Operator {
+    LessThan,
+    LessThanEqual,
+    GreaterThan,
+    GreaterThanEqual,
+    NotEqual,
+    Exact,
+    Equal,
+    Exists,
+}
+
+// What stands at two bytes: an operator and how many bytes it takes, or none.
+pub enum Sighted {
+    Sign { operator: Operator, width: usize },
+    Nothing,
+}
+
+// An operator's sign: one byte, or two where second is not 0.
+pub struct Symbol {
+    pub first: u8,
+    pub second: u8,
+}
+
+impl Operator {
+    // The number that stands for an operator on the tape.
+    pub fn number(self) -> u32
+        ensures { λ r. ⌜ r ≡ number-of self ⌝ }
+    {
+        match self {
+            Operator::LessThan => 1,
+            Operator::LessThanEqual => 2,
+            Operator::GreaterThan => 3,
+            Operator::GreaterThanEqual => 4,
+            Operator::NotEqual => 5,
+            Operator::Exact => 6,
+            Operator::Equal => 7,
+            Operator::Exists => 8,
+        }
+    }
+
+    // The bytes by which an operator is written.
+    pub fn symbol(self) -> Symbol
+        ensures { λ r. ⌜ r ≡ symbol-of self ⌝ }
+    {
+        match self {
+            Operator::LessThan => Symbol {
+                first: b'<',
+                second: 0,
+            },
+            Operator::LessThanEqual => Symbol {
+                first: b'<',
+                second: b'=',
+            },
+            Operator::GreaterThan => Symbol {
+                first: b'>',
+                second: 0,
+            },
+            Operator::GreaterThanEqual => Symbol {
+                first: b'>',
+                second: b'=',
+            },
+            Operator::NotEqual => Symbol {
+                first: b'!',
+                second: b'=',
+            },
+            Operator::Exact => Symbol {
+                first: b'=',
+                second: b'=',
+            },
+            Operator::Equal => Symbol {
+                first: b'=',
+                second: 0,
+            },
+            Operator::Exists => Symbol {
+                first: b'?',
+                second: b'=',
+            },
+        }
+    }
+}
+
+// The operator that two bytes begin with, in the order of the Rust's tests; second is 0 at the text's end.
+pub fn operator_at(first: u8, second: u8) -> Sighted
+    ensures { λ r. ⌜ r ≡ sighted first second ⌝ }
+{
+    let doubled = second == b'=';
+    if first == b'<' {
+        return bare_or_doubled(doubled, Operator::LessThan, Operator::LessThanEqual);
+    }
+    if first == b'>' {
+        return bare_or_doubled(doubled, Operator::GreaterThan, Operator::GreaterThanEqual);
+    }
+    if first == b'!' {
+        return only_doubled(doubled, Operator::NotEqual);
+    }
+    if first == b'?' {
+        return only_doubled(doubled, Operator::Exists);
+    }
+    if first == b'=' {
+        return bare_or_doubled(doubled, Operator::Equal, Operator::Exact);
+    }
+    Sighted::Nothing
+}
+
+// One of two operators, by whether `=` follows.
+fn bare_or_doubled(doubled: bool, bare: Operator, long: Operator) -> Sighted
+    ensures { λ r. ⌜ r ≡ bare-or-doubled doubled bare long ⌝ }
+{
+    if doubled {
+        return Sighted::Sign {
+            operator: long,
+            width: 2,
+        };
+    }
+    Sighted::Sign {
+        operator: bare,
+        width: 1,
+    }
+}
+
+// An operator that is none without its `=`.
+fn only_doubled(doubled: bool, long: Operator) -> Sighted
+    ensures { λ r. ⌜ r ≡ only-doubled doubled long ⌝ }
+{
+    if doubled {
+        return Sighted::Sign {
+            operator: long,
+            width: 2,
+        };
+    }
+    Sighted::Nothing
+}
