@@ -20,6 +20,17 @@ number-of Exact = 6
 number-of Equal = 7
 number-of Exists = 8
 
+-- whether an operator is `=`, which pairs a key with its value and is no token there
+abbrev pub is-equal : Operator → Bool
+is-equal LessThan = false
+is-equal LessThanEqual = false
+is-equal GreaterThan = false
+is-equal GreaterThanEqual = false
+is-equal NotEqual = false
+is-equal Exact = false
+is-equal Equal = true
+is-equal Exists = false
+
 abbrev one-byte : ℕ → Symbol
 one-byte b = record { first = b; second = 0 }
 

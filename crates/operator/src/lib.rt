@@ -1,6 +1,6 @@
 // The operators of the save format: eight kinds, their numbers and signs, and which of them stands at a place.
 ghost use mathlib.Core.Path.{_≡_};
-ghost use Rattle.operator.specs.Operators.{number-of, symbol-of, sighted, bare-or-doubled, only-doubled};
+ghost use Rattle.operator.specs.Operators.{number-of, is-equal, symbol-of, sighted, bare-or-doubled, only-doubled};
 
 pub enum Operator {
     LessThan,
@@ -39,6 +39,22 @@ impl Operator {
             Operator::Exact => 6,
             Operator::Equal => 7,
             Operator::Exists => 8,
+        }
+    }
+
+    // Whether an operator is `=`, which pairs a key with its value and is no token there.
+    pub fn is_equal(self) -> bool
+        ensures { λ r. ⌜ r ≡ is-equal self ⌝ }
+    {
+        match self {
+            Operator::LessThan => false,
+            Operator::LessThanEqual => false,
+            Operator::GreaterThan => false,
+            Operator::GreaterThanEqual => false,
+            Operator::NotEqual => false,
+            Operator::Exact => false,
+            Operator::Equal => true,
+            Operator::Exists => false,
         }
     }
 
