@@ -1,0 +1,7 @@
+pub mod Runs
+pub mod Words
+pub mod Gathers
+pub mod Wholes
+pub mod Floats
+pub mod Powers
+pub mod Signs

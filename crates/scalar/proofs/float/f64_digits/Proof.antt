@@ -1,0 +1,60 @@
+-- `scalar::float::f64_digits` meets its contract: what stands after the digits says whether a point is read.
+-- Assumes nothing.
+use mathlib.Core.Path.{sym, _∙_}
+use borrow.Author.Needs.{needs}
+use Rattle.scalar.specs.Float.{after-point}
+use Rattle.scalar.proofs.Floats.{point-within, tail-told, past-point, digits-end, digits-point, digits-other}
+use Rattle.scalar.proofs.float.f64_digits.Statement.{statement}
+use Rattle.scalar.proofs.float.f64_digits.Tie as tie
+
+gather-requires : tie.Need-gather-requires
+gather-requires c κs = search needs
+
+tail-at-requires : tie.Need-tail-at-requires
+tail-at-requires c κs = search needs
+
+enum-told : tie.Need-enum-told
+enum-told c = search needs
+
+unpointed-requires : tie.Need-unpointed-requires
+unpointed-requires c κs = search needs
+
+enum-told-2 : tie.Need-enum-told-2
+enum-told-2 c = search needs
+
+pointed-requires : tie.Need-pointed-requires
+pointed-requires c κs = (c .before .before .before .gather .ensures, point-within _ _ (sym (c .before .before .tail-at .ensures) ∙ c .enum-told2 .given .1))
+
+enum-told-3 : tie.Need-enum-told-3
+enum-told-3 c = search needs
+
+returns : tie.Need-returns
+returns c =
+    c .unpointed .ensures
+    ∙ sym (digits-end _ _ (tail-told _ _ 0 _ _ (c .before .before .before .before .gather .ensures) (sym (c .before .before .before .tail-at .ensures) ∙ c .before .enum-told .given .1)))
+
+returns-2 : tie.Need-returns-2
+returns-2 c =
+    let g = c .before .before .before .before .gather .ensures in
+    c .pointed .ensures
+    ∙ (λ j. after-point (c .before .before .before .before .before .before .args .negative) (g j .total) (past-point _ _ 0 _ g j))
+    ∙ sym (digits-point _ _ (tail-told _ _ 0 _ _ g (sym (c .before .before .before .tail-at .ensures) ∙ c .before .enum-told2 .given .1)))
+
+returns-3 : tie.Need-returns-3
+returns-3 c =
+    sym (digits-other _ _ (tail-told _ _ 0 _ _ (c .before .before .before .gather .ensures) (sym (c .before .before .tail-at .ensures) ∙ c .enum-told3 .given .1)))
+
+pub f64-digits-spec : {M : Type 1} → statement M
+f64-digits-spec =
+    tie.close
+    (tie.spec
+    gather-requires
+    tail-at-requires
+    enum-told
+    unpointed-requires
+    enum-told-2
+    pointed-requires
+    enum-told-3
+    returns
+    returns-2
+    returns-3)

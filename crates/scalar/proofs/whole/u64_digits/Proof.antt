@@ -1,0 +1,34 @@
+-- `scalar::whole::u64_digits` meets its contract: what is left after the digits decides first, then the size.
+-- Assumes nothing.
+use mathlib.Core.Path.{sym, _∙_, ap}
+use borrow.Author.Needs.{needs}
+use borrow.Author.Tests.{ltb-false}
+use Rattle.scalar.specs.declared.whole.U64Read.the-variants.{Is}
+use Rattle.scalar.proofs.Gathers.{tailed, untailed, total-is}
+use Rattle.scalar.proofs.Wholes.{u64-tail, u64-past, u64-is}
+use Rattle.scalar.proofs.whole.u64_digits.Statement.{statement}
+use Rattle.scalar.proofs.whole.u64_digits.Tie as tie
+
+gather-requires : tie.Need-gather-requires
+gather-requires c κs = search needs
+
+returns : tie.Need-returns
+returns c = sym (u64-tail _ (tailed (c .before .before .before .before .args .d .now) _ 0 _ (c .before .before .gather .ensures) (c .if1 .taken)))
+
+exceeds-requires : tie.Need-exceeds-requires
+exceeds-requires c κs = search needs
+
+returns-2 : tie.Need-returns-2
+returns-2 c =
+    sym (u64-past _ (untailed (c .before .before .before .before .before .before .args .d .now) _ 0 _ (c .before .before .before .before .gather .ensures) (c .before .before .if1 .left))
+    (sym (c .before .exceeds .ensures) ∙ c .if2 .taken))
+
+returns-3 : tie.Need-returns-3
+returns-3 c =
+    let gathered-is = c .before .before .before .before .gather .ensures in
+    let within = sym (c .before .exceeds .ensures) ∙ c .if2 .left in
+    ap Is (total-is (c .before .before .before .before .before .before .args .d .now) _ 0 _ gathered-is (ltb-false _ _ within))
+    ∙ sym (u64-is _ (untailed (c .before .before .before .before .before .before .args .d .now) _ 0 _ gathered-is (c .before .before .if1 .left)) within)
+
+pub u64-digits-spec : {M : Type 1} → statement M
+u64-digits-spec = tie.close (tie.spec gather-requires returns exceeds-requires returns-2 returns-3)

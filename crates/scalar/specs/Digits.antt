@@ -1,0 +1,35 @@
+-- Decimal digits: which bytes are digits, the run of them in front, and the number that they write.
+use mathlib.Core.Bool.{Bool, true, false}
+use mathlib.Core.List.{List, [], _∷_}
+use Prim.Native.Nat.{ℕ, _+_, _-_, _*_, _%_, _^_}
+use lib.Dec.{leb}
+use lib.ListN.{length, drop}
+use Rattle.data.specs.Bytes.{digit-zero, digit-nine}
+use Rattle.scalar.specs.declared.digits.Gathered.{Gathered}
+
+-- the most that 64 bits hold
+abbrev pub most-u64 : ℕ
+most-u64 = 2 ^ 64 - 1
+
+-- whether a byte is a decimal digit
+unfoldable pub is-digit : ℕ → Bool
+is-digit b = elim (leb digit-zero b) [ true ↦ leb b digit-nine | false ↦ false ]
+
+-- the digits in front
+unfoldable pub run : List ℕ → List ℕ
+unfolding is-digit
+run [] = []
+run (b ∷ d) = elim (is-digit b) [ true ↦ b ∷ run d | false ↦ [] ]
+
+-- a number carried on by one more digit
+abbrev pub carry : ℕ → ℕ → ℕ
+carry total b = total * 10 + (b - digit-zero)
+
+-- a number carried on through digits
+unfoldable pub value : ℕ → List ℕ → ℕ
+value total [] = total
+value total (b ∷ d) = value (carry total b) d
+
+-- the digits from a place on, carried on from a total modulo 2^64, and the place after them
+abbrev pub gathered : List ℕ → ℕ → ℕ → Gathered
+gathered d at start = record { total = value start (run (drop at d)) % 2 ^ 64; at = at + length (run (drop at d)) }

@@ -1,0 +1,44 @@
+// The kind of a scalar, by the readings that answer.
+use crate::float::F64Read;
+use crate::float::to_f64;
+use crate::truth::BoolRead;
+use crate::truth::to_bool;
+use crate::whole::I64Read;
+use crate::whole::to_i64;
+ghost use mathlib.Core.Path.{_≡_};
+ghost use Rattle.scalar.specs.Float.{f64-read};
+ghost use Rattle.scalar.specs.Kind.{kind-of, kind-by-f64, kind-by-i64};
+
+// What an unquoted scalar is.
+pub enum ScalarKind {
+    Bool,
+    Whole,
+    Decimal,
+    Name,
+}
+
+// The kind of a scalar's bytes.
+pub fn kind(d: &[u8]) -> ScalarKind
+    ensures { λ r. ⌜ r ≡ kind-of (now (d .entry)) ⌝ }
+{
+    match to_bool(d) {
+        BoolRead::Is(_) => ScalarKind::Bool,
+        BoolRead::InvalidBool => match to_i64(d) {
+            I64Read::Is(_) => ScalarKind::Whole,
+            I64Read::AllDigits => decimal_or_name(d),
+            I64Read::Overflow => decimal_or_name(d),
+        },
+    }
+}
+
+// The kind of bytes that are no truth and no whole number.
+fn decimal_or_name(d: &[u8]) -> ScalarKind
+    ensures { λ r. ⌜ r ≡ kind-by-f64 (f64-read (now (d .entry))) ⌝ }
+{
+    match to_f64(d) {
+        F64Read::Is(_) => ScalarKind::Decimal,
+        F64Read::PrecisionLoss(_) => ScalarKind::Decimal,
+        F64Read::AllDigits => ScalarKind::Name,
+        F64Read::Overflow => ScalarKind::Name,
+    }
+}
