@@ -1,0 +1,5 @@
+pub mod Places
+pub mod Blanks
+pub mod Runs
+pub mod Quotes
+pub mod Scalars

@@ -1,0 +1,66 @@
+-- `cut::quoted_at` meets its contract: what the run of the later part says, said of the text; a closed run ends within the text, so that the sums fit.
+-- Assumes nothing.
+use mathlib.Core.Path.{_≡_, sym, _∙_, ap}
+use native.Mathlib.Omega.{arith}
+use borrow.Author.Needs.{needs}
+use denote.Ref.{now}
+use lib.ListN.{drop}
+use Rattle.cut.specs.Quotes.{quoted-run}
+use Rattle.cut.specs.Scalars.{quoted}
+use Rattle.cut.specs.declared.Quoted.the-variants.{Closed}
+use Rattle.cut.proofs.Scalars.{quoted-part, quoted-part-closes}
+use Rattle.cut.proofs.quoted_at.Statement.{statement}
+use Rattle.cut.proofs.quoted_at.Tie as tie
+
+sub-parse-quote-scalar : tie.Need-sub-parse-quote-scalar
+sub-parse-quote-scalar c = search needs
+
+part-parse-quote-scalar-start : tie.Need-part-parse-quote-scalar-start
+part-parse-quote-scalar-start c = search needs
+
+part-parse-quote-scalar-end : tie.Need-part-parse-quote-scalar-end
+part-parse-quote-scalar-end c = search needs
+
+parse-quote-scalar-requires : tie.Need-parse-quote-scalar-requires
+parse-quote-scalar-requires c κs = search needs
+
+enum-known-length : tie.Need-enum-known-length
+enum-known-length c = search needs
+
+closed : (c : tie.After-known-told)
+    → quoted-run (drop (c .before .before .before .before .before .before .args .start) (now (c .before .before .before .before .before .before .args .text))) ≡ Closed (c .before .length .given .0 .0)
+closed c =
+    let a = c .before .before .before .before .before .before .args in
+    sym (quoted-part (now (a .text)) (a .start) _ (c .before .before .before .parse-quote-scalar .ensures)) ∙ c .before .length .given .1
+
+add-end : tie.Need-add-end
+add-end c = omega (arith, quoted-part-closes (now (c .before .before .before .before .before .before .args .text)) (c .before .before .before .before .before .before .args .start) (c .before .length .given .0 .0) (c .before .before .before .before .before .before .pre) (closed c))
+
+add-t11 : tie.Need-add-t11
+add-t11 c = omega (arith, quoted-part-closes (now (c .before .before .before .before .before .before .args .text)) (c .before .before .before .before .before .before .args .start) (c .before .length .given .0 .0) (c .before .before .before .before .before .before .pre) (closed c))
+
+enum-told : tie.Need-enum-told
+enum-told c = search needs
+
+returns : tie.Need-returns
+returns c = sym (ap (quoted (c .before .before .before .before .before .before .args .start)) (closed c))
+
+returns-2 : tie.Need-returns-2
+returns-2 c =
+    let a = c .before .before .before .before .before .args in
+    sym (ap (quoted (a .start)) (sym (quoted-part (now (a .text)) (a .start) _ (c .before .before .parse-quote-scalar .ensures)) ∙ c .enum-told .given .1))
+
+pub quoted-at-spec : {M : Type 1} → statement M
+quoted-at-spec =
+    tie.close
+    (tie.spec
+    sub-parse-quote-scalar
+    part-parse-quote-scalar-start
+    part-parse-quote-scalar-end
+    parse-quote-scalar-requires
+    enum-known-length
+    add-end
+    add-t11
+    enum-told
+    returns
+    returns-2)

@@ -1,0 +1,4 @@
+pub mod Blanks
+pub mod Runs
+pub mod Quotes
+pub mod Scalars
