@@ -1,0 +1,3 @@
+pub mod Views
+pub mod Laying
+pub mod Shapes

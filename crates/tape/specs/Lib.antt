@@ -1,0 +1,4 @@
+pub mod Token
+pub mod Shape
+pub mod Words
+pub mod Tape

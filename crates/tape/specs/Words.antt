@@ -1,0 +1,72 @@
+-- The words that tokens stand in: three to a token, those of token i from word 3 * i on.
+use Prim.Native.Nat.{ℕ, zero, suc, _+_, _-_, _*_, _/_, min}
+use mathlib.Core.Bool.{true, false}
+use mathlib.Core.List.{List, [], _∷_, _++_}
+use lib.Dec.{ltb}
+use lib.ListN.{length, getD, set, replicate}
+use Rattle.tape.specs.declared.token.Token.{Token}
+use Rattle.tape.specs.declared.words.Pushed.{Pushed}
+use Rattle.tape.specs.declared.words.Pushed.the-variants.{Laid, Full}
+use Rattle.tape.specs.Token.{no-token, mixed-container-token}
+
+-- how many words some tokens take
+abbrev pub words-for : ℕ → ℕ
+words-for n = n * 3
+
+-- how many tokens a tape has room for: its length divided by 3, and no more than a word can number
+unfoldable pub room-of : List ℕ → ℕ
+room-of ws = min (length ws / 3) 4294967295
+
+-- the first n tokens, or as many as stand there whole
+unfoldable pub tokens-in : List ℕ → ℕ → List Token
+tokens-in ws zero = []
+tokens-in [] (suc n) = []
+tokens-in (c ∷ []) (suc n) = []
+tokens-in (c ∷ a ∷ []) (suc n) = []
+tokens-in (c ∷ a ∷ b ∷ ws) (suc n) = record { code = c; a = a; b = b } ∷ tokens-in ws n
+
+-- the words of a list of tokens
+unfoldable pub words-of : List Token → List ℕ
+words-of [] = []
+words-of (t ∷ ts) = t .code ∷ t .a ∷ t .b ∷ words-of ts
+
+-- token i of n
+unfoldable pub token-in : List ℕ → ℕ → ℕ → Token
+token-in ws n i = getD (tokens-in ws n) i no-token
+
+-- the words with token i written, where it fits
+unfoldable pub put-words : List ℕ → ℕ → Token → List ℕ
+put-words ws i t =
+    elim (ltb (i * 3 + 2) (length ws)) [
+      | true ↦ set (set (set ws (i * 3) (t .code)) (i * 3 + 1) (t .a)) (i * 3 + 2) (t .b)
+      | false ↦ ws
+    ]
+
+-- the words with token i of n changed
+unfoldable pub put-in : List ℕ → ℕ → ℕ → Token → List ℕ
+put-in ws n i t = elim (ltb i n) [ true ↦ put-words ws i t | false ↦ ws ]
+
+-- an answer with the words that it leaves
+pub data Written : Type 0 where
+  written : Pushed → List ℕ → Written
+
+-- a token laid down after n others, where there is room
+unfoldable pub push-words : List ℕ → ℕ → Token → Written
+push-words ws n t = elim (ltb n (room-of ws)) [ true ↦ written (Laid (n + 1)) (put-words ws n t) | false ↦ written Full ws ]
+
+-- a MixedContainer laid down before the last of n tokens, which moves up by one, where there is room
+unfoldable pub insert-words : List ℕ → ℕ → Written
+insert-words ws zero = push-words ws 0 mixed-container-token
+insert-words ws (suc n) =
+    elim (ltb (suc n) (room-of ws)) [
+      | true ↦ written (Laid (suc n + 1)) (put-words (put-words ws (suc n) (token-in ws (suc n) n)) n mixed-container-token)
+      | false ↦ written Full ws
+    ]
+
+-- the words of some tokens, with zeros behind them up to a length
+unfoldable pub padded : ℕ → List Token → List ℕ
+padded len ts = words-of ts ++ replicate (len - length (words-of ts)) 0
+
+-- the words with all past the first n tokens zero
+unfoldable pub cleared : List ℕ → ℕ → List ℕ
+cleared ws n = padded (length ws) (tokens-in ws n)

@@ -1,0 +1,207 @@
+// A token by value: a code and two words. Whoever lays one down makes it by name, and whoever reads one asks what it is.
+ghost use mathlib.Core.Path.{_≡_};
+ghost use Rattle.tape.specs.Token.{container-code, scalar-code, flag-word, flag-of, stores-flag, opener-of, end-of, scalar-of, operator-of, mixed-container-token, container-of, standing-of, headed};
+
+pub struct Token {
+    pub code: u32,
+    pub a: u32,
+    pub b: u32,
+}
+
+// The two kinds of container.
+pub enum ContainerKind {
+    Array,
+    Object,
+}
+
+// The five kinds of scalar.
+pub enum ScalarKind {
+    Unquoted,
+    Quoted,
+    Parameter,
+    UndefinedParameter,
+    Header,
+}
+
+// A token seen as a container: its kind, its link (the index of its End or, while it is open, of its parent) and its
+// stored flag; or none.
+pub enum Container {
+    Opened {
+        kind: ContainerKind,
+        link: u32,
+        mixed: bool,
+    },
+    Nothing,
+}
+
+// What a token is to a brace or an operator that follows it.
+pub enum Standing {
+    Unquoted,
+    OtherScalar,
+    End,
+    Nothing,
+}
+
+// The code of a container of a kind.
+fn container_number(kind: ContainerKind) -> u32
+    ensures { λ r. ⌜ r ≡ container-code kind ⌝ }
+{
+    match kind {
+        ContainerKind::Array => 1,
+        ContainerKind::Object => 2,
+    }
+}
+
+// The code of a scalar of a kind.
+fn scalar_number(kind: ScalarKind) -> u32
+    ensures { λ r. ⌜ r ≡ scalar-code kind ⌝ }
+{
+    match kind {
+        ScalarKind::Unquoted => 4,
+        ScalarKind::Quoted => 5,
+        ScalarKind::Parameter => 6,
+        ScalarKind::UndefinedParameter => 7,
+        ScalarKind::Header => 10,
+    }
+}
+
+// An opener's second word, which stores its mixed flag.
+fn flag_number(mixed: bool) -> u32
+    ensures { λ r. ⌜ r ≡ flag-word mixed ⌝ }
+{
+    if mixed {
+        return 1;
+    }
+    0
+}
+
+// The flag that an opener's second word stores.
+fn flag_told(word: u32) -> bool
+    ensures { λ r. ⌜ r ≡ flag-of word ⌝ }
+{
+    word == 1
+}
+
+// Whether a word is one that stores a flag.
+pub(crate) fn stores_flag(word: u32) -> bool
+    ensures { λ r. ⌜ r ≡ stores-flag word ⌝ }
+{
+    word == flag_number(flag_told(word))
+}
+
+// A container's opener, with its link and its stored flag.
+pub fn opener(kind: ContainerKind, link: u32, mixed: bool) -> Token
+    ensures { λ r. ⌜ r ≡ opener-of kind link mixed ⌝ }
+{
+    Token {
+        code: container_number(kind),
+        a: link,
+        b: flag_number(mixed),
+    }
+}
+
+// The End that names its opener.
+pub fn end(opener: u32) -> Token
+    ensures { λ r. ⌜ r ≡ end-of opener ⌝ }
+{
+    Token {
+        code: 9,
+        a: opener,
+        b: 0,
+    }
+}
+
+// A scalar whose view starts at an offset and has a length.
+pub fn scalar(kind: ScalarKind, offset: u32, length: u32) -> Token
+    ensures { λ r. ⌜ r ≡ scalar-of kind offset length ⌝ }
+{
+    Token {
+        code: scalar_number(kind),
+        a: offset,
+        b: length,
+    }
+}
+
+// An operator by its number.
+pub fn operator(number: u32) -> Token
+    ensures { λ r. ⌜ r ≡ operator-of number ⌝ }
+{
+    Token {
+        code: 8,
+        a: number,
+        b: 0,
+    }
+}
+
+// The mark that a container turns from pairs to values, or back.
+pub fn mixed_container() -> Token
+    ensures { λ r. ⌜ r ≡ mixed-container-token ⌝ }
+{
+    Token {
+        code: 3,
+        a: 0,
+        b: 0,
+    }
+}
+
+impl Token {
+    // The token as a container, or none.
+    pub fn container(self) -> Container
+        ensures { λ r. ⌜ r ≡ container-of self ⌝ }
+    {
+        let code = self.code;
+        let mixed = flag_told(self.b);
+        if code == 1 {
+            return Container::Opened {
+                kind: ContainerKind::Array,
+                link: self.a,
+                mixed,
+            };
+        }
+        if code == 2 {
+            return Container::Opened {
+                kind: ContainerKind::Object,
+                link: self.a,
+                mixed,
+            };
+        }
+        Container::Nothing
+    }
+
+    // What the token is to what follows it.
+    pub fn standing(self) -> Standing
+        ensures { λ r. ⌜ r ≡ standing-of self ⌝ }
+    {
+        let code = self.code;
+        if code == 4 {
+            return Standing::Unquoted;
+        }
+        if code == 9 {
+            return Standing::End;
+        }
+        if code == 10 {
+            return Standing::OtherScalar;
+        }
+        if code == 5 {
+            return Standing::OtherScalar;
+        }
+        if code == 6 {
+            return Standing::OtherScalar;
+        }
+        if code == 7 {
+            return Standing::OtherScalar;
+        }
+        Standing::Nothing
+    }
+
+    // The same view as a Header.
+    pub fn as_header(self) -> Token
+        ensures { λ r. ⌜ r ≡ headed self ⌝ }
+    {
+        Token {
+            code: 10,
+            a: self.a,
+            b: self.b,
+        }
+    }
+}

@@ -1,0 +1,140 @@
+// Tokens on a lent slice of words: read one, lay one down after the others, change one, clear what stands past them.
+// `count` says how many tokens stand on the tape, and an index that is not below it reads and changes nothing.
+use crate::token;
+use crate::token::Token;
+ghost use mathlib.Core.Path.{_≡_};
+ghost use lib.ListN.{length, replicate};
+ghost use lib.Dec.{leb, ltb};
+ghost use Rattle.tape.specs.Words.{words-for, room-of, token-in, put-words, put-in, written, push-words, insert-words, cleared};
+ghost use Rattle.tape.specs.Tape.{view, replace, lay, lay-mixed, after-push};
+
+// What laying down a token answers: the new count, or that there is no room.
+pub enum Pushed {
+    Laid(u32),
+    Full,
+}
+
+// Token i of count, or the token of three zeros where there is none.
+pub fn token_of(words: &[u32], count: usize, i: usize) -> Token
+    ensures { λ r. ⌜ r ≡ token-in (now (words .entry)) count i ⌝ }
+{
+    if i < count {
+        if i < words.len() {
+            let at = i * 3;
+            if at + 2 < words.len() {
+                return Token {
+                    code: words[at],
+                    a: words[at + 1],
+                    b: words[at + 2],
+                };
+            }
+        }
+    }
+    Token {
+        code: 0,
+        a: 0,
+        b: 0,
+    }
+}
+
+// The same by numbers of a word's width, as the states keep them.
+pub fn token(tape: &[u32], count: u32, i: u32) -> Token
+    ensures { λ r. ⌜ r ≡ token-in (now (tape .entry)) count i ⌝ }
+{
+    token_of(tape, count as usize, i as usize)
+}
+
+// Whether the words of count tokens are all there.
+pub fn holds(words: &[u32], count: usize) -> bool
+    ensures { λ r. ⌜ r ≡ leb (words-for count) (length (now (words .entry))) ⌝ }
+{
+    count <= words.len() / 3
+}
+
+// Writes the words of token i, where they fit.
+fn put_words(tape: &mut [u32], i: u32, t: Token)
+    ensures { λ r. ⌜ now (tape .exit) ≡ put-words (now (tape .entry)) i t ⌝ }
+{
+    let at = (i as usize) * 3;
+    if at + 2 < tape.len() {
+        tape[at] = t.code;
+        tape[at + 1] = t.a;
+        tape[at + 2] = t.b;
+    }
+}
+
+// Changes token i of count.
+pub fn put(tape: &mut [u32], count: u32, i: u32, t: Token)
+    ensures exact { λ r. ⌜ now (tape .exit) ≡ put-in (now (tape .entry)) count i t ⌝ }
+    ensures seen { λ r. ⌜ view (now (tape .exit)) count ≡ replace (view (now (tape .entry)) count) i t ⌝ }
+{
+    if i < count {
+        put_words(tape, i, t);
+    }
+}
+
+// Whether a token fits after count others.
+fn has_room(tape: &[u32], count: u32) -> bool
+    ensures { λ r. ⌜ r ≡ ltb count (room-of (now (tape .entry))) ⌝ }
+{
+    let at = (count as usize) * 3;
+    if count == u32::MAX {
+        return false;
+    }
+    at + 2 < tape.len()
+}
+
+// Lays a token down after count others.
+pub fn push(tape: &mut [u32], count: u32, t: Token) -> Pushed
+    ensures exact { λ r. ⌜ written r (now (tape .exit)) ≡ push-words (now (tape .entry)) count t ⌝ }
+    ensures seen { λ r. ⌜ after-push r (now (tape .exit)) ≡ lay (view (now (tape .entry)) count) count t ⌝ }
+{
+    if !has_room(tape, count) {
+        return Pushed::Full;
+    }
+    put_words(tape, count, t);
+    Pushed::Laid(count + 1)
+}
+
+// Lays a MixedContainer down before the last of count tokens, which moves up by one.
+pub fn insert_mixed(tape: &mut [u32], count: u32) -> Pushed
+    ensures exact { λ r. ⌜ written r (now (tape .exit)) ≡ insert-words (now (tape .entry)) count ⌝ }
+    ensures seen { λ r. ⌜ after-push r (now (tape .exit)) ≡ lay-mixed (view (now (tape .entry)) count) count ⌝ }
+{
+    if count == 0 {
+        return push(tape, 0, token::mixed_container());
+    }
+    let last = token(tape, count, count - 1);
+    if !has_room(tape, count) {
+        return Pushed::Full;
+    }
+    put_words(tape, count, last);
+    put_words(tape, count - 1, token::mixed_container());
+    Pushed::Laid(count + 1)
+}
+
+// Zeroes every word.
+fn zero_all(words: &mut [u32])
+    ensures { λ r. ⌜ now (words .exit) ≡ replicate (length (now (words .entry))) 0 ⌝ }
+{
+    let mut i = 0;
+    while i < words.len() {
+        words[i] = 0;
+        i += 1;
+    }
+}
+
+// Zeroes every word past count tokens.
+pub fn clear_from(tape: &mut [u32], count: u32)
+    ensures { λ r. ⌜ now (tape .exit) ≡ cleared (now (tape .entry)) count ⌝ }
+{
+    let whole = tape.len() / 3;
+    let laid = count as usize;
+    if laid < whole {
+        let from = laid * 3;
+        zero_all(&mut tape[from..]);
+        return;
+    }
+    let from = whole * 3;
+    zero_all(&mut tape[from..]);
+}
