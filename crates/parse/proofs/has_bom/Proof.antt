@@ -1,0 +1,33 @@
+-- `parse::has_bom` meets its contract: the three tests are those of `has-bom`.
+-- Assumes nothing.
+use borrow.Author.Needs.{needs}
+use borrow.Author.Tests.{eq-eqb, ne-eqb}
+use Rattle.parse.specs.Parse.{has-bom}
+use Rattle.parse.proofs.has_bom.Statement.{statement}
+use Rattle.parse.proofs.has_bom.Tie as tie
+
+byte-at-requires : tie.Need-byte-at-requires
+byte-at-requires c κs = search needs
+
+returns : tie.Need-returns
+unfolding has-bom
+returns c = rw (has-bom, ← (c .before .byte-at .ensures), ne-eqb _ _ (c .if1 .taken))
+
+byte-at-requires-2 : tie.Need-byte-at-requires-2
+byte-at-requires-2 c κs = search needs
+
+returns-2 : tie.Need-returns-2
+unfolding has-bom
+returns-2 c = rw (has-bom, ← (c .before .before .before .byte-at .ensures), eq-eqb _ _ (c .before .before .if1 .left), ← (c .before .byte-at2 .ensures), ne-eqb _ _ (c .if2 .taken))
+
+byte-at-requires-3 : tie.Need-byte-at-requires-3
+byte-at-requires-3 c κs = search needs
+
+returns-3 : tie.Need-returns-3
+unfolding has-bom
+returns-3 c = rw (has-bom, ← (c .before .before .before .before .byte-at .ensures), eq-eqb _ _ (c .before .before .before .if1 .left), ← (c .before .before .byte-at2 .ensures), eq-eqb _ _ (c .before .if2 .left), ← (c .byte-at3 .ensures))
+
+pub has-bom-spec : {M : Type 1} → statement M
+has-bom-spec =
+    tie.close
+    (tie.spec byte-at-requires returns byte-at-requires-2 returns-2 byte-at-requires-3 returns-3)

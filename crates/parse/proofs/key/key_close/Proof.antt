@@ -1,0 +1,53 @@
+-- `parse::key::key_close` meets its contract, by whether a container is open.
+-- Assumes nothing.
+use borrow.Author.Needs.{needs}
+use Rattle.parse.specs.Key.{key-close}
+use Rattle.parse.proofs.key.key_close.Statement.{statement}
+use Rattle.parse.proofs.key.key_close.Tie as tie
+
+container-at-requires : tie.Need-container-at-requires
+container-at-requires c κs = search needs
+
+link-of-requires : tie.Need-link-of-requires
+link-of-requires c κs = search needs
+
+nothing-open-requires : tie.Need-nothing-open-requires
+nothing-open-requires c κs = search needs
+
+add-to : tie.Need-add-to
+add-to c = search needs
+
+to-requires : tie.Need-to-requires
+to-requires c κs = search needs
+
+same-length : tie.Need-same-length
+same-length c = search needs
+
+returns : tie.Need-returns
+unfolding key-close
+returns c = rw (key-close, ← (c .before .before .before .before .before .container-at .ensures), ← (c .before .before .before .before .link-of .ensures), ← (c .before .before .before .nothing-open .ensures), c .before .before .if1 .taken, c .to .ensures)
+
+close-requires : tie.Need-close-requires
+close-requires c κs = search needs
+
+same-length-2 : tie.Need-same-length-2
+same-length-2 c = search needs
+
+returns-2 : tie.Need-returns-2
+unfolding key-close
+returns-2 c = rw (key-close, ← (c .before .before .before .before .before .before .before .container-at .ensures), ← (c .before .before .before .before .before .before .link-of .ensures), ← (c .before .before .before .before .before .nothing-open .ensures), c .before .before .before .before .if1 .left, c .before .before .close .ensures, c .before .before .before .before .before .before .link-of .ensures, c .before .before .before .before .before .before .before .container-at .ensures)
+
+pub key-close-spec : {M : Type 1} → statement M
+key-close-spec =
+    tie.close
+    (tie.spec
+    container-at-requires
+    link-of-requires
+    nothing-open-requires
+    add-to
+    to-requires
+    same-length
+    returns
+    close-requires
+    same-length-2
+    returns-2)

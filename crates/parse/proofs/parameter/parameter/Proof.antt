@@ -1,0 +1,67 @@
+-- `parse::parameter::parameter` meets its contract: its tests are those of `parameter`.
+-- Assumes nothing.
+use borrow.Author.Needs.{needs}
+use borrow.Author.Tests.{eq-eqb, ne-eqb}
+use Rattle.parse.specs.Parameter.{parameter}
+use Rattle.parse.proofs.parameter.parameter.Statement.{statement}
+use Rattle.parse.proofs.parameter.parameter.Tie as tie
+
+add-byte-at : tie.Need-add-byte-at
+add-byte-at c = search needs
+
+byte-at-requires : tie.Need-byte-at-requires
+byte-at-requires c κs = search needs
+
+returns : tie.Need-returns
+unfolding parameter
+returns c = rw (parameter, ← (c .before .byte-at .ensures), ne-eqb _ _ (c .if1 .taken))
+
+add-byte-at-2 : tie.Need-add-byte-at-2
+add-byte-at-2 c = search needs
+
+byte-at-requires-2 : tie.Need-byte-at-requires-2
+byte-at-requires-2 c κs = search needs
+
+add-parameter-name : tie.Need-add-parameter-name
+add-parameter-name c = search needs
+
+parameter-name-requires : tie.Need-parameter-name-requires
+parameter-name-requires c κs = search needs
+
+same-length : tie.Need-same-length
+same-length c = search needs
+
+returns-2 : tie.Need-returns-2
+unfolding parameter
+returns-2 c = rw (parameter, ← (c .before .before .before .before .before .before .before .byte-at .ensures), eq-eqb _ _ (c .before .before .before .before .before .before .if1 .left), ← (c .before .before .before .before .before .byte-at2 .ensures), eq-eqb _ _ (c .before .before .before .before .if2 .taken)) (c .before .before .parameter-name .ensures)
+
+add-parameter-name-2 : tie.Need-add-parameter-name-2
+add-parameter-name-2 c = search needs
+
+parameter-name-requires-2 : tie.Need-parameter-name-requires-2
+parameter-name-requires-2 c κs = search needs
+
+same-length-2 : tie.Need-same-length-2
+same-length-2 c = search needs
+
+returns-3 : tie.Need-returns-3
+unfolding parameter
+returns-3 c = rw (parameter, ← (c .before .before .before .before .before .before .before .byte-at .ensures), eq-eqb _ _ (c .before .before .before .before .before .before .if1 .left), ← (c .before .before .before .before .before .byte-at2 .ensures), ne-eqb _ _ (c .before .before .before .before .if2 .left)) (c .before .before .parameter-name2 .ensures)
+
+pub parameter-spec : {M : Type 1} → statement M
+parameter-spec =
+    tie.close
+    (tie.spec
+    add-byte-at
+    byte-at-requires
+    returns
+    add-byte-at-2
+    byte-at-requires-2
+    add-parameter-name
+    parameter-name-requires
+    same-length
+    returns-2
+    add-parameter-name-2
+    parameter-name-requires-2
+    same-length-2
+    returns-3)

@@ -1,0 +1,32 @@
+-- `parse::parse_open::follows_key` meets its contract: its tests are those of `follows-key`, in that order.
+-- Assumes nothing.
+use borrow.Author.Tests.{eq-eqb, ne-eqb}
+use Rattle.data.specs.Bytes.{exclamation}
+use Rattle.parse.proofs.Bytes.{among-one}
+use Rattle.parse.specs.ParseOpen.{follows-key}
+use Rattle.data.specs.Classes.{among}
+use Rattle.parse.proofs.parse_open.follows_key.Statement.{statement}
+use Rattle.parse.proofs.parse_open.follows_key.Tie as tie
+
+returns : tie.Need-returns
+unfolding follows-key
+returns c = rw (follows-key, among, eq-eqb _ _ (c .if1 .taken))
+
+returns-2 : tie.Need-returns-2
+unfolding follows-key
+returns-2 c = rw (follows-key, among, ne-eqb _ _ (c .before .if1 .left), among, eq-eqb _ _ (c .if2 .taken))
+
+returns-3 : tie.Need-returns-3
+unfolding follows-key
+returns-3 c = rw (follows-key, among, ne-eqb _ _ (c .before .before .if1 .left), among, ne-eqb _ _ (c .before .if2 .left), among, eq-eqb _ _ (c .if3 .taken))
+
+returns-4 : tie.Need-returns-4
+unfolding follows-key
+returns-4 c = rw (follows-key, among, ne-eqb _ _ (c .before .before .before .if1 .left), among, ne-eqb _ _ (c .before .before .if2 .left), among, ne-eqb _ _ (c .before .if3 .left), among, eq-eqb _ _ (c .if4 .taken))
+
+returns-5 : tie.Need-returns-5
+unfolding follows-key
+returns-5 c = rw (follows-key, among, ne-eqb _ _ (c .before .before .before .if1 .left), among, ne-eqb _ _ (c .before .before .if2 .left), among, ne-eqb _ _ (c .before .if3 .left), among, ne-eqb _ _ (c .if4 .left)) (among-one (c .before .before .before .before .args .b) exclamation)
+
+pub follows-key-spec : {M : Type 1} → statement M
+follows-key-spec = tie.close (tie.spec returns returns-2 returns-3 returns-4 returns-5)

@@ -1,0 +1,58 @@
+-- `parse::parse_open::open_empty` meets its contract, by what closing the opener answers.
+-- Assumes nothing.
+use borrow.Author.Needs.{needs}
+use Rattle.parse.specs.Containers.{close-at}
+use Rattle.parse.specs.ParseOpen.{open-empty}
+use Rattle.parse.proofs.parse_open.open_empty.Statement.{statement}
+use Rattle.parse.proofs.parse_open.open_empty.Tie as tie
+
+container-at-requires : tie.Need-container-at-requires
+container-at-requires c κs = search needs
+
+less-requires : tie.Need-less-requires
+less-requires c κs = search needs
+
+close-at-requires : tie.Need-close-at-requires
+close-at-requires c κs = search needs
+
+enum-known-count : tie.Need-enum-known-count
+enum-known-count c = search needs
+
+add-resumed : tie.Need-add-resumed
+add-resumed c = search needs
+
+resumed-requires : tie.Need-resumed-requires
+resumed-requires c κs = search needs
+
+enum-told : tie.Need-enum-told
+enum-told c = search needs
+
+same-length : tie.Need-same-length
+same-length c = search needs
+
+returns : tie.Need-returns
+unfolding open-empty close-at
+returns c = rw (open-empty, close-at, ← (c .before .before .before .before .before .before .before .before .less .ensures), ← (c .before .before .before .before .before .before .before .close-at .ensures), c .before .before .before .count .given .1, c .resumed .ensures, c .before .before .before .before .before .before .before .before .before .before .container-at .ensures)
+
+same-length-2 : tie.Need-same-length-2
+same-length-2 c = search needs
+
+returns-2 : tie.Need-returns-2
+unfolding open-empty close-at
+returns-2 c = rw (open-empty, close-at, ← (c .before .before .before .before .before .less .ensures), ← (c .before .before .before .before .close-at .ensures), c .enum-told .given .1)
+
+pub open-empty-spec : {M : Type 1} → statement M
+open-empty-spec =
+    tie.close
+    (tie.spec
+    container-at-requires
+    less-requires
+    close-at-requires
+    enum-known-count
+    add-resumed
+    resumed-requires
+    enum-told
+    same-length
+    returns
+    same-length-2
+    returns-2)

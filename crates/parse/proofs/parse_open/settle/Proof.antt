@@ -1,0 +1,25 @@
+-- `parse::parse_open::settle` meets its contract, by what changing the opener ensures.
+-- Assumes nothing.
+use borrow.Author.Needs.{needs}
+use Rattle.parse.specs.ParseOpen.{settle}
+use Rattle.parse.proofs.parse_open.settle.Statement.{statement}
+use Rattle.parse.proofs.parse_open.settle.Tie as tie
+
+less-requires : tie.Need-less-requires
+less-requires c κs = search needs
+
+opener-requires : tie.Need-opener-requires
+opener-requires c κs = search needs
+
+put-requires : tie.Need-put-requires
+put-requires c κs = search needs
+
+same-length : tie.Need-same-length
+same-length c = search needs
+
+returns : tie.Need-returns
+unfolding settle
+returns c = rw (settle, c .before .before .put .ensures .1, c .before .before .before .opener .ensures, c .before .before .before .before .before .less .ensures)
+
+pub settle-spec : {M : Type 1} → statement M
+settle-spec = tie.close (tie.spec less-requires opener-requires put-requires same-length returns)

@@ -1,0 +1,81 @@
+-- `parse::run` meets its contract. The loop's invariant: the run from here, with one turn more than are left, is the run from the start.
+-- Assumes nothing.
+
+use Prim.Native.Nat.{suc}
+use native.Mathlib.Omega.{arith}
+use borrow.Author.Needs.{needs}
+use denote.Ref.{now}
+use lib.ListN.{length}
+use mathlib.Core.Path.{_≡_, refl, sym, _∙_}
+use Rattle.data.specs.Classes.{classes}
+use Rattle.tape.specs.Tape.{view}
+use Rattle.parse.specs.Machine.{next}
+use Rattle.parse.specs.Parse.{run, enough}
+use Rattle.parse.proofs.Falls.{left, turn-falls}
+use Rattle.parse.proofs.Runs.{run-done, run-refused, run-turn, run-enough, within-enough}
+use Rattle.parse.proofs.run.Statement.{statement}
+use Rattle.parse.proofs.run.Tie as tie
+
+abbrev Inv-loop : tie.InvT-loop
+Inv-loop text tape₀ table m₀ tape m =
+    (length tape ≡ length tape₀)
+    × (table ≡ classes)
+    × (run text (enough text) (next m₀ (view tape₀ (m₀ .count))) ≡ run text (suc (left text (m .at) (m .state))) (next m (view tape (m .count))))
+
+abbrev μ-loop : tie.MeasureT-loop
+μ-loop text tape₀ table m₀ tape m = left text (m .at) (m .state)
+
+character-class-requires : tie.Need-character-class-requires Inv-loop μ-loop
+character-class-requires c κs = search needs
+
+loop-holds : tie.Need-loop-holds Inv-loop μ-loop
+loop-holds c = (refl, c .character-class .ensures, run-enough (now (c .before .before .before .args .text)) _ _ (c .before .before .before .args .from) _ (within-enough (now (c .before .before .before .args .text)) (c .before .before .before .args .from)) (omega arith))
+
+turn-requires : tie.Need-turn-requires Inv-loop μ-loop
+turn-requires c κs = (c .before .before .before .before .before .before .pre, c .before .before .before .character-class .ensures)
+
+enum-known-after : tie.Need-enum-known-after Inv-loop μ-loop
+enum-known-after c = search needs
+
+loop-less : tie.Need-loop-less Inv-loop μ-loop
+loop-less c = rw (← (c .before .before .before .before .before .turn .ensures), c .before .after .given .1) at (turn-falls (now (c .before .before .before .before .before .before .before .before .before .before .before .before .args .text)) (view (c .before .before .before .before .before .before .before .before .loop .tape) (c .before .before .before .before .before .before .before .before .loop .m .count)) (c .before .before .before .before .before .before .before .before .loop .m))
+
+loop-again : tie.Need-loop-again Inv-loop μ-loop
+loop-again c = (c .before .before .before .before .before .turn .kept .1 .1 .0 ∙ c .before .before .before .before .before .before .before .before .loop .inv .0, c .before .before .before .before .before .before .before .before .loop .inv .1, c .before .before .before .before .before .before .before .before .loop .inv .2 ∙ rw (run-turn (now (c .before .before .before .before .before .before .before .before .before .before .before .before .args .text)) (left (now (c .before .before .before .before .before .before .before .before .before .before .before .before .args .text)) (c .before .before .before .before .before .before .before .before .loop .m .at) (c .before .before .before .before .before .before .before .before .loop .m .state)) (c .before .before .before .before .before .before .before .before .loop .m) (view (c .before .before .before .before .before .before .before .before .loop .tape) (c .before .before .before .before .before .before .before .before .loop .m .count)), ← (c .before .before .before .before .before .turn .ensures), c .before .after .given .1) (run-enough (now (c .before .before .before .before .before .before .before .before .before .before .before .before .args .text)) _ _ _ _ (rw (← (c .before .before .before .before .before .turn .ensures), c .before .after .given .1) at (turn-falls (now (c .before .before .before .before .before .before .before .before .before .before .before .before .args .text)) (view (c .before .before .before .before .before .before .before .before .loop .tape) (c .before .before .before .before .before .before .before .before .loop .m .count)) (c .before .before .before .before .before .before .before .before .loop .m))) (omega arith)))
+
+enum-known-count : tie.Need-enum-known-count Inv-loop μ-loop
+enum-known-count c = search needs
+
+same-length : tie.Need-same-length Inv-loop μ-loop
+same-length c = search needs
+
+returns : tie.Need-returns Inv-loop μ-loop
+returns c = sym (c .before .before .before .before .before .before .before .before .loop .inv .2 ∙ rw (run-turn (now (c .before .before .before .before .before .before .before .before .before .before .before .before .args .text)) (left (now (c .before .before .before .before .before .before .before .before .before .before .before .before .args .text)) (c .before .before .before .before .before .before .before .before .loop .m .at) (c .before .before .before .before .before .before .before .before .loop .m .state)) (c .before .before .before .before .before .before .before .before .loop .m) (view (c .before .before .before .before .before .before .before .before .loop .tape) (c .before .before .before .before .before .before .before .before .loop .m .count)), ← (c .before .before .before .before .before .turn .ensures), c .before .count .given .1) (run-done (now (c .before .before .before .before .before .before .before .before .before .before .before .before .args .text)) _ _ _))
+
+enum-known-refusal : tie.Need-enum-known-refusal Inv-loop μ-loop
+enum-known-refusal c = search needs
+
+same-length-2 : tie.Need-same-length-2 Inv-loop μ-loop
+same-length-2 c = search needs
+
+returns-2 : tie.Need-returns-2 Inv-loop μ-loop
+returns-2 c = sym (c .before .before .before .before .before .before .before .before .loop .inv .2 ∙ rw (run-turn (now (c .before .before .before .before .before .before .before .before .before .before .before .before .args .text)) (left (now (c .before .before .before .before .before .before .before .before .before .before .before .before .args .text)) (c .before .before .before .before .before .before .before .before .loop .m .at) (c .before .before .before .before .before .before .before .before .loop .m .state)) (c .before .before .before .before .before .before .before .before .loop .m) (view (c .before .before .before .before .before .before .before .before .loop .tape) (c .before .before .before .before .before .before .before .before .loop .m .count)), ← (c .before .before .before .before .before .turn .ensures), c .before .refusal .given .1) (run-refused (now (c .before .before .before .before .before .before .before .before .before .before .before .before .args .text)) _ _))
+
+pub run-spec : {M : Type 1} → statement M
+run-spec =
+    tie.close
+    (tie.spec
+    Inv-loop
+    μ-loop
+    character-class-requires
+    loop-holds
+    turn-requires
+    enum-known-after
+    loop-less
+    loop-again
+    enum-known-count
+    same-length
+    returns
+    enum-known-refusal
+    same-length-2
+    returns-2)

@@ -1,0 +1,85 @@
+-- ArrayValue. `{`: as ObjectValue. `}`: close, own kind, flag = mixed. `<` `>` `!` `=` unmixed: last token scalar, MixedContainer goes in
+-- before it, mixed on; last token End and byte `=`, skip it; else 7. Mixed: `<=` `<` `>=` `>` `!=` `==` `=` add an operator (`=` adds
+-- Equal); else 8. Else a scalar.
+use Prim.Native.Nat.{ℕ, _+_, _-_}
+use mathlib.Core.Bool.{Bool, true, false}
+use mathlib.Core.List.{List, [], _∷_}
+use lib.Dec.{eqb}
+use Rattle.data.specs.Bytes.{equals, greater-than, less-than, exclamation, brace-open, brace-close}
+use Rattle.data.specs.Classes.{among}
+use Rattle.operator.specs.declared.Sighted as Sighted
+use Rattle.operator.specs.Operators.{number-of, sighted}
+use Rattle.tape.specs.declared.token.Standing as Standing
+use Rattle.tape.specs.Token.{operator-of, standing-of}
+use Rattle.tape.specs.Tape.{Tape, token-at}
+use Rattle.parse.specs.declared.machine.State.the-variants.{ArrayValue}
+use Rattle.parse.specs.declared.machine.Machine.{Machine}
+use Rattle.parse.specs.declared.machine.Refusal.the-variants.{StackEmpty, NothingPrecedes, UnknownOperator}
+use Rattle.parse.specs.declared.array_value.ValueByte.{ValueByte}
+use Rattle.parse.specs.declared.array_value.ValueByte.the-variants.{Brace, Closer, Sign, Other}
+use Rattle.parse.specs.Machine.{After, next, refused, byte-at, to, lay-then}
+use Rattle.parse.specs.Scalars.{scalar-then}
+use Rattle.parse.specs.Containers.{open-then, container-at, link-of, kind-of, close, nothing-open}
+use Rattle.parse.specs.KeyValueSeparator.{mix-then}
+
+-- whether a byte is `<` `>` `!` or `=`
+unfoldable pub begins-operator : ℕ → Bool
+begins-operator b = among b (less-than ∷ greater-than ∷ exclamation ∷ equals ∷ [])
+
+-- what a byte is in ArrayValue
+unfoldable pub value-byte : ℕ → ValueByte
+value-byte b =
+    elim (eqb b brace-open) [
+      | true ↦ Brace
+      | false ↦ elim (eqb b brace-close) [
+        | true ↦ Closer
+        | false ↦ elim (begins-operator b) [ true ↦ Sign | false ↦ Other ]
+      ]
+    ]
+
+-- `}`: close, own kind, flag = mixed
+unfoldable pub array-close : Tape → Machine → After
+array-close t m =
+    elim (nothing-open (m .parent) (link-of (container-at t (m .parent)))) [
+      | true ↦ refused (StackEmpty (m .at))
+      | false ↦ close (kind-of (container-at t (m .parent))) (link-of (container-at t (m .parent))) t m
+    ]
+
+-- mixed: an operator is added; else 8
+unfoldable pub operator-then : List ℕ → Tape → Machine → After
+operator-then text t m =
+    elim (sighted (byte-at text (m .at)) (byte-at text (m .at + 1))) [
+      | Sighted.the-variants.Sign operator width ↦ lay-then (operator-of (number-of operator)) (m .at + width) ArrayValue t m
+      | Sighted.the-variants.Nothing ↦ refused (UnknownOperator (m .at - 1))
+    ]
+
+-- last token End and byte `=`, skip it; else 7
+unfoldable pub after-end : List ℕ → Tape → Machine → After
+after-end text t m =
+    elim (eqb (byte-at text (m .at)) equals) [
+      | true ↦ next (to m (m .at + 1) ArrayValue (m .count)) t
+      | false ↦ refused (NothingPrecedes (m .at - 1))
+    ]
+
+-- unmixed: what the last token is decides
+unfoldable pub unmixed-operator : List ℕ → Tape → Machine → After
+unmixed-operator text t m =
+    elim (standing-of (token-at t (m .count - 1))) [
+      | Standing.the-variants.Unquoted ↦ mix-then t m (operator-then text)
+      | Standing.the-variants.OtherScalar ↦ mix-then t m (operator-then text)
+      | Standing.the-variants.End ↦ after-end text t m
+      | Standing.the-variants.Nothing ↦ refused (NothingPrecedes (m .at - 1))
+    ]
+
+-- `<` `>` `!` `=`
+unfoldable pub array-operator : List ℕ → Tape → Machine → After
+array-operator text t m = elim (m .mixed) [ true ↦ operator-then text t m | false ↦ unmixed-operator text t m ]
+
+unfoldable pub array-value-turn : List ℕ → Tape → Machine → After
+array-value-turn text t m =
+    elim (value-byte (byte-at text (m .at))) [
+      | Brace ↦ open-then t m
+      | Closer ↦ array-close t m
+      | Sign ↦ array-operator text t m
+      | Other ↦ scalar-then text ArrayValue t m
+    ]

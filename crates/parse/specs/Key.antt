@@ -1,0 +1,78 @@
+-- Key. `}` or `]`: nothing open, skip it; else close as Object. `{`: if `}` follows after blanks, drop both; else last token Unquoted
+-- becomes Header, an Array is added, ParseOpen; else 4. `[`: parameter. Otherwise a key, then KeyValueSeparator.
+use Prim.Native.Nat.{ℕ, _+_, _-_}
+use mathlib.Core.Bool.{Bool, true, false, _||_}
+use mathlib.Core.List.{List}
+use lib.Dec.{eqb}
+use Rattle.data.specs.Bytes.{bracket-open, bracket-close, brace-open, brace-close}
+use Rattle.cut.specs.declared.Skipped.the-variants.{At, End}
+use Rattle.cut.specs.Blanks.{skip-ws}
+use Rattle.tape.specs.declared.token.ContainerKind.the-variants.{Array, Object}
+use Rattle.tape.specs.declared.token.Standing as Standing
+use Rattle.tape.specs.Token.{opener-of, standing-of, headed}
+use Rattle.tape.specs.Tape.{Tape, token-at, replace}
+use Rattle.parse.specs.declared.machine.State.the-variants.{Key, KeyValueSeparator, ParseOpen}
+use Rattle.parse.specs.declared.machine.Machine.{Machine}
+use Rattle.parse.specs.declared.machine.Refusal.the-variants.{Eof, NoHeader}
+use Rattle.parse.specs.declared.key.KeyByte.{KeyByte}
+use Rattle.parse.specs.declared.key.KeyByte.the-variants.{Closer, Brace, Bracket, Other}
+use Rattle.parse.specs.Machine.{After, next, refused, byte-at, to, lay-then}
+use Rattle.parse.specs.Scalars.{scalar-then}
+use Rattle.parse.specs.Containers.{container-at, link-of, close, nothing-open}
+use Rattle.parse.specs.Parameter.{parameter}
+
+-- what a byte is in Key
+unfoldable pub key-byte : ℕ → KeyByte
+key-byte b =
+    elim (eqb b brace-close) [
+      | true ↦ Closer
+      | false ↦ elim (eqb b bracket-close) [
+        | true ↦ Closer
+        | false ↦ elim (eqb b brace-open) [
+          | true ↦ Brace
+          | false ↦ elim (eqb b bracket-open) [ true ↦ Bracket | false ↦ Other ]
+        ]
+      ]
+    ]
+
+-- `}` or `]`: nothing open, skip it; else close as Object
+unfoldable pub key-close : Tape → Machine → After
+key-close t m =
+    elim (nothing-open (m .parent) (link-of (container-at t (m .parent)))) [
+      | true ↦ next (to m (m .at + 1) Key (m .count)) t
+      | false ↦ close Object (link-of (container-at t (m .parent))) t m
+    ]
+
+-- the last token becomes Header, an Array is added, ParseOpen
+unfoldable pub open-header : ℕ → Tape → Machine → After
+open-header at t m = lay-then (opener-of Array 0 false) at ParseOpen (replace t (m .count - 1) (headed (token-at t (m .count - 1)))) m
+
+-- last token Unquoted becomes Header; else 4
+unfoldable pub key-header : ℕ → Tape → Machine → After
+key-header at t m =
+    elim (standing-of (token-at t (m .count - 1))) [
+      | Standing.the-variants.Unquoted ↦ open-header at t m
+      | Standing.the-variants.OtherScalar ↦ refused (NoHeader at)
+      | Standing.the-variants.End ↦ refused (NoHeader at)
+      | Standing.the-variants.Nothing ↦ refused (NoHeader at)
+    ]
+
+-- `{`: if `}` follows after blanks, drop both; else a header
+unfoldable pub key-brace : List ℕ → Tape → Machine → After
+key-brace text t m =
+    elim (skip-ws text (m .at + 1)) [
+      | At p ↦ elim (eqb (byte-at text p) brace-close) [
+        | true ↦ next (to m (p + 1) Key (m .count)) t
+        | false ↦ key-header p t m
+      ]
+      | End ↦ refused Eof
+    ]
+
+unfoldable pub key-turn : List ℕ → Tape → Machine → After
+key-turn text t m =
+    elim (key-byte (byte-at text (m .at))) [
+      | Closer ↦ key-close t m
+      | Brace ↦ key-brace text t m
+      | Bracket ↦ parameter text t m
+      | Other ↦ scalar-then text KeyValueSeparator t m
+    ]

@@ -1,0 +1,41 @@
+-- KeyValueSeparator. `<=` `<` `>=` `>` `!=` `?=` `==` add an operator; `=` adds none; then ObjectValue. `{`: ObjectValue, not consumed.
+-- Else MixedContainer goes in before the key, mixed on, ArrayValue, not consumed.
+use Prim.Native.Nat.{ℕ, _+_}
+use mathlib.Core.Bool.{Bool, true, false}
+use mathlib.Core.List.{List}
+use lib.Dec.{eqb}
+use Rattle.data.specs.Bytes.{brace-open}
+use Rattle.operator.specs.declared.Operator.{Operator}
+use Rattle.operator.specs.declared.Sighted.the-variants.{Sign, Nothing}
+use Rattle.operator.specs.Operators.{number-of, is-equal, sighted}
+use Rattle.tape.specs.Token.{operator-of}
+use Rattle.tape.specs.Tape.{Tape, lay-mixed}
+use Rattle.parse.specs.declared.machine.State.the-variants.{ObjectValue, ArrayValue}
+use Rattle.parse.specs.declared.machine.Machine.{Machine}
+use Rattle.parse.specs.Machine.{After, next, byte-at, to, or-full, lay-then}
+
+-- the machine with mixed on, in ArrayValue
+abbrev pub mixed-on : Machine → ℕ → Machine
+mixed-on m count = record { at = m .at; state = ArrayValue; parent = m .parent; mixed = true; count = count }
+
+-- MixedContainer goes in before the last token, mixed on
+unfoldable pub mix-then : Tape → Machine → (Tape → Machine → After) → After
+mix-then t m go = or-full (lay-mixed t (m .count)) (λ n t′. go t′ (mixed-on m n))
+
+-- an operator is added, `=` adds none; then ObjectValue
+unfoldable pub separator-then : Operator → ℕ → Tape → Machine → After
+separator-then operator width t m =
+    elim (is-equal operator) [
+      | true ↦ next (to m (m .at + width) ObjectValue (m .count)) t
+      | false ↦ lay-then (operator-of (number-of operator)) (m .at + width) ObjectValue t m
+    ]
+
+unfoldable pub separator-turn : List ℕ → Tape → Machine → After
+separator-turn text t m =
+    elim (sighted (byte-at text (m .at)) (byte-at text (m .at + 1))) [
+      | Sign operator width ↦ separator-then operator width t m
+      | Nothing ↦ elim (eqb (byte-at text (m .at)) brace-open) [
+        | true ↦ next (to m (m .at) ObjectValue (m .count)) t
+        | false ↦ mix-then t m (λ t′ m′. next m′ t′)
+      ]
+    ]

@@ -1,0 +1,11 @@
+pub mod Refusals
+pub mod Machine
+pub mod Scalars
+pub mod Containers
+pub mod Parameter
+pub mod Key
+pub mod KeyValueSeparator
+pub mod ObjectValue
+pub mod ParseOpen
+pub mod ArrayValue
+pub mod Parse

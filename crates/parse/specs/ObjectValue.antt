@@ -1,0 +1,23 @@
+-- ObjectValue. `{`: Array added, ParseOpen. `}`: 5. Else a scalar, then Key.
+use Prim.Native.Nat.{ℕ}
+use mathlib.Core.Bool.{Bool, true, false}
+use mathlib.Core.List.{List}
+use lib.Dec.{eqb}
+use Rattle.data.specs.Bytes.{brace-open, brace-close}
+use Rattle.tape.specs.Tape.{Tape}
+use Rattle.parse.specs.declared.machine.State.the-variants.{Key}
+use Rattle.parse.specs.declared.machine.Machine.{Machine}
+use Rattle.parse.specs.declared.machine.Refusal.the-variants.{NoValue}
+use Rattle.parse.specs.Machine.{After, refused, byte-at}
+use Rattle.parse.specs.Scalars.{scalar-then}
+use Rattle.parse.specs.Containers.{open-then}
+
+unfoldable pub object-value-turn : List ℕ → Tape → Machine → After
+object-value-turn text t m =
+    elim (eqb (byte-at text (m .at)) brace-open) [
+      | true ↦ open-then t m
+      | false ↦ elim (eqb (byte-at text (m .at)) brace-close) [
+        | true ↦ refused (NoValue (m .at))
+        | false ↦ scalar-then text Key t m
+      ]
+    ]

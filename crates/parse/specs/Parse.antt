@@ -1,0 +1,91 @@
+-- The parse: every turn skips blanks, the state decides, and the run goes on until it is done or refused.
+use Prim.Native.Nat.{ℕ, zero, suc, _+_, _*_}
+use mathlib.Core.Bool.{Bool, true, false, _&&_}
+use mathlib.Core.List.{List}
+use lib.Dec.{eqb, ltb}
+use lib.ListN.{length, replicate}
+use Rattle.cut.specs.declared.Skipped.the-variants.{At, End}
+use Rattle.cut.specs.Blanks.{skip-ws}
+use Rattle.tape.specs.Words.{padded}
+use Rattle.tape.specs.Tape.{Tape, view}
+use Rattle.parse.specs.declared.machine.State.the-variants.{Key, KeyValueSeparator, ObjectValue, ParseOpen, ArrayValue}
+use Rattle.parse.specs.declared.machine.Machine.{Machine}
+use Rattle.parse.specs.declared.machine.Refusal.{Refusal}
+use Rattle.parse.specs.declared.machine.Refusal.the-variants.{TooLong, Eof}
+use Rattle.parse.specs.declared.Parsed.{Parsed}
+use Rattle.parse.specs.declared.Parsed.the-variants.{Tokens, Refused}
+use Rattle.parse.specs.Machine.{After, next, done, refused, byte-at, to}
+use Rattle.parse.specs.Containers.{text-end}
+use Rattle.parse.specs.Key.{key-turn}
+use Rattle.parse.specs.KeyValueSeparator.{separator-turn}
+use Rattle.parse.specs.ObjectValue.{object-value-turn}
+use Rattle.parse.specs.ParseOpen.{parse-open-turn}
+use Rattle.parse.specs.ArrayValue.{array-value-turn}
+
+-- what the state makes of a byte that is no blank
+unfoldable pub state-turn : List ℕ → Tape → Machine → After
+state-turn text t m =
+    elim (m .state) [
+      | Key ↦ key-turn text t m
+      | KeyValueSeparator ↦ separator-turn text t m
+      | ObjectValue ↦ object-value-turn text t m
+      | ParseOpen ↦ parse-open-turn text t m
+      | ArrayValue ↦ array-value-turn text t m
+    ]
+
+-- Every turn skips blanks
+unfoldable pub turn : List ℕ → Tape → Machine → After
+turn text t m =
+    elim (skip-ws text (m .at)) [
+      | At p ↦ state-turn text t (to m p (m .state) (m .count))
+      | End ↦ text-end t m
+    ]
+
+-- so many turns, or fewer where they end before
+unfoldable pub run : List ℕ → ℕ → After → After
+run text zero x = x
+run text (suc n) (next m t) = run text n (turn text t m)
+run text (suc n) (done k t) = done k t
+run text (suc n) (refused r) = refused r
+
+-- whether the text begins with ef bb bf
+unfoldable pub has-bom : List ℕ → Bool
+has-bom text = eqb (byte-at text 0) 0xef && (eqb (byte-at text 1) 0xbb && eqb (byte-at text 2) 0xbf)
+
+-- Start: Key, parent 0, mixed off, past the BOM
+abbrev pub first-place : Bool → ℕ
+first-place true = 3
+first-place false = 0
+
+unfoldable pub start : Bool → Machine
+start bom = record { at = first-place bom; state = Key; parent = 0; mixed = false; count = 0 }
+
+-- turns enough for any text: each consumes a byte or leaves KeyValueSeparator or ParseOpen for another state
+abbrev pub enough : List ℕ → ℕ
+enough text = 2 * length text + 2
+
+-- a text of more bytes than this is too long
+abbrev pub text-limit : ℕ
+text-limit = 16777215
+
+-- an answer with the words that it leaves
+pub data Outcome : Type 0 where
+  outcome : Parsed → List ℕ → Outcome
+
+-- a refusal leaves the whole tape zero
+abbrev pub refuse : ℕ → Refusal → Outcome
+refuse len r = outcome (Refused r) (replicate len 0)
+
+-- a finished run leaves its tokens, with zeros behind them. No run is unfinished after enough turns.
+abbrev pub answer : Bool → ℕ → After → Outcome
+answer bom len (next m t) = refuse len Eof
+answer bom len (done n t) = outcome (Tokens n bom) (padded len (t .tokens))
+answer bom len (refused r) = refuse len r
+
+-- the parse of a text on a tape of so many words
+unfoldable pub parse-of : List ℕ → ℕ → Outcome
+parse-of text len =
+    elim (ltb text-limit (length text)) [
+      | true ↦ refuse len TooLong
+      | false ↦ answer (has-bom text) len (run text (enough text) (next (start (has-bom text)) (view (replicate len 0) 0)))
+    ]

@@ -1,0 +1,130 @@
+-- ParseOpen. `}`: empty Array, End, leave. `[`: 6 if mixed, else the opener becomes an Object and a parameter follows. `{`: if empty,
+-- drop both and stay; else mixed off, opener is an Array, ArrayValue, not consumed. Else a scalar; if mixed, the parent's stored flag
+-- is set; mixed off; skip blanks; next byte `=` `>` `<` `?` `!`: Object and KeyValueSeparator, else Array and ArrayValue.
+use Prim.Native.Nat.{ℕ, _+_, _-_}
+use mathlib.Core.Bool.{Bool, true, false}
+use mathlib.Core.List.{List, [], _∷_}
+use lib.Dec.{eqb}
+use Rattle.data.specs.Bytes.{equals, greater-than, less-than, question, exclamation, bracket-open, brace-open, brace-close}
+use Rattle.data.specs.Classes.{among}
+use Rattle.cut.specs.declared.Skipped.the-variants.{At, End}
+use Rattle.cut.specs.Blanks.{skip-ws}
+use Rattle.tape.specs.declared.token.ContainerKind.{ContainerKind}
+use Rattle.tape.specs.declared.token.ContainerKind.the-variants.{Array, Object}
+use Rattle.tape.specs.declared.token.Container.the-variants.{Opened, Nothing}
+use Rattle.tape.specs.Token.{opener-of}
+use Rattle.tape.specs.Tape.{Tape, view, replace}
+use Rattle.parse.specs.declared.machine.State.{State}
+use Rattle.parse.specs.declared.machine.State.the-variants.{Key, KeyValueSeparator, ObjectValue, ParseOpen, ArrayValue}
+use Rattle.parse.specs.declared.machine.Machine.{Machine}
+use Rattle.parse.specs.declared.machine.Step.{Step}
+use Rattle.parse.specs.declared.machine.Step.the-variants.{Turned, Scalar}
+use Rattle.parse.specs.declared.machine.Refusal.the-variants.{Eof, MixedParameter}
+use Rattle.parse.specs.declared.parse_open.OpenByte.{OpenByte}
+use Rattle.parse.specs.declared.parse_open.OpenByte.the-variants.{Closer, Bracket, Brace, Other}
+use Rattle.parse.specs.Machine.{After, after, next, refused, and-then, byte-at, to, within}
+use Rattle.parse.specs.Scalars.{scalar-then}
+use Rattle.parse.specs.Containers.{container-at, resumed, close-at}
+use Rattle.parse.specs.Parameter.{parameter}
+
+-- what a byte is in ParseOpen
+unfoldable pub open-byte : ℕ → OpenByte
+open-byte b =
+    elim (eqb b brace-close) [
+      | true ↦ Closer
+      | false ↦ elim (eqb b bracket-open) [
+        | true ↦ Bracket
+        | false ↦ elim (eqb b brace-open) [ true ↦ Brace | false ↦ Other ]
+      ]
+    ]
+
+-- the opener, the last token but back, gets its kind with its parent for a link, and the machine goes on inside it, mixed off
+unfoldable pub settle : ContainerKind → ℕ → ℕ → State → Tape → Machine → After
+settle kind back at state t m =
+    next (record { at = at; state = state; parent = m .count - back; mixed = false; count = m .count })
+    (replace t (m .count - back) (opener-of kind (m .parent) false))
+
+-- `}`: empty Array, End, leave
+unfoldable pub open-empty : Tape → Machine → After
+open-empty t m =
+    close-at (m .count - 1) Array false t m (λ n t′. next (resumed (container-at t (m .parent)) (m .parent) (m .at + 1) n) t′)
+
+-- the opener becomes an Object and a parameter follows
+unfoldable pub open-parameter : List ℕ → Tape → Machine → After
+open-parameter text t m =
+    elim (m .mixed) [
+      | true ↦ refused (MixedParameter (m .at))
+      | false ↦ parameter text (replace t (m .count - 1) (opener-of Object (m .parent) false)) (within m (m .count - 1))
+    ]
+
+-- `{`: if empty, drop both and stay; else mixed off, opener is an Array, ArrayValue, not consumed
+unfoldable pub open-brace : List ℕ → Tape → Machine → After
+open-brace text t m =
+    elim (skip-ws text (m .at + 1)) [
+      | At p ↦ elim (eqb (byte-at text p) brace-close) [
+        | true ↦ next (to m (p + 1) ParseOpen (m .count)) t
+        | false ↦ settle Array 1 (m .at) ArrayValue t m
+      ]
+      | End ↦ refused Eof
+    ]
+
+-- if mixed, the parent's stored flag is set
+unfoldable pub flag-parent : Tape → Machine → Tape
+flag-parent t m =
+    elim (m .mixed) [
+      | true ↦ elim (container-at t (m .parent)) [
+        | Opened kind link mixed ↦ replace t (m .parent) (opener-of kind link true)
+        | Nothing ↦ t
+      ]
+      | false ↦ t
+    ]
+
+-- whether a byte says that what stood before it is a key
+unfoldable pub follows-key : ℕ → Bool
+follows-key b = among b (equals ∷ greater-than ∷ less-than ∷ question ∷ exclamation ∷ [])
+
+-- skip blanks; next byte `=` `>` `<` `?` `!`: Object and KeyValueSeparator, else Array and ArrayValue
+unfoldable pub open-as : List ℕ → Tape → Machine → After
+open-as text t m =
+    elim (skip-ws text (m .at)) [
+      | At p ↦ elim (follows-key (byte-at text p)) [
+        | true ↦ settle Object 2 p KeyValueSeparator t m
+        | false ↦ settle Array 2 p ArrayValue t m
+      ]
+      | End ↦ refused Eof
+    ]
+
+-- a scalar; if mixed, the parent's stored flag is set; then what the next byte says
+unfoldable pub open-scalar : List ℕ → Tape → Machine → After
+open-scalar text t m = and-then (scalar-then text ParseOpen t m) (λ t′ m′. open-as text (flag-parent t′ m′) m′)
+
+-- ---- a step of any state: a whole turn, or that a scalar is due and the state after it
+abbrev pub is-parse-open : State → Bool
+is-parse-open Key = false
+is-parse-open KeyValueSeparator = false
+is-parse-open ObjectValue = false
+is-parse-open ParseOpen = true
+is-parse-open ArrayValue = false
+
+-- the scalar that is due, and in ParseOpen what the next byte says
+unfoldable pub entry : List ℕ → State → Tape → Machine → After
+entry text state t m =
+    elim (is-parse-open state) [
+      | true ↦ and-then (scalar-then text state t m) (λ t′ m′. open-as text (flag-parent t′ m′) m′)
+      | false ↦ scalar-then text state t m
+    ]
+
+-- what a step says together with the words that it leaves
+abbrev pub stepped : List ℕ → Step → List ℕ → Machine → After
+stepped text (Turned r) ws m = after r ws
+stepped text (Scalar state) ws m = entry text state (view ws (m .count)) m
+
+-- ---- the turn
+unfoldable pub parse-open-turn : List ℕ → Tape → Machine → After
+parse-open-turn text t m =
+    elim (open-byte (byte-at text (m .at))) [
+      | Closer ↦ open-empty t m
+      | Bracket ↦ open-parameter text t m
+      | Brace ↦ open-brace text t m
+      | Other ↦ open-scalar text t m
+    ]

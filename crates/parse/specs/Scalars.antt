@@ -1,0 +1,23 @@
+-- A scalar: a quoted run, `@[` through its `]`, or an unquoted run, each a token, and then a state.
+use Prim.Native.Nat.{ℕ, _-_}
+use mathlib.Core.List.{List}
+use Rattle.cut.specs.declared.Cut.{Cut}
+use Rattle.cut.specs.declared.Cut.the-variants.{Unquoted, Quoted, End}
+use Rattle.cut.specs.Scalars.{scalar-cut}
+use Rattle.tape.specs.declared.token.ScalarKind as ScalarKind
+use Rattle.tape.specs.Token.{scalar-of}
+use Rattle.tape.specs.Tape.{Tape}
+use Rattle.parse.specs.declared.machine.State.{State}
+use Rattle.parse.specs.declared.machine.Machine.{Machine}
+use Rattle.parse.specs.declared.machine.Refusal.the-variants.{Eof}
+use Rattle.parse.specs.Machine.{After, refused, lay-then}
+
+-- a cut scalar is added; one that the text ends in is Eof
+abbrev pub cut-then : Cut → State → Tape → Machine → After
+cut-then (Unquoted start end rest) state t m = lay-then (scalar-of ScalarKind.the-variants.Unquoted start (end - start)) rest state t m
+cut-then (Quoted start end rest) state t m = lay-then (scalar-of ScalarKind.the-variants.Quoted start (end - start)) rest state t m
+cut-then End state t m = refused Eof
+
+-- the scalar at the machine's place is added, and the machine goes on past it in a state
+unfoldable pub scalar-then : List ℕ → State → Tape → Machine → After
+scalar-then text state t m = cut-then (scalar-cut text (m .at)) state t m

@@ -1,0 +1,175 @@
+// A turn in ArrayValue.
+use crate::containers::close;
+use crate::containers::container_at;
+use crate::containers::kind_of;
+use crate::containers::link_of;
+use crate::containers::nothing_open;
+use crate::containers::open_then;
+use crate::machine::Machine;
+use crate::machine::Refusal;
+use crate::machine::State;
+use crate::machine::Step;
+use crate::machine::Turn;
+use crate::machine::byte_at;
+use crate::machine::lay;
+use crate::machine::less;
+use crate::separator::mix;
+use operator::Sighted;
+use tape::token;
+use tape::token::Standing;
+use tape::words;
+ghost use mathlib.Core.Path.{_≡_};
+ghost use Prim.Native.Nat.{ℕ, _-_, _≤_, _<_};
+ghost use mathlib.Core.List.{List};
+ghost use lib.ListN.{length};
+ghost use Rattle.tape.specs.Tape.{view};
+ghost use Rattle.parse.specs.Machine.{after};
+ghost use Rattle.parse.specs.KeyValueSeparator.{mix-then};
+ghost use Rattle.parse.specs.ArrayValue.{begins-operator, value-byte, array-close, operator-then, after-end, unmixed-operator, array-operator, array-value-turn};
+ghost use Rattle.parse.specs.ParseOpen.{stepped};
+ghost use Rattle.parse.specs.Parse.{text-limit};
+
+// What a byte is in ArrayValue.
+pub enum ValueByte {
+    Brace,
+    Closer,
+    Sign,
+    Other,
+}
+
+// Whether a byte begins an operator in ArrayValue.
+fn begins_operator(b: u8) -> bool
+    ensures { λ r. ⌜ r ≡ begins-operator b ⌝ }
+{
+    if b == b'<' {
+        return true;
+    }
+    if b == b'>' {
+        return true;
+    }
+    if b == b'!' {
+        return true;
+    }
+    b == b'='
+}
+
+// Tells the bytes of ArrayValue apart.
+fn value_byte(b: u8) -> ValueByte
+    ensures { λ r. ⌜ r ≡ value-byte b ⌝ }
+{
+    if b == b'{' {
+        return ValueByte::Brace;
+    }
+    if b == b'}' {
+        return ValueByte::Closer;
+    }
+    if begins_operator(b) {
+        return ValueByte::Sign;
+    }
+    ValueByte::Other
+}
+
+// `}`: closes the container that is open, in its own kind.
+fn array_close(tape: &mut [u32], m: Machine) -> Turn
+    requires { ⌜ m .at < text-limit ⌝ }
+    ensures { λ r. ⌜ after r (now (tape .exit)) ≡ array-close (view (now (tape .entry)) (m .count)) m ⌝ }
+{
+    let container = container_at(tape, m.count, m.parent);
+    let grand = link_of(container);
+    if nothing_open(m.parent, grand) {
+        return Turn::Refused(Refusal::StackEmpty(m.at));
+    }
+    close(tape, m, kind_of(container), grand)
+}
+
+// The place one before another, which the refusals of operators name.
+fn before(at: usize) -> usize
+    ensures { λ r. ⌜ r ≡ at - 1 ⌝ }
+{
+    if at == 0 {
+        return 0;
+    }
+    at - 1
+}
+
+// An operator among the values of a mixed container.
+fn operator_then(text: &[u8], tape: &mut [u32], m: Machine) -> Turn
+    requires { ⌜ (length (now text) ≤ text-limit) × (m .at < length (now text)) ⌝ }
+    ensures { λ r. ⌜ after r (now (tape .exit)) ≡ operator-then (now (text .entry)) (view (now (tape .entry)) (m .count)) m ⌝ }
+{
+    let at = m.at;
+    match operator::operator_at(byte_at(text, at), byte_at(text, at + 1)) {
+        Sighted::Sign { operator, width } => {
+            lay(
+                tape,
+                m,
+                token::operator(operator.number()),
+                at + width,
+                State::ArrayValue,
+            )
+        }
+        Sighted::Nothing => Turn::Refused(Refusal::UnknownOperator(before(at))),
+    }
+}
+
+// An operator byte after a container: `=` belongs to an object template and is skipped.
+fn after_end(text: &[u8], m: Machine) -> Turn
+    requires { ⌜ (length (now text) ≤ text-limit) × (m .at < length (now text)) ⌝ }
+    ensures { λ r. ⌜ ((ws : List ℕ) → after r ws ≡ after-end (now (text .entry)) (view ws (m .count)) m) ⌝ }
+{
+    if byte_at(text, m.at) == b'=' {
+        return Turn::Next(m.to(m.at + 1, State::ArrayValue, m.count));
+    }
+    Turn::Refused(Refusal::NothingPrecedes(before(m.at)))
+}
+
+// An operator byte in a container that is not mixed: the last token decides.
+fn unmixed_operator(text: &[u8], tape: &mut [u32], m: Machine) -> Turn
+    requires { ⌜ (length (now text) ≤ text-limit) × (m .at < length (now text)) ⌝ }
+    ensures { λ r. ⌜ after r (now (tape .exit)) ≡ unmixed-operator (now (text .entry)) (view (now (tape .entry)) (m .count)) m ⌝ }
+{
+    let last = words::token(tape, m.count, less(m.count, 1));
+    match last.standing() {
+        Standing::Unquoted => mixed_operator(text, tape, m),
+        Standing::OtherScalar => mixed_operator(text, tape, m),
+        Standing::End => after_end(text, m),
+        Standing::Nothing => Turn::Refused(Refusal::NothingPrecedes(before(m.at))),
+    }
+}
+
+// An operator byte that makes the container mixed.
+fn mixed_operator(text: &[u8], tape: &mut [u32], m: Machine) -> Turn
+    requires { ⌜ (length (now text) ≤ text-limit) × (m .at < length (now text)) ⌝ }
+    ensures { λ r. ⌜ after r (now (tape .exit)) ≡ mix-then (view (now (tape .entry)) (m .count)) m (operator-then (now (text .entry))) ⌝ }
+{
+    match mix(tape, m) {
+        Turn::Next(inside) => operator_then(text, tape, inside),
+        Turn::Done(count) => Turn::Done(count),
+        Turn::Refused(refusal) => Turn::Refused(refusal),
+    }
+}
+
+// `<` `>` `!` `=` in ArrayValue.
+fn array_operator(text: &[u8], tape: &mut [u32], m: Machine) -> Turn
+    requires { ⌜ (length (now text) ≤ text-limit) × (m .at < length (now text)) ⌝ }
+    ensures { λ r. ⌜ after r (now (tape .exit)) ≡ array-operator (now (text .entry)) (view (now (tape .entry)) (m .count)) m ⌝ }
+{
+    let mixed = m.mixed;
+    if mixed {
+        return operator_then(text, tape, m);
+    }
+    unmixed_operator(text, tape, m)
+}
+
+// A turn in ArrayValue, at a byte that is no blank.
+pub(crate) fn array_value_turn(text: &[u8], tape: &mut [u32], m: Machine) -> Step
+    requires { ⌜ (length (now text) ≤ text-limit) × (m .at < length (now text)) ⌝ }
+    ensures { λ r. ⌜ stepped (now (text .entry)) r (now (tape .exit)) m ≡ array-value-turn (now (text .entry)) (view (now (tape .entry)) (m .count)) m ⌝ }
+{
+    match value_byte(byte_at(text, m.at)) {
+        ValueByte::Brace => Step::Turned(open_then(tape, m)),
+        ValueByte::Closer => Step::Turned(array_close(tape, m)),
+        ValueByte::Sign => Step::Turned(array_operator(text, tape, m)),
+        ValueByte::Other => Step::Scalar(State::ArrayValue),
+    }
+}

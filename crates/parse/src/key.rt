@@ -1,0 +1,123 @@
+// A turn in Key.
+use crate::containers::close;
+use crate::containers::container_at;
+use crate::containers::link_of;
+use crate::containers::nothing_open;
+use crate::machine::Machine;
+use crate::machine::Refusal;
+use crate::machine::State;
+use crate::machine::Step;
+use crate::machine::Turn;
+use crate::machine::byte_at;
+use crate::machine::lay;
+use crate::machine::less;
+use crate::parameter::parameter;
+use cut::Skipped;
+use tape::token;
+use tape::token::ContainerKind;
+use tape::token::Standing;
+use tape::words;
+ghost use mathlib.Core.Path.{_≡_};
+ghost use Prim.Native.Nat.{_≤_, _<_};
+ghost use lib.ListN.{length};
+ghost use Rattle.data.specs.Classes.{classes};
+ghost use Rattle.tape.specs.Tape.{view};
+ghost use Rattle.parse.specs.Machine.{after};
+ghost use Rattle.parse.specs.Key.{key-byte, key-close, open-header, key-header, key-brace, key-turn};
+ghost use Rattle.parse.specs.ParseOpen.{stepped};
+ghost use Rattle.parse.specs.Parse.{text-limit};
+
+// What a byte is in Key.
+pub enum KeyByte {
+    Closer,
+    Brace,
+    Bracket,
+    Other,
+}
+
+// Tells the bytes of Key apart.
+fn key_byte(b: u8) -> KeyByte
+    ensures { λ r. ⌜ r ≡ key-byte b ⌝ }
+{
+    if b == b'}' {
+        return KeyByte::Closer;
+    }
+    if b == b']' {
+        return KeyByte::Closer;
+    }
+    if b == b'{' {
+        return KeyByte::Brace;
+    }
+    if b == b'[' {
+        return KeyByte::Bracket;
+    }
+    KeyByte::Other
+}
+
+// `}` or `]`: closes the container that is open, or is skipped, since some game files have one too many.
+fn key_close(tape: &mut [u32], m: Machine) -> Turn
+    requires { ⌜ m .at < text-limit ⌝ }
+    ensures { λ r. ⌜ after r (now (tape .exit)) ≡ key-close (view (now (tape .entry)) (m .count)) m ⌝ }
+{
+    let grand = link_of(container_at(tape, m.count, m.parent));
+    if nothing_open(m.parent, grand) {
+        return Turn::Next(m.to(m.at + 1, State::Key, m.count));
+    }
+    close(tape, m, ContainerKind::Object, grand)
+}
+
+// Makes the last token a Header and opens its container.
+fn open_header(tape: &mut [u32], m: Machine, at: usize) -> Turn
+    ensures { λ r. ⌜ after r (now (tape .exit)) ≡ open-header at (view (now (tape .entry)) (m .count)) m ⌝ }
+{
+    let last = less(m.count, 1);
+    let header = words::token(tape, m.count, last).as_header();
+    words::put(tape, m.count, last, header);
+    lay(
+        tape,
+        m,
+        token::opener(ContainerKind::Array, 0, false),
+        at,
+        State::ParseOpen,
+    )
+}
+
+// A container without a key: the last token, if Unquoted, is its Header.
+fn key_header(tape: &mut [u32], m: Machine, at: usize) -> Turn
+    ensures { λ r. ⌜ after r (now (tape .exit)) ≡ key-header at (view (now (tape .entry)) (m .count)) m ⌝ }
+{
+    let last = words::token(tape, m.count, less(m.count, 1));
+    match last.standing() {
+        Standing::Unquoted => open_header(tape, m, at),
+        Standing::OtherScalar => Turn::Refused(Refusal::NoHeader(at)),
+        Standing::End => Turn::Refused(Refusal::NoHeader(at)),
+        Standing::Nothing => Turn::Refused(Refusal::NoHeader(at)),
+    }
+}
+
+// `{`: an empty pair of braces is dropped, else it is a Header's container.
+fn key_brace(text: &[u8], tape: &mut [u32], m: Machine) -> Turn
+    requires { ⌜ (length (now text) ≤ text-limit) × (m .at < length (now text)) ⌝ }
+    ensures { λ r. ⌜ after r (now (tape .exit)) ≡ key-brace (now (text .entry)) (view (now (tape .entry)) (m .count)) m ⌝ }
+{
+    let Skipped::At(p) = cut::skip_ws_t(text, m.at + 1) else {
+        return Turn::Refused(Refusal::Eof);
+    };
+    if byte_at(text, p) == b'}' {
+        return Turn::Next(m.to(p + 1, State::Key, m.count));
+    }
+    key_header(tape, m, p)
+}
+
+// A turn in Key, at a byte that is no blank.
+pub(crate) fn key_turn(text: &[u8], table: &[u8; 256], tape: &mut [u32], m: Machine) -> Step
+    requires { ⌜ (length (now text) ≤ text-limit) × (now table ≡ classes) × (m .at < length (now text)) ⌝ }
+    ensures { λ r. ⌜ stepped (now (text .entry)) r (now (tape .exit)) m ≡ key-turn (now (text .entry)) (view (now (tape .entry)) (m .count)) m ⌝ }
+{
+    match key_byte(byte_at(text, m.at)) {
+        KeyByte::Closer => Step::Turned(key_close(tape, m)),
+        KeyByte::Brace => Step::Turned(key_brace(text, tape, m)),
+        KeyByte::Bracket => Step::Turned(parameter(text, table, tape, m)),
+        KeyByte::Other => Step::Scalar(State::KeyValueSeparator),
+    }
+}

@@ -1,0 +1,140 @@
+// A parameter: `[[name] value ]`, or `[[name] key ..`, which opens an Object.
+use crate::machine::Machine;
+use crate::machine::Refusal;
+use crate::machine::State;
+use crate::machine::Turn;
+use crate::machine::byte_at;
+use crate::machine::lay;
+use crate::scalars::viewed;
+use cut::Skipped;
+use tape::token;
+use tape::token::ContainerKind;
+use tape::token::ScalarKind;
+ghost use mathlib.Core.Path.{_≡_};
+ghost use Prim.Native.Nat.{_+_, _≤_, _<_};
+ghost use lib.ListN.{length};
+ghost use Rattle.data.specs.Classes.{classes};
+ghost use Rattle.tape.specs.Tape.{view};
+ghost use Rattle.parse.specs.Machine.{after};
+ghost use Rattle.parse.specs.Parameter.{parameter-object, value-or-object, parameter-value, parameter-named, parameter-name, parameter};
+ghost use Rattle.parse.specs.Parse.{text-limit};
+
+// Opens an Object whose first key is the run from start to end.
+fn parameter_object(tape: &mut [u32], m: Machine, start: usize, end: usize, rest: usize) -> Turn
+    requires { ⌜ (start ≤ end) × (end ≤ text-limit) ⌝ }
+    ensures { λ r. ⌜ after r (now (tape .exit)) ≡ parameter-object start end rest (view (now (tape .entry)) (m .count)) m ⌝ }
+{
+    match lay(
+        tape,
+        m,
+        token::opener(ContainerKind::Object, m.parent, false),
+        rest,
+        State::KeyValueSeparator,
+    ) {
+        Turn::Next(inside) => lay(
+            tape,
+            inside.within(m.count),
+            viewed(ScalarKind::Unquoted, start, end),
+            rest,
+            State::KeyValueSeparator,
+        ),
+        Turn::Done(count) => Turn::Done(count),
+        Turn::Refused(refusal) => Turn::Refused(refusal),
+    }
+}
+
+// What the byte after the run from start to end says that the run is.
+fn value_or_object(
+    text: &[u8],
+    tape: &mut [u32],
+    m: Machine,
+    start: usize,
+    end: usize,
+    rest: usize,
+) -> Turn
+    requires { ⌜ (start ≤ end) × (end ≤ text-limit) × (rest ≤ text-limit) ⌝ }
+    ensures { λ r. ⌜ after r (now (tape .exit)) ≡ value-or-object (now (text .entry)) start end rest (view (now (tape .entry)) (m .count)) m ⌝ }
+{
+    if byte_at(text, rest) == b']' {
+        return lay(
+            tape,
+            m,
+            viewed(ScalarKind::Unquoted, start, end),
+            rest + 1,
+            State::Key,
+        );
+    }
+    parameter_object(tape, m, start, end, rest)
+}
+
+// The run after a parameter's name: its value, or the first key of its Object.
+fn parameter_value(text: &[u8], table: &[u8; 256], tape: &mut [u32], m: Machine) -> Turn
+    requires { ⌜ (length (now text) ≤ text-limit) × (now table ≡ classes) ⌝ }
+    ensures { λ r. ⌜ after r (now (tape .exit)) ≡ parameter-value (now (text .entry)) (view (now (tape .entry)) (m .count)) m ⌝ }
+{
+    let Skipped::At(start) = cut::skip_ws_t(text, m.at) else {
+        return Turn::Refused(Refusal::Eof);
+    };
+    let end = cut::run_end(text, start, table);
+    let Skipped::At(rest) = cut::skip_ws_t(text, end) else {
+        return Turn::Refused(Refusal::Eof);
+    };
+    value_or_object(text, tape, m, start, end, rest)
+}
+
+// Adds the name from start to end, which `]` must end.
+fn parameter_named(
+    text: &[u8],
+    table: &[u8; 256],
+    tape: &mut [u32],
+    m: Machine,
+    kind: ScalarKind,
+    start: usize,
+    end: usize,
+) -> Turn
+    requires { ⌜ (length (now text) ≤ text-limit) × (now table ≡ classes) × (start ≤ end) × (end ≤ length (now text)) ⌝ }
+    ensures { λ r. ⌜ after r (now (tape .exit)) ≡ parameter-named (now (text .entry)) kind start end (view (now (tape .entry)) (m .count)) m ⌝ }
+{
+    if byte_at(text, end) != b']' {
+        return Turn::Refused(Refusal::OpenName(end));
+    }
+    match lay(tape, m, viewed(kind, start, end), end + 1, State::Key) {
+        Turn::Next(past) => parameter_value(text, table, tape, past),
+        Turn::Done(count) => Turn::Done(count),
+        Turn::Refused(refusal) => Turn::Refused(refusal),
+    }
+}
+
+// Reads a name that starts at a place.
+fn parameter_name(
+    text: &[u8],
+    table: &[u8; 256],
+    tape: &mut [u32],
+    m: Machine,
+    kind: ScalarKind,
+    start: usize,
+) -> Turn
+    requires { ⌜ (length (now text) ≤ text-limit) × (now table ≡ classes) ⌝ }
+    ensures { λ r. ⌜ after r (now (tape .exit)) ≡ parameter-name (now (text .entry)) kind start (view (now (tape .entry)) (m .count)) m ⌝ }
+{
+    if text.len() <= start {
+        return Turn::Refused(Refusal::Eof);
+    }
+    let end = cut::run_end(text, start, table);
+    parameter_named(text, table, tape, m, kind, start, end)
+}
+
+// `[[` or `[[!` at the machine's place, with what follows it.
+pub(crate) fn parameter(text: &[u8], table: &[u8; 256], tape: &mut [u32], m: Machine) -> Turn
+    requires { ⌜ (length (now text) ≤ text-limit) × (now table ≡ classes) × (m .at < length (now text)) ⌝ }
+    ensures { λ r. ⌜ after r (now (tape .exit)) ≡ parameter (now (text .entry)) (view (now (tape .entry)) (m .count)) m ⌝ }
+{
+    let at = m.at;
+    if byte_at(text, at + 1) != b'[' {
+        return Turn::Refused(Refusal::NoParameter(at));
+    }
+    if byte_at(text, at + 2) == b'!' {
+        return parameter_name(text, table, tape, m, ScalarKind::UndefinedParameter, at + 3);
+    }
+    parameter_name(text, table, tape, m, ScalarKind::Parameter, at + 2)
+}

@@ -1,0 +1,202 @@
+// A turn in ParseOpen: what the first entry says that a container is.
+use crate::containers::close_at;
+use crate::containers::container_at;
+use crate::containers::resumed;
+use crate::machine::Machine;
+use crate::machine::Refusal;
+use crate::machine::State;
+use crate::machine::Step;
+use crate::machine::Turn;
+use crate::machine::byte_at;
+use crate::machine::less;
+use crate::parameter::parameter;
+use cut::Skipped;
+use tape::token;
+use tape::token::Container;
+use tape::token::ContainerKind;
+use tape::words;
+use tape::words::Pushed;
+ghost use mathlib.Core.Path.{_≡_};
+ghost use Prim.Native.Nat.{_≤_, _<_};
+ghost use lib.ListN.{length};
+ghost use Rattle.data.specs.Classes.{classes};
+ghost use Rattle.tape.specs.Tape.{view};
+ghost use Rattle.parse.specs.Machine.{after, and-then};
+ghost use Rattle.parse.specs.ParseOpen.{open-byte, settle, open-empty, open-parameter, open-brace, flag-parent, follows-key, open-as, stepped, parse-open-turn};
+ghost use Rattle.parse.specs.Parse.{text-limit};
+
+// What a byte is in ParseOpen.
+pub enum OpenByte {
+    Closer,
+    Bracket,
+    Brace,
+    Other,
+}
+
+// Tells the bytes of ParseOpen apart.
+fn open_byte(b: u8) -> OpenByte
+    ensures { λ r. ⌜ r ≡ open-byte b ⌝ }
+{
+    if b == b'}' {
+        return OpenByte::Closer;
+    }
+    if b == b'[' {
+        return OpenByte::Bracket;
+    }
+    if b == b'{' {
+        return OpenByte::Brace;
+    }
+    OpenByte::Other
+}
+
+// Gives the opener that stands `back` tokens before the count its kind, and goes on inside it with mixed off.
+fn settle(
+    tape: &mut [u32],
+    m: Machine,
+    kind: ContainerKind,
+    back: u32,
+    at: usize,
+    state: State,
+) -> Turn
+    ensures { λ r. ⌜ after r (now (tape .exit)) ≡ settle kind back at state (view (now (tape .entry)) (m .count)) m ⌝ }
+{
+    let opener = less(m.count, back);
+    words::put(tape, m.count, opener, token::opener(kind, m.parent, false));
+    Turn::Next(Machine {
+        at,
+        state,
+        parent: opener,
+        mixed: false,
+        count: m.count,
+    })
+}
+
+// `}`: an empty Array, and its parent is taken up.
+fn open_empty(tape: &mut [u32], m: Machine) -> Turn
+    requires { ⌜ m .at < text-limit ⌝ }
+    ensures { λ r. ⌜ after r (now (tape .exit)) ≡ open-empty (view (now (tape .entry)) (m .count)) m ⌝ }
+{
+    let up = container_at(tape, m.count, m.parent);
+    match close_at(tape, m.count, less(m.count, 1), ContainerKind::Array, false) {
+        Pushed::Laid(count) => Turn::Next(resumed(up, m.parent, m.at + 1, count)),
+        Pushed::Full => Turn::Refused(Refusal::Full),
+    }
+}
+
+// `[`: the container is an Object that begins with a parameter.
+fn open_parameter(text: &[u8], table: &[u8; 256], tape: &mut [u32], m: Machine) -> Turn
+    requires { ⌜ (length (now text) ≤ text-limit) × (now table ≡ classes) × (m .at < length (now text)) ⌝ }
+    ensures { λ r. ⌜ after r (now (tape .exit)) ≡ open-parameter (now (text .entry)) (view (now (tape .entry)) (m .count)) m ⌝ }
+{
+    let mixed = m.mixed;
+    if mixed {
+        return Turn::Refused(Refusal::MixedParameter(m.at));
+    }
+    let opener = less(m.count, 1);
+    words::put(
+        tape,
+        m.count,
+        opener,
+        token::opener(ContainerKind::Object, m.parent, false),
+    );
+    parameter(text, table, tape, m.within(opener))
+}
+
+// `{`: an empty pair of braces is dropped, else the container is an Array whose first entry is a container.
+fn open_brace(text: &[u8], tape: &mut [u32], m: Machine) -> Turn
+    requires { ⌜ (length (now text) ≤ text-limit) × (m .at < length (now text)) ⌝ }
+    ensures { λ r. ⌜ after r (now (tape .exit)) ≡ open-brace (now (text .entry)) (view (now (tape .entry)) (m .count)) m ⌝ }
+{
+    let Skipped::At(p) = cut::skip_ws_t(text, m.at + 1) else {
+        return Turn::Refused(Refusal::Eof);
+    };
+    if byte_at(text, p) == b'}' {
+        return Turn::Next(m.to(p + 1, State::ParseOpen, m.count));
+    }
+    settle(tape, m, ContainerKind::Array, 1, m.at, State::ArrayValue)
+}
+
+// Sets the parent's stored flag where mixed is in force.
+fn flag_parent(tape: &mut [u32], m: Machine)
+    ensures { λ r. ⌜ view (now (tape .exit)) (m .count) ≡ flag-parent (view (now (tape .entry)) (m .count)) m ⌝ }
+{
+    let mixed = m.mixed;
+    if !mixed {
+        return;
+    }
+    let parent = m.parent;
+    match container_at(tape, m.count, parent) {
+        Container::Opened {
+            kind,
+            link,
+            mixed: _,
+        } => { words::put(tape, m.count, parent, token::opener(kind, link, true)) }
+        Container::Nothing => {}
+    }
+}
+
+// Whether a byte says that what stood before it is a key.
+fn follows_key(b: u8) -> bool
+    ensures { λ r. ⌜ r ≡ follows-key b ⌝ }
+{
+    if b == b'=' {
+        return true;
+    }
+    if b == b'>' {
+        return true;
+    }
+    if b == b'<' {
+        return true;
+    }
+    if b == b'?' {
+        return true;
+    }
+    b == b'!'
+}
+
+// The byte after the first scalar says whether the container is an Object or an Array.
+fn open_as(text: &[u8], tape: &mut [u32], m: Machine) -> Turn
+    ensures { λ r. ⌜ after r (now (tape .exit)) ≡ open-as (now (text .entry)) (view (now (tape .entry)) (m .count)) m ⌝ }
+{
+    let Skipped::At(p) = cut::skip_ws_t(text, m.at) else {
+        return Turn::Refused(Refusal::Eof);
+    };
+    if follows_key(byte_at(text, p)) {
+        return settle(
+            tape,
+            m,
+            ContainerKind::Object,
+            2,
+            p,
+            State::KeyValueSeparator,
+        );
+    }
+    settle(tape, m, ContainerKind::Array, 2, p, State::ArrayValue)
+}
+
+// After the container's first entry, which is a scalar.
+pub(crate) fn first_entry(text: &[u8], tape: &mut [u32], laid: Turn) -> Turn
+    ensures { λ r. ⌜ after r (now (tape .exit)) ≡ and-then (after laid (now (tape .entry))) (λ t m. open-as (now (text .entry)) (flag-parent t m) m) ⌝ }
+{
+    match laid {
+        Turn::Next(past) => {
+            flag_parent(tape, past);
+            open_as(text, tape, past)
+        }
+        Turn::Done(count) => Turn::Done(count),
+        Turn::Refused(refusal) => Turn::Refused(refusal),
+    }
+}
+
+// A turn in ParseOpen, at a byte that is no blank.
+pub(crate) fn parse_open_turn(text: &[u8], table: &[u8; 256], tape: &mut [u32], m: Machine) -> Step
+    requires { ⌜ (length (now text) ≤ text-limit) × (now table ≡ classes) × (m .at < length (now text)) ⌝ }
+    ensures { λ r. ⌜ stepped (now (text .entry)) r (now (tape .exit)) m ≡ parse-open-turn (now (text .entry)) (view (now (tape .entry)) (m .count)) m ⌝ }
+{
+    match open_byte(byte_at(text, m.at)) {
+        OpenByte::Closer => Step::Turned(open_empty(tape, m)),
+        OpenByte::Bracket => Step::Turned(open_parameter(text, table, tape, m)),
+        OpenByte::Brace => Step::Turned(open_brace(text, tape, m)),
+        OpenByte::Other => Step::Scalar(State::ParseOpen),
+    }
+}

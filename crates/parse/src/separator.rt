@@ -1,0 +1,71 @@
+// A turn in KeyValueSeparator.
+use crate::machine::Machine;
+use crate::machine::Refusal;
+use crate::machine::State;
+use crate::machine::Turn;
+use crate::machine::byte_at;
+use crate::machine::lay;
+use operator::Operator;
+use operator::Sighted;
+use tape::token;
+use tape::words;
+use tape::words::Pushed;
+ghost use mathlib.Core.Path.{_≡_};
+ghost use Prim.Native.Nat.{_≤_, _<_};
+ghost use lib.ListN.{length};
+ghost use Rattle.tape.specs.Tape.{view};
+ghost use Rattle.parse.specs.Machine.{after, next};
+ghost use Rattle.parse.specs.KeyValueSeparator.{mixed-on, mix-then, separator-then, separator-turn};
+ghost use Rattle.parse.specs.Parse.{text-limit};
+
+// Puts a MixedContainer in before the last token, and goes on in ArrayValue with mixed on.
+pub(crate) fn mix(tape: &mut [u32], m: Machine) -> Turn
+    ensures { λ r. ⌜ after r (now (tape .exit)) ≡ mix-then (view (now (tape .entry)) (m .count)) m (λ t m′. next m′ t) ⌝ }
+{
+    match words::insert_mixed(tape, m.count) {
+        Pushed::Laid(count) => Turn::Next(Machine {
+            at: m.at,
+            state: State::ArrayValue,
+            parent: m.parent,
+            mixed: true,
+            count,
+        }),
+        Pushed::Full => Turn::Refused(Refusal::Full),
+    }
+}
+
+// An operator between a key and its value; `=` is the usual one and adds no token.
+fn separator_then(tape: &mut [u32], m: Machine, operator: Operator, width: usize) -> Turn
+    requires { ⌜ (m .at < text-limit) × (width ≤ 2) ⌝ }
+    ensures { λ r. ⌜ after r (now (tape .exit)) ≡ separator-then operator width (view (now (tape .entry)) (m .count)) m ⌝ }
+{
+    let at = m.at + width;
+    if operator.is_equal() {
+        return Turn::Next(m.to(at, State::ObjectValue, m.count));
+    }
+    lay(
+        tape,
+        m,
+        token::operator(operator.number()),
+        at,
+        State::ObjectValue,
+    )
+}
+
+// A turn in KeyValueSeparator, at a byte that is no blank.
+pub(crate) fn separator_turn(text: &[u8], tape: &mut [u32], m: Machine) -> Turn
+    requires { ⌜ (length (now text) ≤ text-limit) × (m .at < length (now text)) ⌝ }
+    ensures { λ r. ⌜ after r (now (tape .exit)) ≡ separator-turn (now (text .entry)) (view (now (tape .entry)) (m .count)) m ⌝ }
+{
+    let at = m.at;
+    let b = byte_at(text, at);
+    match operator::operator_at(b, byte_at(text, at + 1)) {
+        Sighted::Sign { operator, width } => separator_then(tape, m, operator, width),
+        Sighted::Nothing => {
+            if b == b'{' {
+                return Turn::Next(m.to(at, State::ObjectValue, m.count));
+            }
+            mix(tape, m)
+        }
+    }
+}
