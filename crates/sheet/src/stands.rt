@@ -1,0 +1,165 @@
+// Whether the tokens of a sheet stand as they should, looked at one by one from the first: each in its form, openers and
+// Ends naming each other, each view in the text and past the one before it.
+use tape::shape;
+use tape::shape::Link;
+use tape::shape::Shape;
+use tape::token::ScalarKind;
+use tape::words;
+ghost use mathlib.Core.Path.{_≡_};
+ghost use mathlib.Core.Bool.{true};
+ghost use mathlib.Core.Logic.{_↔_};
+ghost use Prim.Native.Nat.{ℕ, _≤_, _<_};
+ghost use lib.ListN.{length};
+ghost use Rattle.tape.specs.Words.{words-for, tokens-in};
+ghost use Rattle.tape.specs.Token.{end-of};
+ghost use Rattle.tape.specs.Shape.{Opens, shape-of};
+ghost use Rattle.sheet.specs.Sound.{nth};
+ghost use Rattle.sheet.specs.Steps.{Suited, Held, Standing, floor-after};
+
+// The least start that the next scalar may have, or that one came too early.
+pub(crate) enum Floor {
+    At(usize),
+    Passed,
+}
+
+// Whether the End of an opener at i stands after it and names it.
+fn closes(words: &[u32], count: usize, i: usize, end: u32) -> bool
+    ensures { λ r. ⌜ (r ≡ true) ↔ ((i < end) × (nth (tokens-in (now (words .entry)) count) end ≡ end-of i)) ⌝ }
+{
+    let at = end as usize;
+    if at <= i {
+        return false;
+    }
+    match shape::link_of(words::token_of(words, count, at)) {
+        Link::ToEnd(_) => false,
+        Link::ToOpener(opener) => (opener as usize) == i,
+        Link::Nothing => false,
+    }
+}
+
+// Whether the opener of an End at i stands before it and names it.
+fn opened(words: &[u32], count: usize, i: usize, opener: u32) -> bool
+    ensures { λ r. ⌜ (r ≡ true) ↔ ((opener < i) × Opens (nth (tokens-in (now (words .entry)) count) opener) i) ⌝ }
+{
+    let at = opener as usize;
+    if i <= at {
+        return false;
+    }
+    match shape::link_of(words::token_of(words, count, at)) {
+        Link::ToEnd(end) => (end as usize) == i,
+        Link::ToOpener(_) => false,
+        Link::Nothing => false,
+    }
+}
+
+// Whether a container opens at a place.
+fn opens(words: &[u32], count: usize, at: usize) -> bool
+    ensures { λ r. ⌜ (r ≡ true) ↔ ((end : ℕ) × Opens (nth (tokens-in (now (words .entry)) count) at) end) ⌝ }
+{
+    match shape::link_of(words::token_of(words, count, at)) {
+        Link::ToEnd(_) => true,
+        Link::ToOpener(_) => false,
+        Link::Nothing => false,
+    }
+}
+
+// Whether a scalar's view ends within the text, whether it may be as long as it is, and whether what follows suits it.
+fn suits(
+    text_length: usize,
+    words: &[u32],
+    count: usize,
+    next: usize,
+    kind: ScalarKind,
+    offset: u32,
+    length: u32,
+) -> bool
+    ensures { λ r. ⌜ (r ≡ true) ↔ Suited «text_length» (tokens-in (now (words .entry)) count) next kind offset length ⌝ }
+{
+    if text_length < (offset as usize) + (length as usize) {
+        return false;
+    }
+    match kind {
+        ScalarKind::Quoted => true,
+        ScalarKind::Header => {
+            if length == 0 {
+                return false;
+            }
+            opens(words, count, next)
+        }
+        ScalarKind::Unquoted => 0 < length,
+        ScalarKind::Parameter => 0 < length,
+        ScalarKind::UndefinedParameter => 0 < length,
+    }
+}
+
+// Whether token i, of a shape, stands as it should by itself.
+fn stands(text_length: usize, words: &[u32], count: usize, i: usize, s: Shape) -> bool
+    requires { ⌜ (words-for count ≤ length (now words)) × (i < count) × (s ≡ shape-of (nth (tokens-in (now words) count) i)) ⌝ }
+    ensures { λ r. ⌜ (r ≡ true) ↔ Held «text_length» (tokens-in (now (words .entry)) count) i ⌝ }
+{
+    match s {
+        Shape::Opener { end } => {
+            if i == 0 {
+                return false;
+            }
+            closes(words, count, i, end)
+        }
+        Shape::MixedContainer => true,
+        Shape::Scalar {
+            kind,
+            offset,
+            length,
+        } => suits(text_length, words, count, i + 1, kind, offset, length),
+        Shape::Operator { number: _ } => true,
+        Shape::End { opener } => opened(words, count, i, opener),
+        Shape::Nothing => false,
+    }
+}
+
+// The floor for the scalars after a token of a shape: past its start, and past its end.
+fn raised(s: Shape, floor: usize) -> Floor
+    ensures { λ r. ⌜ r ≡ floor-after s floor ⌝ }
+{
+    match s {
+        Shape::Scalar {
+            kind: _,
+            offset,
+            length,
+        } => {
+            let start = offset as usize;
+            if start < floor {
+                return Floor::Passed;
+            }
+            if length == 0 {
+                return Floor::At(start + 1);
+            }
+            Floor::At(start + (length as usize))
+        }
+        Shape::Opener { end: _ } => Floor::At(floor),
+        Shape::MixedContainer => Floor::At(floor),
+        Shape::Operator { number: _ } => Floor::At(floor),
+        Shape::End { opener: _ } => Floor::At(floor),
+        Shape::Nothing => Floor::At(floor),
+    }
+}
+
+// Whether every token stands as it should, but for how containers nest.
+pub(crate) fn stand(text_length: usize, words: &[u32], count: usize) -> bool
+    requires { ⌜ words-for count ≤ length (now words) ⌝ }
+    ensures { λ r. ⌜ (r ≡ true) ↔ Standing «text_length» (tokens-in (now (words .entry)) count) ⌝ }
+{
+    let mut i = 0;
+    let mut floor: usize = 0;
+    while i < count {
+        let s = shape::shape_of(words::token_of(words, count, i));
+        if !stands(text_length, words, count, i, s) {
+            return false;
+        }
+        let Floor::At(next) = raised(s, floor) else {
+            return false;
+        };
+        floor = next;
+        i += 1;
+    }
+    true
+}
