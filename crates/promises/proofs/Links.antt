@@ -1,0 +1,9 @@
+pub mod Nest
+pub mod Rows
+pub mod Kept
+pub mod Held
+pub mod Closing
+pub mod Parameters
+pub mod Opening
+pub mod Turns
+pub mod Parse

@@ -1,0 +1,251 @@
+-- The tokens of a tape whose containers may be open: each by itself, and their links. What each change of a tape keeps.
+-- Assumes nothing.
+use mathlib.Core.Path.{_≡_, refl, sym, _∙_, ap}
+use mathlib.Core.Bool.{Bool, true, false}
+use mathlib.Core.List.{List, [], _∷_, _++_}
+use Prim.Native.Nat.{ℕ, suc, _+_, _-_, _≤_, _<_}
+use native.Mathlib.Omega.{arith}
+use lib.ListN.{length, set, length-set, List·getD-eq-default}
+use lib.Seq.{getD-set-same, getD-set-other}
+use Rattle.tape.specs.declared.token.Token.{Token}
+use Rattle.tape.specs.declared.token.ContainerKind.{ContainerKind}
+use Rattle.tape.specs.declared.token.ContainerKind.the-variants.{Array, Object}
+use Rattle.tape.specs.declared.token.ScalarKind.{ScalarKind}
+use Rattle.tape.specs.declared.token.ScalarKind.the-variants.{Unquoted, Quoted, Parameter, UndefinedParameter, Header}
+use Rattle.tape.specs.declared.token.Container as Containers
+use Rattle.tape.specs.declared.token.Standing as Standings
+use Rattle.tape.specs.declared.shape.Link.{Link}
+use Rattle.tape.specs.declared.shape.Link.the-variants.{ToEnd}
+use Rattle.tape.specs.Token.{no-token, mixed-container-token, opener-of, scalar-of, end-of, headed, container-of, standing-of}
+use Rattle.tape.specs.Shape.{linked, link-of, Opens}
+use Rattle.tape.specs.Tape.{before-last}
+use Rattle.tape.proofs.Shapes.{scalar-shape, operator-shape, opens-link, end-link, link-made}
+use Rattle.sheet.specs.Sound.{nth, Form, container, mixed-container, scalar, operator, closing, Closed, Opened, Nested, Headed}
+use Rattle.promises.proofs.Links.Nest.{by-equal, by-below, Nest, opener-below, end-below, widen, nest-open, nest-close, all-closed}
+use Rattle.promises.proofs.Links.Rows.{last, add-length, add-new, add-same, add-last, insert-length, insert-new, insert-last, insert-same, Unheaded, unheaded, Plain, plain-mixed, Row, row-add, row-set, row-insert}
+
+-- the link at each index
+abbrev pub link-at : List Token → ℕ → Link
+link-at ts i = link-of (nth ts i)
+
+pub record Kept (ts : List Token) (p : ℕ) : Type 0 where
+  pub row : Row ts
+  pub links : Nest (link-at ts) (length ts) p
+
+-- and the last is no Header, so that any token may come
+pub record Resting (ts : List Token) (p : ℕ) : Type 0 where
+  pub kept : Kept ts p
+  pub rests : Unheaded (last ts)
+
+-- ---- openers and Ends
+opens-self : (kind : ContainerKind) (link : ℕ) (mixed : Bool) → Opens (opener-of kind link mixed) link
+opens-self kind link mixed = (kind, mixed, refl)
+
+pub opener-link : (kind : ContainerKind) (link : ℕ) (mixed : Bool) → link-of (opener-of kind link mixed) ≡ ToEnd link
+opener-link kind link mixed = opens-link (opener-of kind link mixed) (opens-self kind link mixed)
+
+opener-unheaded : (kind : ContainerKind) (link : ℕ) (mixed : Bool) → Unheaded (opener-of kind link mixed)
+opener-unheaded Array link mixed = unheaded _ (λ z. omega arith)
+opener-unheaded Object link mixed = unheaded _ (λ z. omega arith)
+
+-- what a token is read as is what it was made as
+opener-container : (kind : ContainerKind) (link : ℕ) (mixed : Bool) → container-of (opener-of kind link mixed) ≡ Containers.the-variants.Opened kind link mixed
+unfolding container-of
+opener-container Array link true = refl
+opener-container Array link false = refl
+opener-container Object link true = refl
+opener-container Object link false = refl
+
+scalar-container : (kind : ScalarKind) (offset size : ℕ) → container-of (scalar-of kind offset size) ≡ Containers.the-variants.Nothing
+unfolding container-of
+scalar-container Unquoted offset size = refl
+scalar-container Quoted offset size = refl
+scalar-container Parameter offset size = refl
+scalar-container UndefinedParameter offset size = refl
+scalar-container Header offset size = refl
+
+opener-standing : (kind : ContainerKind) (link : ℕ) (mixed : Bool) → standing-of (opener-of kind link mixed) ≡ Standings.the-variants.Nothing
+unfolding standing-of
+opener-standing Array link mixed = refl
+opener-standing Object link mixed = refl
+
+-- a token of a form that is read as an opener names what it is read to name
+pub container-link : {t : Token} {kind : ContainerKind} {link : ℕ} {mixed : Bool} → Form t → container-of t ≡ Containers.the-variants.Opened kind link mixed → link-of t ≡ ToEnd link
+unfolding container-of
+container-link {t} {kind} {link} {mixed} (container end o) e =
+    let r : container-of t ≡ Containers.the-variants.Opened (o .0) end (o .1) = ap container-of (o .2) ∙ opener-container (o .0) end (o .1) in
+    let same : end ≡ link = cc in
+    rw (← same) (opens-link t o)
+container-link {t} (mixed-container q) e = let z : _≡_ {A = ℕ} 0 1 = cc in absurd (omega arith)
+container-link {t} (scalar offset size v) e =
+    let r : container-of t ≡ Containers.the-variants.Nothing = ap container-of (v .1) ∙ scalar-container (v .0) offset size in
+    let z : _≡_ {A = ℕ} 0 1 = cc in absurd (omega arith)
+container-link {t} (operator number low high q) e = let z : _≡_ {A = ℕ} 0 1 = cc in absurd (omega arith)
+container-link {t} (closing opener q) e = let z : _≡_ {A = ℕ} 0 1 = cc in absurd (omega arith)
+
+-- and one that names another token behind or before it is read so
+pub link-container : (t : Token) {link : ℕ} → link-of t ≡ ToEnd link → (kind : ContainerKind) × (mixed : Bool) × (container-of t ≡ Containers.the-variants.Opened kind link mixed)
+link-container t {link} e =
+    let o = link-made t e in
+    (o .0, o .1, ap container-of (o .2) ∙ opener-container (o .0) link (o .1))
+
+-- what may stand last where a MixedContainer goes in before it
+abbrev pub ScalarStands : Standings.Standing → Type 0
+ScalarStands Standings.the-variants.Unquoted = Unit {0}
+ScalarStands Standings.the-variants.OtherScalar = Unit {0}
+ScalarStands Standings.the-variants.End = ⊥
+ScalarStands Standings.the-variants.Nothing = ⊥
+
+-- a token of a form that is read as a scalar names none
+pub standing-link : {t : Token} → Form t → ScalarStands (standing-of t) → link-of t ≡ Link.Nothing
+unfolding standing-of
+standing-link {t} (container end o) s = absurd (rw (o .2, opener-standing (o .0) end (o .1)) at s)
+standing-link {t} (mixed-container q) s = ap link-of q ∙ plain-mixed .unlinked
+standing-link {t} (scalar offset size v) s = ap link-of (v .1) ∙ ap linked (scalar-shape (v .0) offset size)
+standing-link {t} (operator number low high q) s = ap link-of q ∙ ap linked (operator-shape number low high)
+standing-link {t} (closing opener q) s = absurd (rw q at s)
+
+-- ---- a plain token added
+pub kept-plain : (ts : List Token) (x : Token) {p : ℕ} → Resting ts p → Plain x → Resting (ts ++ (x ∷ [])) p
+kept-plain ts x r plain = record {
+  kept = record {
+    row = row-add ts x (r .kept .row) (plain .form) (λ offset size e. absurd (r .rests offset size e));
+    links = widen (r .kept .links)
+        (λ i. by-equal i (length ts)
+        (λ z. rw z (ap link-of (add-new ts x) ∙ plain .unlinked ∙ sym (r .kept .links .past (length ts) (omega arith))))
+        (λ d. ap link-of (add-same ts x i d)))
+        (omega (arith, add-length ts x));
+  };
+  rests = rw (add-last ts x) (plain .other);
+}
+
+-- ---- an opener added, which names the parent
+pub kept-opener : (ts : List Token) (kind : ContainerKind) (p : ℕ) → Kept ts p → 1 ≤ length ts → Resting (ts ++ (opener-of kind p false ∷ [])) (length ts)
+kept-opener ts kind p k some =
+    let x : Token = opener-of kind p false in
+    record {
+      kept = record {
+        row = row-add ts x (k .row) (container p (opens-self kind p false)) (λ offset size e. (p, opens-self kind p false));
+        links = rw (add-length ts x)
+            (nest-open (k .links) some
+            (λ i d. ap link-of (add-same ts x i d))
+            (ap link-of (add-new ts x) ∙ opener-link kind p false));
+      };
+      rests = rw (add-last ts x) (opener-unheaded kind p false);
+    }
+
+-- ---- a MixedContainer put in before the last, which names none
+pub kept-insert : (ts : List Token) {p : ℕ} → Resting ts p → 1 ≤ length ts → link-of (last ts) ≡ Link.Nothing → Resting (before-last ts mixed-container-token) p
+kept-insert ts {p} r some unlinked = go (length ts - 1) (omega arith)
+  where
+    go : (k : ℕ) → length ts ≡ suc k → Resting (before-last ts mixed-container-token) p
+    go k counted =
+        let here : length ts - 1 ≡ k = omega arith in
+        let x : Token = mixed-container-token in
+        let l : length (before-last ts x) ≡ length ts + 1 = insert-length ts x k counted in
+        let end : length (before-last ts x) - 1 ≡ suc k = omega arith in
+        let bare : link-of (nth ts k) ≡ Link.Nothing = rw here at unlinked in
+        let other : Unheaded (nth ts k) = rw here at (r .rests) in
+        record {
+          kept = record {
+            row = row-insert ts x k counted (r .kept .row) plain-mixed bare other;
+            links = widen (r .kept .links)
+                (λ i. by-equal i k
+                (λ z. rw z (ap link-of (insert-new ts x k counted) ∙ plain-mixed .unlinked ∙ sym bare))
+                (λ d. by-equal i (suc k)
+                (λ z. rw z (ap link-of (insert-last ts x k counted) ∙ bare ∙ sym (r .kept .links .past (suc k) (omega arith))))
+                (λ d′. ap link-of (insert-same ts x k counted i d d′))))
+                (omega arith);
+          };
+          rests = rw (end, insert-last ts x k counted) other;
+        }
+
+-- ---- the container that the machine is in closed
+pub kept-close : (ts : List Token) (p up : ℕ) (kind : ContainerKind) (mixed : Bool) → Resting ts p → link-at ts p ≡ ToEnd up → up < p
+    → Resting (set ts p (opener-of kind (length ts) mixed) ++ (end-of p ∷ [])) up
+kept-close ts p up kind mixed r here inner =
+    let n : ℕ = length ts in
+    let x : Token = opener-of kind n mixed in
+    let us : List Token = set ts p x in
+    let below : p < n = opener-below (r .kept .links) here in
+    let l : length us ≡ n = length-set ts p x in
+    let at : nth us p ≡ x = getD-set-same ts p x no-token below in
+    let row : Row us = row-set ts p x below (r .kept .row) (container n (opens-self kind n mixed)) (λ o. (n, opens-self kind n mixed)) (λ h. opener-unheaded kind n mixed) in
+    let rests : Unheaded (last us) =
+    by-equal (n - 1) p
+    (λ z. rw (l, z, at) (opener-unheaded kind n mixed))
+    (λ d. rw (l, getD-set-other ts p (n - 1) x no-token d) (r .rests))
+    in
+    record {
+      kept = record {
+        row = row-add us (end-of p) row (closing p refl) (λ offset size e. absurd (rests offset size e));
+        links = rw (add-length us (end-of p), l)
+            (nest-close (r .kept .links) here inner
+            (λ i d d′. ap link-of (add-same us (end-of p) i (λ z. d′ (z ∙ l)) ∙ getD-set-other ts p i x no-token d))
+            (ap link-of (add-same us (end-of p) p (λ z. omega arith) ∙ at) ∙ opener-link kind n mixed)
+            (ap link-of (ap (λ (i : ℕ). nth (us ++ (end-of p ∷ [])) i) (sym l) ∙ add-new us (end-of p)) ∙ end-link (end-of p) refl));
+      };
+      rests = rw (add-last us (end-of p)) (unheaded (end-of p) (λ z. omega arith));
+    }
+
+-- ---- a token changed for one that names the same
+pub kept-alike : (ts : List Token) (k : ℕ) (x : Token) {p : ℕ} → k < length ts → Kept ts p → Form x → link-of x ≡ link-at ts k → (k + 1 < length ts → Unheaded x) → Kept (set ts k x) p
+kept-alike ts k x {p} below s form same other =
+    record {
+      row = row-set ts k x below (s .row) form (λ o. (o .0, link-made x (same ∙ opens-link (nth ts k) (o .1)))) other;
+      links = widen (s .links)
+          (λ i. by-equal i k
+          (λ z. rw z (ap link-of (getD-set-same ts k x no-token below) ∙ same))
+          (λ d. ap link-of (getD-set-other ts k i x no-token d)))
+          (omega (arith, length-set ts k x));
+    }
+
+-- the last, an Unquoted, as a Header
+pub kept-header : (ts : List Token) {p : ℕ} → Resting ts p → 1 ≤ length ts → standing-of (last ts) ≡ Standings.the-variants.Unquoted → Kept (set ts (length ts - 1) (headed (last ts))) p
+kept-header ts r some e =
+    let t : Token = last ts in
+    kept-alike ts (length ts - 1) (headed t) (omega arith) (r .kept)
+    (scalar (t .a) (t .b) (Header, refl))
+    (ap linked (scalar-shape Header (t .a) (t .b)) ∙ sym (standing-link (r .kept .row .forms (length ts - 1) (omega arith)) (rw e tt)))
+    (λ h. absurd (omega arith))
+
+-- the parent's flag set
+pub kept-flag : (ts : List Token) (p : ℕ) (kind : ContainerKind) (link : ℕ) (mixed : Bool) → p < length ts → Kept ts p
+    → container-of (nth ts p) ≡ Containers.the-variants.Opened kind link mixed → Kept (set ts p (opener-of kind link true)) p
+kept-flag ts p kind link mixed below s e =
+    kept-alike ts p (opener-of kind link true) below s
+    (container link (opens-self kind link true))
+    (opener-link kind link true ∙ sym (container-link (s .row .forms p below) e))
+    (λ h. opener-unheaded kind link true)
+
+-- ---- nothing open: the sentences of a sound sheet that speak of forms, links and Headers
+pub record Tied (ts : List Token) : Type 0 where
+  pub forms : (i : ℕ) → i < length ts → Form (nth ts i)
+  pub closed : (i : ℕ) → Closed ts i
+  pub opened : (i : ℕ) → Opened ts i
+  pub nested : (i : ℕ) → Nested ts i
+  pub top : (end : ℕ) → Opens (nth ts 0) end → ⊥
+  pub headed : (i : ℕ) → Headed ts i
+
+pub tied : (ts : List Token) → Resting ts 0 → Tied ts
+tied ts r =
+    let s = r .kept .links in
+    record {
+      forms = r .kept .row .forms;
+      closed = λ i end o.
+          let e = opens-link (nth ts i) o in
+          let h : i < end = all-closed s i end e in
+          let c = s .closed i end e h in
+          (h, end-below s c, link-made (nth ts end) c);
+      opened = λ i opener e.
+          let c = s .opened i opener (end-link (nth ts i) e) in
+          (c .0, link-made (nth ts opener) (c .1));
+      nested = λ i end j inner o h k q. s .nested i end j inner (opens-link (nth ts i) o) (opens-link (nth ts j) q) h k .1;
+      top = λ end o. s .top end (opens-link (nth ts 0) o);
+      headed = λ i offset size e.
+          by-below (i + 1) (length ts)
+          (λ h. r .kept .row .headed i offset size e h)
+          (λ h. absurd (by-below i (length ts)
+          (λ k. let z : i ≡ length ts - 1 = omega arith in r .rests offset size (rw z at e))
+          (λ k. unheaded no-token (λ z. omega arith) offset size (sym (List·getD-eq-default ts no-token {n = i} k) ∙ e))));
+    }

@@ -1,0 +1,184 @@
+-- The tokens of a tape one by one: each has a form, and a Header that has a token behind it has an opener there.
+-- What each change of a tape does to the token at an index, and to this.
+-- Assumes nothing.
+use mathlib.Core.Path.{_≡_, refl, sym, _∙_, ap}
+use mathlib.Core.List.{List, [], _∷_, _++_}
+use Prim.Native.Nat.{ℕ, suc, _+_, _-_, _≤_, _<_}
+use native.Mathlib.Omega.{arith}
+use lib.ListN.{length, set, length-append, length-set, List·getD-eq-default, List·getD-append}
+use lib.Seq.{getD-append-seam, getD-set-same, getD-set-other}
+use Rattle.operator.specs.declared.Operator.{Operator}
+use Rattle.operator.specs.declared.Operator.the-variants.{LessThan, LessThanEqual, GreaterThan, GreaterThanEqual, NotEqual, Exact, Equal, Exists}
+use Rattle.operator.specs.Operators.{number-of}
+use Rattle.tape.specs.declared.token.Token.{Token}
+use Rattle.tape.specs.declared.token.ScalarKind.{ScalarKind}
+use Rattle.tape.specs.declared.token.ScalarKind.the-variants.{Unquoted, Quoted, Parameter, UndefinedParameter, Header}
+use Rattle.tape.specs.declared.shape.Link.{Link}
+use Rattle.tape.specs.Token.{no-token, mixed-container-token, scalar-of, operator-of, header-code, scalar-code}
+use Rattle.tape.specs.Shape.{linked, link-of, Opens}
+use Rattle.tape.specs.Tape.{before-last}
+use Rattle.tape.proofs.Shapes.{scalar-shape, operator-shape, mixed-container-shape, unlinked-opens}
+use Rattle.tape.proofs.Views.{before-last-moved}
+use Rattle.sheet.specs.Sound.{nth, Form, mixed-container, scalar, operator}
+use Rattle.promises.proofs.Links.Nest.{by-equal, by-below}
+
+-- ---- the token at an index after a change
+-- the last token
+abbrev pub last : List Token → Token
+last ts = nth ts (length ts - 1)
+
+module _ (ts : List Token) (x : Token) where
+  pub add-length : length (ts ++ (x ∷ [])) ≡ length ts + 1
+  add-length = length-append ts (x ∷ [])
+
+  pub add-new : nth (ts ++ (x ∷ [])) (length ts) ≡ x
+  add-new = getD-append-seam ts x [] no-token
+
+  pub add-same : (i : ℕ) → (i ≡ length ts → ⊥) → nth (ts ++ (x ∷ [])) i ≡ nth ts i
+  add-same i d =
+      by-below i (length ts)
+      (λ h. List·getD-append ts (x ∷ []) no-token i h)
+      (λ h. List·getD-eq-default (ts ++ (x ∷ [])) no-token {n = i} (omega (arith, add-length)) ∙ sym (List·getD-eq-default ts no-token {n = i} h))
+
+  pub add-last : last (ts ++ (x ∷ [])) ≡ x
+  add-last = let e : length (ts ++ (x ∷ [])) - 1 ≡ length ts = omega (arith, add-length) in rw e add-new
+
+-- a token put in before the last stands where that stood, and the last behind it
+module _ (ts : List Token) (x : Token) (k : ℕ) (counted : length ts ≡ suc k) where
+  moved : set (ts ++ (nth ts k ∷ [])) k x ≡ before-last ts x
+  moved = before-last-moved ts k x counted
+
+  pub insert-length : length (before-last ts x) ≡ length ts + 1
+  insert-length = rw (← moved, length-set (ts ++ (nth ts k ∷ [])) k x) (add-length ts (nth ts k))
+
+  pub insert-new : nth (before-last ts x) k ≡ x
+  insert-new = rw (← moved) (getD-set-same (ts ++ (nth ts k ∷ [])) k x no-token (omega (arith, add-length ts (nth ts k))))
+
+  pub insert-last : nth (before-last ts x) (suc k) ≡ nth ts k
+  insert-last =
+      rw (← moved, getD-set-other (ts ++ (nth ts k ∷ [])) k (suc k) x no-token (λ z. omega arith), ← counted)
+      (add-new ts (nth ts k))
+
+  pub insert-same : (i : ℕ) → (i ≡ k → ⊥) → (i ≡ suc k → ⊥) → nth (before-last ts x) i ≡ nth ts i
+  insert-same i d d′ =
+      rw (← moved, getD-set-other (ts ++ (nth ts k ∷ [])) k i x no-token d)
+      (add-same ts (nth ts k) i (λ z. d′ (omega arith)))
+
+-- ---- tokens that name none and are no Header
+abbrev pub Unheaded : Token → Type 0
+Unheaded t = (offset size : ℕ) → t ≡ scalar-of Header offset size → ⊥
+
+pub unheaded : (t : Token) → (t .code ≡ header-code → ⊥) → Unheaded t
+unheaded t d offset size e = d (ap (λ (x : Token). x .code) e)
+
+pub record Plain (t : Token) : Type 0 where
+  pub form : Form t
+  pub unlinked : link-of t ≡ Link.Nothing
+  pub other : Unheaded t
+
+-- a kind of scalar that a run is cut as
+abbrev pub Cut-kind : ScalarKind → Type 0
+Cut-kind Unquoted = Unit {0}
+Cut-kind Quoted = Unit {0}
+Cut-kind Parameter = Unit {0}
+Cut-kind UndefinedParameter = Unit {0}
+Cut-kind Header = ⊥
+
+pub plain-scalar : (kind : ScalarKind) (offset size : ℕ) → Cut-kind kind → Plain (scalar-of kind offset size)
+plain-scalar kind offset size d = record {
+  form = scalar offset size (kind, refl);
+  unlinked = ap linked (scalar-shape kind offset size);
+  other = unheaded (scalar-of kind offset size) (no-header kind d);
+}
+  where
+    no-header : (k : ScalarKind) → Cut-kind k → scalar-code k ≡ header-code → ⊥
+    no-header Unquoted c z = omega arith
+    no-header Quoted c z = omega arith
+    no-header Parameter c z = omega arith
+    no-header UndefinedParameter c z = omega arith
+    no-header Header c z = c
+
+numbered : (o : Operator) → (1 ≤ number-of o) × (number-of o ≤ 8)
+numbered LessThan = omega arith
+numbered LessThanEqual = omega arith
+numbered GreaterThan = omega arith
+numbered GreaterThanEqual = omega arith
+numbered NotEqual = omega arith
+numbered Exact = omega arith
+numbered Equal = omega arith
+numbered Exists = omega arith
+
+pub plain-operator : (o : Operator) → Plain (operator-of (number-of o))
+plain-operator o =
+    let r = numbered o in
+    record { form = operator (number-of o) (r .0) (r .1) refl; unlinked = ap linked (operator-shape (number-of o) (r .0) (r .1)); other = unheaded _ (λ z. omega arith) }
+
+pub plain-mixed : Plain mixed-container-token
+plain-mixed = record { form = mixed-container refl; unlinked = ap linked mixed-container-shape; other = unheaded _ (λ z. omega arith) }
+
+-- ---- the tokens of a tape, one by one
+-- an opener of some link
+abbrev pub Opener : Token → Type 0
+Opener t = (end : ℕ) × Opens t end
+
+pub record Row (ts : List Token) : Type 0 where
+  pub forms : (i : ℕ) → i < length ts → Form (nth ts i)
+  pub headed : (i offset size : ℕ) → nth ts i ≡ scalar-of Header offset size → i + 1 < length ts → Opener (nth ts (i + 1))
+
+-- a token added: behind a Header only an opener
+pub row-add : (ts : List Token) (x : Token) → Row ts → Form x → ((offset size : ℕ) → last ts ≡ scalar-of Header offset size → Opener x) → Row (ts ++ (x ∷ []))
+row-add ts x r form suits = record {
+  forms = λ i h.
+      by-equal i (length ts)
+      (λ z. rw (z, add-new ts x) form)
+      (λ d. rw (add-same ts x i d) (r .forms i (omega (arith, add-length ts x))));
+  headed = λ i offset size e h.
+      let l : length (ts ++ (x ∷ [])) ≡ length ts + 1 = add-length ts x in
+      let old : nth ts i ≡ scalar-of Header offset size = rw (add-same ts x i (λ z. omega arith)) at e in
+      by-equal (i + 1) (length ts)
+      (λ z.
+      let k : i ≡ length ts - 1 = omega arith in
+      rw (z, add-new ts x) (suits offset size (rw k at old)))
+      (λ d. rw (add-same ts x (i + 1) d) (r .headed i offset size old (omega arith)));
+}
+
+-- a token changed: an opener stays one, and a Header is made of the last alone
+pub row-set : (ts : List Token) (k : ℕ) (x : Token) → k < length ts → Row ts → Form x → (Opener (nth ts k) → Opener x) → (k + 1 < length ts → Unheaded x) → Row (set ts k x)
+row-set ts k x below r form keeps other = record {
+  forms = λ i h.
+      by-equal i k
+      (λ z. rw (z, getD-set-same ts k x no-token below) form)
+      (λ d. rw (getD-set-other ts k i x no-token d) (r .forms i (omega (arith, length-set ts k x))));
+  headed = λ i offset size e h.
+      let l : length (set ts k x) ≡ length ts = length-set ts k x in
+      by-equal i k
+      (λ z.
+      let c : x ≡ scalar-of Header offset size = rw (z, getD-set-same ts k x no-token below) at e in
+      absurd (other (omega arith) offset size c))
+      (λ d.
+      let old = r .headed i offset size (rw (getD-set-other ts k i x no-token d) at e) (omega arith) in
+      by-equal (i + 1) k
+      (λ z. rw (z, getD-set-same ts k x no-token below) (keeps (rw z at old)))
+      (λ d′. rw (getD-set-other ts k (i + 1) x no-token d′) old));
+}
+
+-- a plain token put in before the last, which opens nothing and is no Header
+pub row-insert : (ts : List Token) (x : Token) (k : ℕ) → length ts ≡ suc k → Row ts → Plain x → link-of (nth ts k) ≡ Link.Nothing → Unheaded (nth ts k) → Row (before-last ts x)
+row-insert ts x k counted r plain unlinked other = record {
+  forms = λ i h.
+      let l : length (before-last ts x) ≡ length ts + 1 = insert-length ts x k counted in
+      by-equal i k
+      (λ z. rw (z, insert-new ts x k counted) (plain .form))
+      (λ d. by-equal i (suc k)
+      (λ z. rw (z, insert-last ts x k counted) (r .forms k (omega arith)))
+      (λ d′. rw (insert-same ts x k counted i d d′) (r .forms i (omega arith))));
+  headed = λ i offset size e h.
+      let l : length (before-last ts x) ≡ length ts + 1 = insert-length ts x k counted in
+      by-equal i k
+      (λ z. absurd (plain .other offset size (rw (z, insert-new ts x k counted) at e)))
+      (λ d.
+      let old = r .headed i offset size (rw (insert-same ts x k counted i d (λ z. omega arith)) at e) (omega arith) in
+      by-equal (i + 1) k
+      (λ z. absurd (unlinked-opens (nth ts k) unlinked ((rw z at old) .1)))
+      (λ d′. rw (insert-same ts x k counted (i + 1) d′ (λ z. omega arith)) old));
+}

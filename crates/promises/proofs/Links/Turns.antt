@@ -1,0 +1,227 @@
+-- Every turn keeps the tokens in order.
+-- Assumes nothing.
+use mathlib.Core.Path.{_≡_, refl, sym, _∙_}
+use mathlib.Core.List.{List}
+use Prim.Native.Nat.{ℕ, _+_, _-_, _≤_}
+use native.Mathlib.Omega.{arith}
+use lib.Dec.{eqb}
+use lib.ListN.{length, set, length-set, List·getD-eq-default}
+use Rattle.data.specs.Bytes.{brace-open, brace-close, equals}
+use Rattle.data.proofs.Cases.{by-bool}
+use Rattle.cut.specs.Blanks.{skip-ws}
+use Rattle.operator.specs.declared.Operator.{Operator}
+use Rattle.operator.specs.Operators.{is-equal, sighted}
+use Rattle.tape.specs.declared.token.Token.{Token}
+use Rattle.tape.specs.declared.token.ScalarKind.the-variants.{Unquoted}
+use Rattle.tape.specs.declared.token.ContainerKind.the-variants.{Object}
+use Rattle.tape.specs.declared.token.Standing as Standings
+use Rattle.tape.specs.declared.shape.Link.{Link}
+use Rattle.tape.specs.Token.{no-token, mixed-container-token, headed, standing-of}
+use Rattle.tape.specs.Shape.{link-of}
+use Rattle.tape.specs.Tape.{Tape, token-at, replace, before-last}
+use Rattle.sheet.specs.Sound.{nth}
+use Rattle.parse.specs.declared.machine.State.the-variants.{Key, KeyValueSeparator, ObjectValue, ParseOpen, ArrayValue}
+use Rattle.parse.specs.declared.machine.Machine.{Machine}
+use Rattle.parse.specs.Machine.{After, next, byte-at, to}
+use Rattle.parse.specs.Containers as C
+use Rattle.parse.specs.Containers.{container-at, nothing-open}
+use Rattle.parse.specs.Key.{key-byte, key-close, open-header, key-header, key-brace, key-turn}
+use Rattle.parse.specs.KeyValueSeparator.{mixed-on, mix-then, separator-then, separator-turn}
+use Rattle.parse.specs.ObjectValue.{object-value-turn}
+use Rattle.parse.specs.ArrayValue.{value-byte, array-close, operator-then, after-end, unmixed-operator, array-operator, array-value-turn}
+use Rattle.parse.specs.Parse.{state-turn, turn}
+use Rattle.parse.proofs.Splits.{by-skipped, by-sighted, by-standing, by-state, by-key-byte, by-value-byte}
+use Rattle.parse.proofs.States.{in-key, in-separator, in-object-value, in-parse-open, in-array-value}
+use Rattle.promises.proofs.Links.Nest.{by-below}
+use Rattle.promises.proofs.Links.Rows.{last, insert-length, plain-operator}
+use Rattle.promises.proofs.Links.Kept.{Kept, Resting, ScalarStands, standing-link, kept-insert, kept-header}
+use Rattle.promises.proofs.Links.Held.{unsettled, Held, Resting-at, Ready, All, all-lay-then, all-mix-then, counted-add, lay-plain, scalar-held}
+use Rattle.promises.proofs.Links.Closing.{in-container, close-held, end-held}
+use Rattle.promises.proofs.Links.Parameters.{parameter-held}
+use Rattle.promises.proofs.Links.Opening.{open-held, parse-open-held}
+
+-- ---- Key
+-- where the last token is read as an Unquoted there is one
+some-last : (ts : List Token) → standing-of (last ts) ≡ Standings.the-variants.Unquoted → 1 ≤ length ts
+unfolding standing-of
+some-last ts e =
+    by-below 0 (length ts)
+    (λ h. h)
+    (λ h.
+    let none : last ts ≡ no-token = List·getD-eq-default ts no-token {n = length ts - 1} (omega arith) in
+    let z : _≡_ {A = ℕ} 0 1 = cc in absurd (omega arith))
+
+module _ (text : List ℕ) (t : Tape) (m : Machine) (r : Resting-at (m .count) (m .parent) (t .tokens)) where
+  key-close-held : All Held (key-close t m)
+  unfolding key-close
+  key-close-held =
+      by-bool (nothing-open (m .parent) (C.link-of (container-at t (m .parent))))
+      (λ e. rw (key-close, e) (record { counted = r .counted; shaped = r .resting }))
+      (λ e. let o = in-container t (m .parent) (r .resting .kept) e in
+      rw (key-close, e, o .read) (close-held t m r o Object))
+
+  open-header-held : (at : ℕ) → standing-of (token-at t (m .count - 1)) ≡ Standings.the-variants.Unquoted → All Held (open-header at t m)
+  unfolding open-header replace token-at
+  open-header-held at e =
+      let ts : List Token = t .tokens in
+      let s : standing-of (last ts) ≡ Standings.the-variants.Unquoted = rw (r .counted) at e in
+      let some : 1 ≤ length ts = some-last ts s in
+      let us : List Token = set ts (m .count - 1) (headed (nth ts (m .count - 1))) in
+      let l : length us ≡ length ts = length-set ts (m .count - 1) _ in
+      let k : Kept us (m .parent) = rw (r .counted) (kept-header ts (r .resting) some s) in
+      all-lay-then Held unsettled at ParseOpen _ m
+      (record { counted = counted-add us unsettled (r .counted ∙ sym l); shaped = (us, refl, k, rw l some) })
+
+  key-header-held : (at : ℕ) → All Held (key-header at t m)
+  unfolding key-header
+  key-header-held at =
+      by-standing (standing-of (token-at t (m .count - 1)))
+      (λ e. rw (key-header, e) (open-header-held at e))
+      (λ e. rw (key-header, e) tt)
+      (λ e. rw (key-header, e) tt)
+      (λ e. rw (key-header, e) tt)
+
+  key-brace-held : All Held (key-brace text t m)
+  unfolding key-brace
+  key-brace-held =
+      by-skipped (skip-ws text (m .at + 1))
+      (λ p e. by-bool (eqb (byte-at text p) brace-close)
+      (λ f. rw (key-brace, e, f) (record { counted = r .counted; shaped = r .resting }))
+      (λ f. rw (key-brace, e, f) (key-header-held p)))
+      (λ e. rw (key-brace, e) tt)
+
+  key-held : All Held (key-turn text t m)
+  unfolding key-turn
+  key-held =
+      by-key-byte (key-byte (byte-at text (m .at)))
+      (λ e. rw (key-turn, e) key-close-held)
+      (λ e. rw (key-turn, e) key-brace-held)
+      (λ e. rw (key-turn, e) (parameter-held text t m r))
+      (λ e. rw (key-turn, e) (scalar-held t m r text KeyValueSeparator tt))
+
+-- ---- mixed: an operator is added
+operator-held : (text : List ℕ) (t : Tape) (m : Machine) → Ready (m .count) (m .parent) (t .tokens) → All Held (operator-then text t m)
+unfolding operator-then
+operator-held text t m g =
+    by-sighted (sighted (byte-at text (m .at)) (byte-at text (m .at + 1)))
+    (λ o w e. rw (operator-then, e) (lay-plain t m (g .rest) _ (m .at + w) ArrayValue (plain-operator o) tt))
+    (λ e. rw (operator-then, e) tt)
+
+module _ (text : List ℕ) (t : Tape) (m : Machine) (g : Ready (m .count) (m .parent) (t .tokens)) where
+  -- the same tokens, in a state that asks for one
+  stays : {at : ℕ} → Held (to m at ArrayValue (m .count)) (t .tokens)
+  stays = record { counted = g .rest .counted; shaped = (g .rest .resting, g .some) }
+
+  -- a MixedContainer put in before a last token that names none
+  mix-held : (go : Tape → Machine → After) → link-of (last (t .tokens)) ≡ Link.Nothing
+      → ((t′ : Tape) (n : ℕ) → Ready n (m .parent) (t′ .tokens) → All Held (go t′ (mixed-on m n))) → All Held (mix-then t m go)
+  mix-held go bare h =
+      all-mix-then Held t m go
+      (λ t′ e.
+      let ts : List Token = t .tokens in
+      let l : length (before-last ts mixed-container-token) ≡ length ts + 1 = insert-length ts mixed-container-token (length ts - 1) (omega (arith, g .some)) in
+      h t′ (m .count + 1)
+      (record {
+        rest = record { counted = rw (e, l, g .rest .counted); resting = rw e (kept-insert ts (g .rest .resting) (g .some) bare) };
+        some = rw (e, l) (omega arith);
+      }))
+
+  -- ---- KeyValueSeparator
+  separator-then-held : (o : Operator) (w : ℕ) → All Held (separator-then o w t m)
+  unfolding separator-then
+  separator-then-held o w =
+      by-bool (is-equal o)
+      (λ e. rw (separator-then, e) (record { counted = g .rest .counted; shaped = (g .rest .resting, g .some) }))
+      (λ e. rw (separator-then, e) (lay-plain t m (g .rest) _ (m .at + w) ObjectValue (plain-operator o) tt))
+
+  separator-held : link-of (last (t .tokens)) ≡ Link.Nothing → All Held (separator-turn text t m)
+  unfolding separator-turn
+  separator-held bare =
+      by-sighted (sighted (byte-at text (m .at)) (byte-at text (m .at + 1)))
+      (λ o w e. rw (separator-turn, e) (separator-then-held o w))
+      (λ e. by-bool (eqb (byte-at text (m .at)) brace-open)
+      (λ f. rw (separator-turn, e, f) (record { counted = g .rest .counted; shaped = (g .rest .resting, g .some) }))
+      (λ f. rw (separator-turn, e, f)
+      (mix-held (λ t′ m′. next m′ t′) bare (λ t′ n h. record { counted = h .rest .counted; shaped = (h .rest .resting, h .some) }))))
+
+  -- ---- ObjectValue
+  object-value-held : All Held (object-value-turn text t m)
+  unfolding object-value-turn
+  object-value-held =
+      by-bool (eqb (byte-at text (m .at)) brace-open)
+      (λ e. rw (object-value-turn, e) (open-held t m g))
+      (λ e. by-bool (eqb (byte-at text (m .at)) brace-close)
+      (λ f. rw (object-value-turn, e, f) tt)
+      (λ f. rw (object-value-turn, e, f) (scalar-held t m (g .rest) text Key tt)))
+
+  -- ---- ArrayValue
+  array-close-held : All Held (array-close t m)
+  unfolding array-close
+  array-close-held =
+      by-bool (nothing-open (m .parent) (C.link-of (container-at t (m .parent))))
+      (λ e. rw (array-close, e) tt)
+      (λ e. let o = in-container t (m .parent) (g .rest .resting .kept) e in
+      rw (array-close, e, o .read) (close-held t m (g .rest) o (o .kind)))
+
+  after-end-held : All Held (after-end text t m)
+  unfolding after-end
+  after-end-held =
+      by-bool (eqb (byte-at text (m .at)) equals)
+      (λ e. rw (after-end, e) stays)
+      (λ e. rw (after-end, e) tt)
+
+  -- the last token, read as a scalar, names none, and a MixedContainer goes in before it
+  mix-operator-held : ScalarStands (standing-of (token-at t (m .count - 1))) → All Held (mix-then t m (operator-then text))
+  unfolding token-at
+  mix-operator-held s =
+      mix-held (operator-then text)
+      (standing-link (g .rest .resting .kept .row .forms (length (t .tokens) - 1) (omega (arith, g .some))) (rw (g .rest .counted) at s))
+      (λ t′ n h. operator-held text t′ (mixed-on m n) h)
+
+  unmixed-held : All Held (unmixed-operator text t m)
+  unfolding unmixed-operator
+  unmixed-held =
+      by-standing (standing-of (token-at t (m .count - 1)))
+      (λ e. rw (unmixed-operator, e) (mix-operator-held (rw e tt)))
+      (λ e. rw (unmixed-operator, e) (mix-operator-held (rw e tt)))
+      (λ e. rw (unmixed-operator, e) after-end-held)
+      (λ e. rw (unmixed-operator, e) tt)
+
+  array-operator-held : All Held (array-operator text t m)
+  unfolding array-operator
+  array-operator-held =
+      by-bool (m .mixed)
+      (λ e. rw (array-operator, e) (operator-held text t m g))
+      (λ e. rw (array-operator, e) unmixed-held)
+
+  array-value-held : All Held (array-value-turn text t m)
+  unfolding array-value-turn
+  array-value-held =
+      by-value-byte (value-byte (byte-at text (m .at)))
+      (λ e. rw (array-value-turn, e) (open-held t m g))
+      (λ e. rw (array-value-turn, e) array-close-held)
+      (λ e. rw (array-value-turn, e) array-operator-held)
+      (λ e. rw (array-value-turn, e) (scalar-held t m (g .rest) text ArrayValue tt))
+
+-- ---- a state's turn, and any turn
+state-held : (text : List ℕ) (t : Tape) (m : Machine) → Held m (t .tokens) → All Held (state-turn text t m)
+state-held text t m h =
+    by-state (m .state)
+    (λ e. rw (in-key text t m e) (key-held text t m (rest (rw e at (h .shaped)))))
+    (λ e. let s = rw e at (h .shaped) in rw (in-separator text t m e) (separator-held text t m (ready (s .0) (s .1)) (s .2)))
+    (λ e. let s = rw e at (h .shaped) in rw (in-object-value text t m e) (object-value-held text t m (ready (s .0) (s .1))))
+    (λ e. let s = rw e at (h .shaped) in rw (in-parse-open text t m e) (parse-open-held text t m (h .counted) (s .0) (s .1) (s .2) (s .3)))
+    (λ e. let s = rw e at (h .shaped) in rw (in-array-value text t m e) (array-value-held text t m (ready (s .0) (s .1))))
+  where
+    rest : Resting (t .tokens) (m .parent) → Resting-at (m .count) (m .parent) (t .tokens)
+    rest r = record { counted = h .counted; resting = r }
+
+    ready : Resting (t .tokens) (m .parent) → 1 ≤ length (t .tokens) → Ready (m .count) (m .parent) (t .tokens)
+    ready r some = record { rest = rest r; some = some }
+
+pub turn-held : (text : List ℕ) (t : Tape) (m : Machine) → Held m (t .tokens) → All Held (turn text t m)
+unfolding turn
+turn-held text t m h =
+    by-skipped (skip-ws text (m .at))
+    (λ p e. rw (turn, e) (state-held text t (to m p (m .state) (m .count)) (record { counted = h .counted; shaped = h .shaped })))
+    (λ e. rw (turn, e) (end-held t m h))

@@ -1,0 +1,249 @@
+-- Any two results that a contract allows are equal, and so are the tapes at exit: said of each public call's contract itself, by the
+-- claim `Post` that the toolchain reads off its `ensures`. Every public call stands here, in a record for each crate.
+-- Assumes nothing.
+use mathlib.Core.Path.{_≡_, sym, _∙_}
+use mathlib.Core.Bool.{Bool, true, false}
+use mathlib.Core.List.{List}
+use mathlib.Core.Logic.{_↔_}
+use Prim.Native.Nat.{ℕ}
+use Rattle.data.proofs.character_class.Reads as character-class
+use Rattle.operator.proofs.Operator.number.Reads as operator-number
+use Rattle.operator.proofs.Operator.is_equal.Reads as operator-is-equal
+use Rattle.operator.proofs.Operator.symbol.Reads as operator-symbol
+use Rattle.operator.proofs.operator_at.Reads as operator-at
+use Rattle.scalar.proofs.to_bool.Reads as to-bool
+use Rattle.scalar.proofs.to_u64.Reads as to-u64
+use Rattle.scalar.proofs.to_i64.Reads as to-i64
+use Rattle.scalar.proofs.to_i64_t.Reads as to-i64-t
+use Rattle.scalar.proofs.to_f64.Reads as to-f64
+use Rattle.scalar.proofs.kind.Reads as kind
+use Rattle.scalar.proofs.magnitude.Reads as magnitude
+use Rattle.scalar.proofs.pattern.Reads as pattern
+use Rattle.scalar.proofs.bool_refusal.Reads as bool-refusal
+use Rattle.scalar.proofs.bool_value.Reads as bool-value
+use Rattle.scalar.proofs.u64_refusal.Reads as u64-refusal
+use Rattle.scalar.proofs.u64_value.Reads as u64-value
+use Rattle.scalar.proofs.i64_refusal.Reads as i64-refusal
+use Rattle.scalar.proofs.i64_value.Reads as i64-value
+use Rattle.scalar.proofs.f64_refusal.Reads as f64-refusal
+use Rattle.scalar.proofs.f64_value.Reads as f64-value
+use Rattle.scalar.proofs.kind_number.Reads as kind-number
+use Rattle.cut.proofs.skip_ws_t.Reads as skip-ws-t
+use Rattle.cut.proofs.split_at_scalar.Reads as split-at-scalar
+use Rattle.cut.proofs.parse_quote_scalar.Reads as parse-quote-scalar
+use Rattle.cut.proofs.parse_variable.Reads as parse-variable
+use Rattle.cut.proofs.run_end.Reads as run-end
+use Rattle.cut.proofs.scalar_at.Reads as scalar-at
+use Rattle.tape.proofs.token.opener.Reads as opener
+use Rattle.tape.proofs.token.end.Reads as end
+use Rattle.tape.proofs.token.scalar.Reads as scalar
+use Rattle.tape.proofs.token.operator.Reads as operator
+use Rattle.tape.proofs.token.mixed_container.Reads as mixed-container
+use Rattle.tape.proofs.token.Token.container.Reads as token-container
+use Rattle.tape.proofs.token.Token.standing.Reads as token-standing
+use Rattle.tape.proofs.token.Token.as_header.Reads as token-as-header
+use Rattle.tape.proofs.words.token_of.Reads as token-of
+use Rattle.tape.proofs.words.token.Reads as token
+use Rattle.tape.proofs.words.holds.Reads as holds
+use Rattle.tape.proofs.words.put.Reads as put
+use Rattle.tape.proofs.words.push.Reads as push
+use Rattle.tape.proofs.words.insert_mixed.Reads as insert-mixed
+use Rattle.tape.proofs.words.clear_from.Reads as clear-from
+use Rattle.tape.proofs.shape.scalar_named.Reads as scalar-named
+use Rattle.tape.proofs.shape.shape_of.Reads as shape-of
+use Rattle.tape.proofs.shape.link_of.Reads as link-of
+use Rattle.parse.proofs.machine.Refusal.number.Reads as refusal-number
+use Rattle.parse.proofs.machine.Refusal.place.Reads as refusal-place
+use Rattle.parse.proofs.parse.Reads as parse
+use Rattle.sheet.proofs.check.Reads as check
+use Rattle.sheet.proofs.views.Viewed.refusal.Reads as viewed-refusal
+use Rattle.sheet.proofs.views.code.Reads as code
+use Rattle.sheet.proofs.views.link.Reads as link
+use Rattle.sheet.proofs.views.view_of.Reads as view-of
+use Rattle.sheet.proofs.views.view.Reads as view
+
+-- what a contract claims at exit, of the lifetimes, the arguments, the result and the parameters as they are left, allows one result
+abbrev pub One-result : {K : Type 0} {A R X : K → Type 0} → ((κs : K) → A κs → R κs → X κs → Type 0) → Type 0
+One-result {K} {A} {R} {X} Post = (κs : K) (args : A κs) (r s : R κs) (xs ys : X κs) → Post κs args r xs → Post κs args s ys → r ≡ s
+
+-- and leaves one tape
+abbrev pub One-tape : {K : Type 0} {A R X : K → Type 0} → ((κs : K) → A κs → R κs → X κs → Type 0) → ((κs : K) → X κs → List ℕ) → Type 0
+One-tape {K} {A} {R} {X} Post tape =
+    (κs : K) (args : A κs) (r s : R κs) (xs ys : X κs) → Post κs args r xs → Post κs args s ys → tape κs xs ≡ tape κs ys
+
+-- a contract that says `r ≡ definition` allows one result
+by-definition : {K : Type 0} {A R : K → Type 0} (X : K → Type 0) (definition : (κs : K) → A κs → R κs) → One-result {X = X} (λ κs args r xs. r ≡ definition κs args)
+by-definition X definition κs args r s xs ys p q = p ∙ sym q
+
+-- and so does one that says `(r ≡ true) ↔ P`
+one-verdict : (P : Type 0) (r s : Bool) → (r ≡ true) ↔ P → (s ≡ true) ↔ P → r ≡ s
+one-verdict P true true p q = cc
+one-verdict P true false p q = sym (q .1 (p .0 cc))
+one-verdict P false true p q = p .1 (q .0 cc)
+one-verdict P false false p q = cc
+
+pub record Data : Type 0 where
+  pub character-class : One-result character-class.Post
+
+pub data-calls : Data
+data-calls =
+    record {
+      character-class = by-definition _ _;
+    }
+
+pub record Operator : Type 0 where
+  pub operator-number : One-result operator-number.Post
+  pub operator-is-equal : One-result operator-is-equal.Post
+  pub operator-symbol : One-result operator-symbol.Post
+  pub operator-at : One-result operator-at.Post
+
+pub operator-calls : Operator
+operator-calls =
+    record {
+      operator-number = by-definition _ _;
+      operator-is-equal = by-definition _ _;
+      operator-symbol = by-definition _ _;
+      operator-at = by-definition _ _;
+    }
+
+pub record Scalar : Type 0 where
+  pub to-bool : One-result to-bool.Post
+  pub to-u64 : One-result to-u64.Post
+  pub to-i64 : One-result to-i64.Post
+  pub to-i64-t : One-result to-i64-t.Post
+  pub to-f64 : One-result to-f64.Post
+  pub kind : One-result kind.Post
+  pub magnitude : One-result magnitude.Post
+  pub pattern : One-result pattern.Post
+  pub bool-refusal : One-result bool-refusal.Post
+  pub bool-value : One-result bool-value.Post
+  pub u64-refusal : One-result u64-refusal.Post
+  pub u64-value : One-result u64-value.Post
+  pub i64-refusal : One-result i64-refusal.Post
+  pub i64-value : One-result i64-value.Post
+  pub f64-refusal : One-result f64-refusal.Post
+  pub f64-value : One-result f64-value.Post
+  pub kind-number : One-result kind-number.Post
+
+pub scalar-calls : Scalar
+scalar-calls =
+    record {
+      to-bool = by-definition _ _;
+      to-u64 = by-definition _ _;
+      to-i64 = by-definition _ _;
+      to-i64-t = by-definition _ _;
+      to-f64 = by-definition _ _;
+      kind = by-definition _ _;
+      magnitude = by-definition _ _;
+      pattern = by-definition _ _;
+      bool-refusal = by-definition _ _;
+      bool-value = by-definition _ _;
+      u64-refusal = by-definition _ _;
+      u64-value = by-definition _ _;
+      i64-refusal = by-definition _ _;
+      i64-value = by-definition _ _;
+      f64-refusal = by-definition _ _;
+      f64-value = by-definition _ _;
+      kind-number = by-definition _ _;
+    }
+
+pub record Cut : Type 0 where
+  pub skip-ws-t : One-result skip-ws-t.Post
+  pub split-at-scalar : One-result split-at-scalar.Post
+  pub parse-quote-scalar : One-result parse-quote-scalar.Post
+  pub parse-variable : One-result parse-variable.Post
+  pub run-end : One-result run-end.Post
+  pub scalar-at : One-result scalar-at.Post
+
+pub cut-calls : Cut
+cut-calls =
+    record {
+      skip-ws-t = by-definition _ _;
+      split-at-scalar = by-definition _ _;
+      parse-quote-scalar = by-definition _ _;
+      parse-variable = by-definition _ _;
+      run-end = by-definition _ _;
+      scalar-at = by-definition _ _;
+    }
+
+pub record Tape : Type 0 where
+  pub opener : One-result opener.Post
+  pub end : One-result end.Post
+  pub scalar : One-result scalar.Post
+  pub operator : One-result operator.Post
+  pub mixed-container : One-result mixed-container.Post
+  pub token-container : One-result token-container.Post
+  pub token-standing : One-result token-standing.Post
+  pub token-as-header : One-result token-as-header.Post
+  pub token-of : One-result token-of.Post
+  pub token : One-result token.Post
+  pub holds : One-result holds.Post
+  pub put-tape : One-tape put.Post (λ κs xs. xs .0 .now)
+  pub push-result : One-result push.Post
+  pub push-tape : One-tape push.Post (λ κs xs. xs .0 .now)
+  pub insert-mixed-result : One-result insert-mixed.Post
+  pub insert-mixed-tape : One-tape insert-mixed.Post (λ κs xs. xs .0 .now)
+  pub clear-from-tape : One-tape clear-from.Post (λ κs xs. xs .0 .now)
+  pub scalar-named : One-result scalar-named.Post
+  pub shape-of : One-result shape-of.Post
+  pub link-of : One-result link-of.Post
+
+pub tape-calls : Tape
+tape-calls =
+    record {
+      opener = by-definition _ _;
+      end = by-definition _ _;
+      scalar = by-definition _ _;
+      operator = by-definition _ _;
+      mixed-container = by-definition _ _;
+      token-container = by-definition _ _;
+      token-standing = by-definition _ _;
+      token-as-header = by-definition _ _;
+      token-of = by-definition _ _;
+      token = by-definition _ _;
+      holds = by-definition _ _;
+      put-tape = λ κs args r s xs ys p q. cc;
+      push-result = λ κs args r s xs ys p q. cc;
+      push-tape = λ κs args r s xs ys p q. cc;
+      insert-mixed-result = λ κs args r s xs ys p q. cc;
+      insert-mixed-tape = λ κs args r s xs ys p q. cc;
+      clear-from-tape = λ κs args r s xs ys p q. cc;
+      scalar-named = by-definition _ _;
+      shape-of = by-definition _ _;
+      link-of = by-definition _ _;
+    }
+
+pub record Parse : Type 0 where
+  pub refusal-number : One-result refusal-number.Post
+  pub refusal-place : One-result refusal-place.Post
+  pub parse-result : One-result parse.Post
+  pub parse-tape : One-tape parse.Post (λ κs xs. xs .1 .0 .now)
+
+pub parse-calls : Parse
+parse-calls =
+    record {
+      refusal-number = by-definition _ _;
+      refusal-place = by-definition _ _;
+      parse-result = λ κs args r s xs ys p q. cc;
+      parse-tape = λ κs args r s xs ys p q. cc;
+    }
+
+pub record Sheet : Type 0 where
+  pub check : One-result check.Post
+  pub viewed-refusal : One-result viewed-refusal.Post
+  pub code : One-result code.Post
+  pub link : One-result link.Post
+  pub view-of : One-result view-of.Post
+  -- the part's bytes; where they stand is the text's affair
+  pub view : (κs : _) (args : _) (r s : _) (xs ys : _) → view.Post κs args r xs → view.Post κs args s ys → r .now ≡ s .now
+
+pub sheet-calls : Sheet
+sheet-calls =
+    record {
+      check = λ κs args r s xs ys p q. one-verdict _ r s p q;
+      viewed-refusal = by-definition _ _;
+      code = by-definition _ _;
+      link = by-definition _ _;
+      view-of = by-definition _ _;
+      view = λ κs args r s xs ys p q. p ∙ sym q;
+    }

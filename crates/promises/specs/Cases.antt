@@ -1,0 +1,67 @@
+-- The cases marked P in document 01, 'Both sides of each edge': a text, how many tokens the tape has room for, and what the parse answers.
+use Prim.Native.Nat.{ℕ}
+use Prim.Native.Char.{code}
+use Prim.Native.String.{String}
+use Prim.Native.String as Strings
+use mathlib.Core.Bool.{false}
+use mathlib.Core.List.{List, [], _∷_}
+use Rattle.tape.specs.declared.token.Token.{Token}
+use Rattle.tape.specs.declared.token.ContainerKind.the-variants.{Array}
+use Rattle.tape.specs.declared.token.ScalarKind.the-variants.{Header}
+use Rattle.tape.specs.Token.{opener-of, scalar-of}
+use Rattle.tape.specs.Words.{words-for, token-in}
+use Rattle.parse.specs.declared.Parsed.the-variants.{Tokens, Refused}
+use Rattle.parse.specs.Refusals.{number, place}
+use Rattle.parse.specs.Parse.{Outcome, outcome, parse-of}
+
+infixl 20 refusal_at_
+-- the bytes of a text that is written in ASCII
+unfoldable pub bytes : String → List ℕ
+bytes Strings.[] = []
+bytes (Strings._∷_ c s) = code c ∷ bytes s
+
+-- so many tokens; so many, of which one is of note; or a refusal's number and place
+pub data Answer : Type 0 where
+  tokens : ℕ → Answer
+  tokens-with : ℕ → ℕ → Token → Answer
+  refusal_at_ : ℕ → ℕ → Answer
+
+-- one line of the table
+pub record Case : Type 0 where
+  pub text : String
+  pub room : ℕ
+  pub answer : Answer
+
+-- what an outcome answers, told as a line of the table tells it
+unfoldable pub told : Answer → Outcome → Answer
+told (tokens n) (outcome (Tokens count bom) ws) = tokens count
+told (tokens-with n i t) (outcome (Tokens count bom) ws) = tokens-with count i (token-in ws count i)
+told (refusal n at p) (outcome (Tokens count bom) ws) = tokens count
+told (tokens n) (outcome (Refused r) ws) = refusal (number r) at (place r)
+told (tokens-with n i t) (outcome (Refused r) ws) = refusal (number r) at (place r)
+told (refusal n at p) (outcome (Refused r) ws) = refusal (number r) at (place r)
+
+-- what the parse answers to the text of a line
+unfoldable pub parsed : Case → Answer
+parsed c = told (c .answer) (parse-of (bytes (c .text)) (words-for (c .room)))
+
+abbrev pub case : String → ℕ → Answer → Case
+case text room answer = record { text = text; room = room; answer = answer }
+
+unfoldable pub cases : List Case
+cases =
+    case "a={b c=d}\n" 8 (tokens 8)
+    ∷ case "a={b c=d}\n" 7 (refusal 11 at 0)
+    ∷ case "" 16 (tokens 0)
+    ∷ case "a" 16 (refusal 2 at 0)
+    ∷ case "a }" 16 (refusal 3 at 2)
+    ∷ case "{ a }" 16 (refusal 4 at 2)
+    ∷ case "a={{b}<c}" 16 (refusal 7 at 5)
+    ∷ case "a={b !c}" 16 (refusal 8 at 4)
+    ∷ case "a={b=c" 16 (tokens 5)
+    ∷ case "a={b={c=d" 16 (refusal 2 at 0)
+    ∷ case "a={{}}" 16 (tokens 3)
+    ∷ case "a=rgb{1}" 16 (tokens-with 5 1 (scalar-of Header 2 3))
+    ∷ case "[[!a]b=c]" 16 (tokens 5)
+    ∷ case "a={b c=d {}}" 16 (tokens-with 10 1 (opener-of Array 9 false))
+    ∷ []
