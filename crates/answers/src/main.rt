@@ -1,0 +1,208 @@
+// Answers records, to be compared with the Rust's answers to the same records. A record is a kind, a capacity of two bytes, a length of two
+// bytes and a body of that length; numbers have their larger bytes first. Input is read and answers are written in large blocks.
+use libc::STDIN_FILENO;
+use libc::STDOUT_FILENO;
+use report::put::front;
+ghost use Prim.Native.Nat.{_+_, _≤_, _<_};
+ghost use lib.ListN.{length};
+
+// The answer to a record: the place after its lines, or that the record is bad.
+enum Answer {
+    Put(usize),
+    Bad,
+}
+
+// What the answering of a block comes to: the place of a record that is not all there, or that a bad one was met.
+enum Answered {
+    Until(usize),
+    Stopped,
+}
+
+// A number of two bytes.
+fn pair(high: u8, low: u8) -> usize
+    ensures { λ r. ⌜ r < 65536 ⌝ }
+{
+    (high as usize) * 256 + (low as usize)
+}
+
+// A number of four bytes.
+fn quad(a: u8, b: u8, c: u8, d: u8) -> u32 {
+    ((a as u32) << 24) | ((b as u32) << 16) | ((c as u32) << 8) | (d as u32)
+}
+
+// The number of four bytes at a place.
+fn word_at(bytes: &[u8], at: usize) -> u32
+    requires { ⌜ at + 3 < length (now bytes) ⌝ }
+{
+    quad(bytes[at], bytes[at + 1], bytes[at + 2], bytes[at + 3])
+}
+
+// Puts the numbers that bytes spell into words, as far as there is room, and answers how many there are.
+fn take_words(bytes: &[u8], words: &mut [u32]) -> usize
+    ensures { λ r. ⌜ r ≤ length (now (words .exit)) ⌝ }
+{
+    let mut n = 0;
+    while n < words.len() {
+        if bytes.len() / 4 <= n {
+            return n;
+        }
+        words[n] = word_at(bytes, n * 4);
+        n += 1;
+    }
+    n
+}
+
+// Kind `T`: the dump of a text, with room for so many tokens.
+fn tokens_answer(
+    out: &mut [u8],
+    at: usize,
+    capacity: usize,
+    text: &[u8],
+    words: &mut [u32],
+) -> Answer {
+    if words.len() / 3 < capacity {
+        return Answer::Bad;
+    }
+    let room = capacity * 3;
+    Answer::Put(report::dump::put_dump(out, at, text, &mut words[..room]))
+}
+
+// Kind `S`: the readings of a scalar.
+fn readings_answer(out: &mut [u8], at: usize, scalar: &[u8]) -> Answer {
+    Answer::Put(report::readings::put_readings(out, at, scalar))
+}
+
+// Kind `C`: whether a sheet is sound. The text's length, the count, and the words to the body's end.
+fn check_answer(out: &mut [u8], at: usize, body: &[u8], words: &mut [u32]) -> Answer {
+    if body.len() < 8 {
+        return Answer::Bad;
+    }
+    if body.len() % 4 != 0 {
+        return Answer::Bad;
+    }
+    let text_length = word_at(body, 0) as usize;
+    let count = word_at(body, 4) as usize;
+    let n = take_words(&body[8..], words);
+    Answer::Put(report::sheets::put_check(out, at, text_length, &words[..n], count))
+}
+
+// Kind `V`: a token's view. The index, the count, how many words, the words, and the text to the body's end.
+fn view_answer(out: &mut [u8], at: usize, body: &[u8], words: &mut [u32]) -> Answer {
+    if body.len() < 10 {
+        return Answer::Bad;
+    }
+    let index = word_at(body, 0) as usize;
+    let count = word_at(body, 4) as usize;
+    let text = 10 + pair(body[8], body[9]) * 4;
+    if body.len() < text {
+        return Answer::Bad;
+    }
+    let n = take_words(&body[10..text], words);
+    Answer::Put(report::sheets::put_view(out, at, &body[text..], &words[..n], count, index))
+}
+
+// Answers a record by its kind.
+fn answer_record(
+    out: &mut [u8],
+    at: usize,
+    kind: u8,
+    capacity: usize,
+    body: &[u8],
+    words: &mut [u32],
+) -> Answer {
+    match kind {
+        b'T' => tokens_answer(out, at, capacity, body, words),
+        b'S' => readings_answer(out, at, body),
+        b'C' => check_answer(out, at, body, words),
+        b'V' => view_answer(out, at, body, words),
+        _ => Answer::Bad,
+    }
+}
+
+// Puts the line for a bad record, and writes all lines.
+fn stop(out: &mut [u8], at: usize) {
+    let n = report::put::put_bytes(out, at, b"bad record\n");
+    io::write_all(STDOUT_FILENO, front(out, n));
+}
+
+// Answers the records that are all there. A line of a dump has at most 46 bytes, so that half of the buffer holds any answer.
+fn answer_block(input: &[u8], words: &mut [u32], out: &mut [u8]) -> Answered {
+    let mut to = 0;
+    let mut at = 0;
+    while at + 5 <= input.len() {
+        let size = pair(input[at + 3], input[at + 4]);
+        if 32768 < size {
+            stop(out, to);
+            return Answered::Stopped;
+        }
+        let start = at + 5;
+        if input.len() - start < size {
+            io::write_all(STDOUT_FILENO, front(out, to));
+            return Answered::Until(at);
+        }
+        let end = start + size;
+        if 262144 < to {
+            io::write_all(STDOUT_FILENO, front(out, to));
+            to = 0;
+        }
+        let capacity = pair(input[at + 1], input[at + 2]);
+        match answer_record(out, to, input[at], capacity, &input[start..end], words) {
+            Answer::Put(next) => to = next,
+            Answer::Bad => {
+                stop(out, to);
+                return Answered::Stopped;
+            }
+        }
+        at = end;
+    }
+    io::write_all(STDOUT_FILENO, front(out, to));
+    Answered::Until(at)
+}
+
+// Moves the bytes from a place to n to the front, and answers how many they are.
+fn to_front(input: &mut [u8], from: usize, n: usize) -> usize
+    requires { ⌜ n ≤ length (now input) ⌝ }
+    ensures { λ r. ⌜ r ≤ length (now (input .exit)) ⌝ }
+{
+    if n < from {
+        return 0;
+    }
+    let rest = n - from;
+    let mut i = 0;
+    while i < rest {
+        input[i] = input[from + i];
+        i += 1;
+    }
+    rest
+}
+
+// Block by block, until the input ends or a record is bad. A record that a block cuts waits at the front for the rest of it. The count of
+// turns is there so that the loop is seen to end, and no input is that long.
+fn run(input: &mut [u8], words: &mut [u32], out: &mut [u8]) {
+    let mut kept = 0;
+    let mut turns = u64::MAX;
+    while 0 < turns {
+        if input.len() < kept {
+            return;
+        }
+        let n = kept + io::read_full(STDIN_FILENO, &mut input[kept..]);
+        let Answered::Until(at) = answer_block(&input[..n], words, out) else {
+            return;
+        };
+        if n < input.len() {
+            if at < n {
+                stop(out, 0);
+            }
+            return;
+        }
+        kept = to_front(input, at, n);
+        turns -= 1;
+    }
+}
+
+fn main() {
+    let mut input = [0u8; 131072];
+    let mut words = [0u32; 15000];
+    let mut out = [0u8; 524288];
+    run(&mut input, &mut words, &mut out);
+}

@@ -1,0 +1,37 @@
+-- Bytes in hexadecimal, one at a time, and the lines of a view.
+-- Assumes nothing.
+use mathlib.Core.Path.{_≡_, refl, sym, ap, _∙_}
+use mathlib.Core.List.{List, [], _∷_, _++_}
+use Prim.Native.Nat.{ℕ, _+_, _≤_, _<_}
+use native.Mathlib.Numerals.{add-one}
+use lib.ListN.{length, getD, drop, drop-of-length-le}
+use lib.Seq.{drop-cons}
+use Rattle.data.specs.Bytes.{line-feed}
+use Rattle.sheet.specs.declared.views.Viewed.{Viewed}
+use Rattle.sheet.specs.declared.views.Viewed.the-variants.{At, NoScalar}
+use Rattle.sheet.specs.Views.{refusal-of, part-of}
+use Rattle.report.specs.Digits.{decimal, hex}
+use Rattle.report.specs.Sheets.{hex-bytes, view-text}
+use Rattle.report.specs.Words as words
+
+-- the digits of the byte at an index stand before those of the bytes after it
+pub hex-on : (bytes : List ℕ) (i : ℕ) → i < length bytes → hex-bytes (drop i bytes) ≡ hex 2 (getD bytes i 0) ++ hex-bytes (drop (i + 1) bytes)
+unfolding hex-bytes
+hex-on bytes i h = rw (drop-cons bytes i 0 h, add-one i)
+
+-- and past the last there are none
+pub hex-none-left : (bytes : List ℕ) (i : ℕ) → length bytes ≤ i → hex-bytes (drop i bytes) ≡ []
+unfolding hex-bytes
+hex-none-left bytes i h = rw (drop-of-length-le bytes h)
+
+-- the line of a view that lies in the text, and of one that is refused
+pub view-shown : (text part : List ℕ) (found v : Viewed) (offset size : ℕ) → found ≡ v → found ≡ At offset size → part ≡ part-of text v
+    → words.view ++ hex-bytes part ++ (line-feed ∷ []) ≡ view-text text v
+view-shown text part found v offset size e told p =
+    let is = sym e ∙ told in
+    ap (λ (l : List ℕ). words.view ++ hex-bytes l ++ (line-feed ∷ [])) (p ∙ ap (part-of text) is) ∙ sym (ap (view-text text) is)
+
+pub view-refused : (text : List ℕ) (n : ℕ) (found v : Viewed) → found ≡ v → found ≡ NoScalar → n ≡ refusal-of found
+    → words.refused ++ decimal n ++ (line-feed ∷ []) ≡ view-text text v
+view-refused text n found v e told r =
+    ap (λ (k : ℕ). words.refused ++ decimal k ++ (line-feed ∷ [])) (r ∙ ap refusal-of told) ∙ sym (ap (view-text text) (sym e ∙ told))

@@ -1,0 +1,6 @@
+pub mod Append
+pub mod Digits
+pub mod Lines
+pub mod Hexes
+pub mod Decimal
+pub mod Room

@@ -1,0 +1,84 @@
+-- `report::sheets::put_view` meets its contract, by where the view lies.
+-- Assumes nothing.
+use Rattle.report.proofs.Hexes.{view-shown, view-refused}
+use Rattle.report.proofs.Append.{chain, same-bytes}
+use borrow.Author.Needs.{needs}
+use Rattle.report.proofs.sheets.put_view.Statement.{statement}
+use Rattle.report.proofs.sheets.put_view.Tie as tie
+
+view-of-requires : tie.Need-view-of-requires
+view-of-requires c κs = search needs
+
+enum-told : tie.Need-enum-told
+enum-told c = search needs
+
+slice-aggregate-put-bytes : tie.Need-slice-aggregate-put-bytes
+slice-aggregate-put-bytes c = search needs
+
+put-bytes-requires : tie.Need-put-bytes-requires
+put-bytes-requires c κs = search needs
+
+view-requires : tie.Need-view-requires
+view-requires c κs = search needs
+
+put-hex-bytes-requires : tie.Need-put-hex-bytes-requires
+put-hex-bytes-requires c κs = search needs
+
+put-byte-requires : tie.Need-put-byte-requires
+put-byte-requires c κs = search needs
+
+enum-told-2 : tie.Need-enum-told-2
+enum-told-2 c = search needs
+
+slice-aggregate-put-bytes-2 : tie.Need-slice-aggregate-put-bytes-2
+slice-aggregate-put-bytes-2 c = search needs
+
+put-bytes-requires-2 : tie.Need-put-bytes-requires-2
+put-bytes-requires-2 c κs = search needs
+
+refusal-requires : tie.Need-refusal-requires
+refusal-requires c κs = search needs
+
+cast-put-decimal : tie.Need-cast-put-decimal
+cast-put-decimal c = search needs
+
+put-decimal-requires : tie.Need-put-decimal-requires
+put-decimal-requires c κs = search needs
+
+put-byte-requires-2 : tie.Need-put-byte-requires-2
+put-byte-requires-2 c κs = search needs
+
+same-length : tie.Need-same-length
+same-length c = search needs
+
+returns : tie.Need-returns
+returns c = same-bytes _ _ _ _ (chain _ _ _ _ (chain _ _ _ _ (c .before .before .before .before .before .before .before .before .before .before .before .put-bytes .ensures) (c .before .before .before .before .before .before .put-hex-bytes .ensures)) (c .before .before .put-byte .ensures)) (view-shown _ _ _ _ _ _ (c .before .before .before .before .before .before .before .before .before .before .before .before .before .before .before .before .view-of .ensures) (c .before .before .before .before .before .before .before .before .before .before .before .before .before .before .enum-told .given .1) (c .before .before .before .before .before .before .before .view .ensures))
+
+same-length-2 : tie.Need-same-length-2
+same-length-2 c = search needs
+
+returns-2 : tie.Need-returns-2
+returns-2 c = same-bytes _ _ _ _ (chain _ _ _ _ (chain _ _ _ _ (c .before .before .before .before .before .before .before .before .before .before .before .put-bytes2 .ensures) (c .before .before .before .before .before .before .put-decimal .ensures)) (c .before .before .put-byte2 .ensures)) (view-refused _ _ _ _ (c .before .before .before .before .before .before .before .before .before .before .before .before .before .before .before .before .view-of .ensures) (c .before .before .before .before .before .before .before .before .before .before .before .before .before .before .enum-told2 .given .1) (c .before .before .before .before .before .before .before .refusal .ensures))
+
+pub put-view-spec : {M : Type 1} → statement M
+put-view-spec =
+    tie.close
+    (tie.spec
+    view-of-requires
+    enum-told
+    slice-aggregate-put-bytes
+    put-bytes-requires
+    view-requires
+    put-hex-bytes-requires
+    put-byte-requires
+    enum-told-2
+    slice-aggregate-put-bytes-2
+    put-bytes-requires-2
+    refusal-requires
+    cast-put-decimal
+    put-decimal-requires
+    put-byte-requires-2
+    same-length
+    returns
+    same-length-2
+    returns-2)

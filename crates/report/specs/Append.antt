@@ -1,0 +1,19 @@
+-- Bytes put into a lent buffer from a place on, one after another, as far as there is room.
+use Prim.Native.Nat.{ℕ, _+_}
+use mathlib.Core.Bool.{true, false}
+use mathlib.Core.List.{List, [], _∷_}
+use lib.Dec.{ltb}
+use lib.ListN.{length, set}
+
+-- the place after what was put, and the buffer then
+pub data Wrote : Type 0 where
+  wrote : ℕ → List ℕ → Wrote
+
+-- each byte at its place, the next at the next; what does not fit is left out, and the place stays where the room ended
+unfoldable pub append : List ℕ → ℕ → List ℕ → Wrote
+append out at [] = wrote at out
+append out at (b ∷ bs) = elim (ltb at (length out)) [ true ↦ append (set out at b) (at + 1) bs | false ↦ wrote at out ]
+
+-- more bytes behind those that were put
+abbrev pub and-then : Wrote → List ℕ → Wrote
+and-then (wrote at out) bs = append out at bs

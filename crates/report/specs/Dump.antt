@@ -1,0 +1,101 @@
+-- The dump of a text: document 01, 'The dump'.
+use Prim.Native.Nat.{ℕ, zero, suc, _+_}
+use mathlib.Core.Bool.{Bool, true, false}
+use mathlib.Core.List.{List, [], _∷_, _++_}
+use lib.Dec.{eqb, ltb}
+use lib.ListN.{length}
+use Rattle.data.specs.Bytes.{space, line-feed}
+use Rattle.tape.specs.declared.token.Token.{Token}
+use Rattle.tape.specs.Token.{array-code, object-code, mixed-container-code, unquoted-code, quoted-code, parameter-code, undefined-parameter-code, operator-code, end-code, header-code}
+use Rattle.tape.specs.Words.{token-in}
+use Rattle.parse.specs.declared.Parsed.{Parsed}
+use Rattle.parse.specs.declared.Parsed.the-variants.{Tokens, Refused}
+use Rattle.parse.specs.declared.machine.Refusal.{Refusal}
+use Rattle.parse.specs.Parse.{Outcome, outcome, parse-of}
+use Rattle.parse.specs.Refusals.{number, place}
+use Rattle.report.specs.Digits.{decimal}
+use Rattle.report.specs.Words as words
+
+-- a code with the name of its tokens
+pub record Named : Type 0 where
+  pub code : ℕ
+  pub name : List ℕ
+
+abbrev pub names : List Named
+names =
+    record { code = array-code; name = words.array }
+    ∷ record { code = object-code; name = words.object }
+    ∷ record { code = mixed-container-code; name = words.mixed-container }
+    ∷ record { code = unquoted-code; name = words.unquoted }
+    ∷ record { code = quoted-code; name = words.quoted }
+    ∷ record { code = parameter-code; name = words.parameter }
+    ∷ record { code = undefined-parameter-code; name = words.undefined-parameter }
+    ∷ record { code = operator-code; name = words.operator }
+    ∷ record { code = end-code; name = words.end }
+    ∷ record { code = header-code; name = words.header }
+    ∷ []
+
+-- the name that a list of names has for a code; a code that it does not have has none
+unfoldable pub named : List Named → ℕ → List ℕ
+named [] code = []
+named (n ∷ ns) code = elim (eqb code (n .code)) [ true ↦ n .name | false ↦ named ns code ]
+
+unfoldable pub name-of : ℕ → List ℕ
+unfolding named
+name-of code = named names code
+
+-- a space and a number
+abbrev pub field : ℕ → List ℕ
+field n = space ∷ [] ++ decimal n
+
+-- index, name, a, b
+unfoldable pub line-of : ℕ → Token → List ℕ
+line-of i t = decimal i ++ (space ∷ []) ++ name-of (t .code) ++ field (t .a) ++ field (t .b) ++ (line-feed ∷ [])
+
+-- the lines of k tokens of n, from token i on
+unfoldable pub lines-from : List ℕ → ℕ → ℕ → ℕ → List ℕ
+lines-from ws n i zero = []
+lines-from ws n i (suc k) = line-of i (token-in ws n i) ++ lines-from ws n (i + 1) k
+
+-- 1 or 0
+abbrev pub bit : Bool → ℕ
+bit true = 1
+bit false = 0
+
+-- a header with count and BOM as 0 or 1
+unfoldable pub header-of : ℕ → Bool → List ℕ
+header-of count bom = words.tokens ++ decimal count ++ words.bom ++ decimal (bit bom) ++ (line-feed ∷ [])
+
+-- `refused NUMBER PLACE`
+unfoldable pub refused-of : Refusal → List ℕ
+refused-of r = words.refused ++ decimal (number r) ++ field (place r) ++ (line-feed ∷ [])
+
+-- the lines of an answer, with the words that it left
+unfoldable pub lines-of : Outcome → List ℕ
+lines-of (outcome (Tokens count bom) ws) = header-of count bom ++ lines-from ws count 0 count
+lines-of (outcome (Refused r) ws) = refused-of r
+
+-- the dump of a text with a tape of so many words
+unfoldable pub dump-of : List ℕ → ℕ → List ℕ
+unfolding lines-of
+dump-of text len = lines-of (parse-of text len)
+
+-- the words that a parse leaves
+abbrev pub left-by : Outcome → List ℕ
+left-by (outcome p ws) = ws
+
+-- the most bytes that the program reads
+abbrev pub most-input : ℕ
+most-input = 32768
+
+-- what the program prints: the dump of its input, or that the input is too long
+unfoldable pub save-of : List ℕ → ℕ → List ℕ
+save-of input len =
+    elim (ltb most-input (length input)) [
+      | true ↦ words.input-over ++ decimal most-input ++ (line-feed ∷ [])
+      | false ↦ dump-of input len
+    ]
+
+-- and the words that it leaves: an input that is too long is not parsed
+unfoldable pub save-leaves : List ℕ → List ℕ → List ℕ
+save-leaves input ws = elim (ltb most-input (length input)) [ true ↦ ws | false ↦ left-by (parse-of input (length ws)) ]

@@ -1,0 +1,7 @@
+pub mod Letters
+pub mod Words
+pub mod Append
+pub mod Digits
+pub mod Dump
+pub mod Readings
+pub mod Sheets

@@ -1,0 +1,15 @@
+// What the programs write: numbers, the dump of a text, and the answers that are compared with the Rust's, each put into a lent
+// buffer from a place on.
+
+// The dump of a text.
+pub mod dump;
+// Decimal and hexadecimal digits.
+pub mod numbers;
+// Bytes, as far as the buffer has room.
+pub mod put;
+// The readings of a scalar.
+pub mod readings;
+// What is said of a sheet.
+pub mod sheets;
+// A dump's lines.
+pub mod tokens;

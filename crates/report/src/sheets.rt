@@ -1,0 +1,72 @@
+// The answers about a sheet as lines, which are what records of the kinds `C` and `V` are answered with.
+use crate::numbers::put_decimal;
+use crate::numbers::put_hex;
+use crate::put::put_byte;
+use crate::put::put_bytes;
+use sheet::views::Viewed;
+ghost use mathlib.Core.Path.{_≡_};
+ghost use mathlib.Core.Bool.{true, false};
+ghost use lib.ListN.{length};
+ghost use Rattle.sheet.specs.Sound.{Sound};
+ghost use Rattle.sheet.specs.Views.{viewed};
+ghost use Rattle.report.specs.Append.{wrote, append};
+ghost use Rattle.report.specs.Sheets.{verdict, hex-bytes, view-text};
+
+// Puts whether the first count tokens of the words are a sound sheet for a text of a length.
+pub fn put_check(
+    out: &mut [u8],
+    at: usize,
+    text_length: usize,
+    words: &[u32],
+    count: usize,
+) -> usize
+    ensures sound { λ r. ⌜ (Sound «text_length» (now (words .entry)) count → wrote r (now (out .exit)) ≡ append (now (out .entry)) at (verdict true)) ⌝ }
+    ensures unsound { λ r. ⌜ ((Sound «text_length» (now (words .entry)) count → ⊥) → wrote r (now (out .exit)) ≡ append (now (out .entry)) at (verdict false)) ⌝ }
+{
+    if sheet::check(text_length, words, count) {
+        return put_bytes(out, at, b"sound\n");
+    }
+    put_bytes(out, at, b"unsound\n")
+}
+
+// Puts bytes as hexadecimal digits, two each.
+pub fn put_hex_bytes(out: &mut [u8], at: usize, bytes: &[u8]) -> usize
+    ensures { λ r. ⌜ wrote r (now (out .exit)) ≡ append (now (out .entry)) at (hex-bytes (now (bytes .entry))) ⌝ }
+{
+    let mut next = at;
+    let mut i = 0;
+    while i < bytes.len() {
+        next = put_hex(out, next, bytes[i] as u64, 2);
+        i += 1;
+    }
+    next
+}
+
+// Puts the part of the text that a token views, or the refusal's number.
+pub fn put_view(
+    out: &mut [u8],
+    at: usize,
+    text: &[u8],
+    words: &[u32],
+    count: usize,
+    index: usize,
+) -> usize
+    ensures { λ r. ⌜ wrote r (now (out .exit)) ≡ append (now (out .entry)) at (view-text (now (text .entry)) (viewed (length (now (text .entry))) (now (words .entry)) count index)) ⌝ }
+{
+    let found = sheet::views::view_of(text, words, count, index);
+    match found {
+        Viewed::At {
+            offset: _,
+            length: _,
+        } => {
+            let word = put_bytes(out, at, b"view ");
+            let bytes = put_hex_bytes(out, word, sheet::views::view(text, words, count, index));
+            put_byte(out, bytes, b'\n')
+        }
+        Viewed::NoScalar => {
+            let word = put_bytes(out, at, b"refused ");
+            let number = put_decimal(out, word, found.refusal() as u64);
+            put_byte(out, number, b'\n')
+        }
+    }
+}
