@@ -1,0 +1,89 @@
+//! Chooses the sample of recorded answers: `record FOLDER` writes FOLDER/stdin and FOLDER/stdout.
+//!
+//! Document 01's own cases, the limits of a record, and then cases of seed 1 in order: each that
+//! shows something that fewer than enough of those before it showed, and some at random. A record
+//! of an unknown kind is the last that is answered.
+
+use compare::generate::Generator;
+use compare::record::{Record, serve};
+use compare::rng::Rng;
+use compare::tally::{Tally, features};
+use compare::{edges, oracle};
+use std::collections::{BTreeSet, HashMap};
+use std::path::Path;
+use std::{env, fs, io};
+
+const LOOKED_AT: usize = 400_000;
+const LONGEST: usize = 160;
+const ENOUGH: usize = 20;
+const ENOUGH_OF_A_FORM: usize = 3;
+
+fn main() -> io::Result<()> {
+    let folder = env::args().nth(1).expect("record FOLDER");
+    let mut sample = edges::records();
+    sample.extend(limits());
+    let mut tally = Tally::default();
+    let mut seen: HashMap<String, usize> = HashMap::new();
+    let mut chance = Rng::new(1);
+    for record in sample.clone() {
+        choose(&record, &mut seen, &mut tally);
+    }
+    for record in Generator::new(1).take(LOOKED_AT) {
+        if record.body.len() > LONGEST || sample.contains(&record) {
+            continue;
+        }
+        if shows_more(&record, &seen) || chance.below(400) == 0 {
+            choose(&record, &mut seen, &mut tally);
+            sample.push(record);
+        }
+    }
+    let mut input: Vec<u8> = sample.iter().flat_map(Record::bytes).collect();
+    input.extend(Record { kind: b'?', capacity: 0, body: Vec::new() }.bytes());
+    input.extend(Record::scalar(b"10".to_vec()).bytes());
+    let mut output = Vec::new();
+    serve(&mut input.as_slice(), &mut output, oracle::answer)?;
+    println!("{tally}\n{} records, {} bytes", sample.len(), input.len());
+    println!("never reached: {:?}", tally.missing());
+    fs::write(Path::new(&folder).join("stdin"), input)?;
+    fs::write(Path::new(&folder).join("stdout"), output)
+}
+
+/// Texts at the limits of a record: as many bytes and as many tokens as it may have.
+fn limits() -> Vec<Record> {
+    let longest = [b"a=".as_slice(), &[b'b'; 32_766]].concat();
+    let just_room = b"a=b ".repeat(2_500);
+    let one_over = [just_room.as_slice(), b"a"].concat();
+    [longest, just_room, one_over].map(|text| Record::text(text, 5_000)).into()
+}
+
+fn answer(record: &Record) -> String {
+    let mut answer = String::new();
+    oracle::answer(record.question().expect("a good record"), &mut answer);
+    answer
+}
+
+/// What a case shows, each with how many of it are enough: the features that a run counts, which
+/// tokens stand beside each other, and which answers come together.
+fn shown(record: &Record) -> BTreeSet<(String, usize)> {
+    let answer = answer(record);
+    let found = features(record, &answer);
+    let forms = if record.kind == b'S' {
+        vec![found.iter().map(|(_, name)| name.as_str()).collect::<Vec<_>>().join(" ")]
+    } else {
+        let tokens: Vec<&str> = answer.lines().filter_map(|line| line.split(' ').nth(1)).collect();
+        tokens.windows(2).map(|pair| pair.join(" then ")).collect()
+    };
+    let features = found.iter().map(|(heading, name)| (format!("{heading} {name}"), ENOUGH));
+    features.chain(forms.into_iter().map(|form| (form, ENOUGH_OF_A_FORM))).collect()
+}
+
+fn shows_more(record: &Record, seen: &HashMap<String, usize>) -> bool {
+    shown(record).iter().any(|(name, enough)| seen.get(name).is_none_or(|times| times < enough))
+}
+
+fn choose(record: &Record, seen: &mut HashMap<String, usize>, tally: &mut Tally) {
+    for (name, _) in shown(record) {
+        *seen.entry(name).or_default() += 1;
+    }
+    tally.count(record, &answer(record));
+}

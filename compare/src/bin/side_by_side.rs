@@ -1,0 +1,173 @@
+//! The Rust and our program beside each other: see `compare/run`.
+
+use compare::generate::{self, Generator};
+use compare::model::boundary;
+use compare::pipe::{answers, ask, from_hex, hex};
+use compare::record::Record;
+use compare::rng::Rng;
+use compare::tally::Tally;
+use compare::{oracle, standin};
+use std::time::Instant;
+use std::{env, io, process};
+
+/// How many cases go through the pipes at once.
+const BATCH: usize = 4_000;
+
+fn main() -> io::Result<()> {
+    let arguments: Vec<String> = env::args().skip(1).collect();
+    let number = |i: usize, default: u64| match arguments.get(i) {
+        Some(word) => word.parse().unwrap_or_else(|_| usage()),
+        None => default,
+    };
+    let good = match arguments.first().map(String::as_str) {
+        Some("--case") => replay(arguments.get(1).unwrap_or_else(|| usage()))?,
+        Some("--probe") => probe(),
+        Some("--self-test") => self_test(number(1, 1), number(2, 1_000_000) as usize)?,
+        _ => compare(&ours(), number(0, 1), number(1, 1_000_000) as usize)?,
+    };
+    process::exit(if good { 0 } else { 1 });
+}
+
+fn usage() -> ! {
+    eprintln!("run [SEED] [N] | --case HEX | --probe | --self-test [SEED] [N]");
+    process::exit(2);
+}
+
+/// Our program, as a command: its path, with what it runs under in front where it needs that.
+fn ours() -> Vec<String> {
+    let command = env::var("ANSWERS").unwrap_or_else(|_| "target/bin/answers".to_string());
+    command.split_whitespace().map(str::to_string).collect()
+}
+
+/// A program that was built with this one.
+fn beside(name: &str) -> String {
+    env::current_exe().unwrap().with_file_name(name).display().to_string()
+}
+
+/// The first case on which two sides differ: what was asked, and both answers.
+struct Difference {
+    case: usize,
+    record: Vec<u8>,
+    rust: String,
+    ours: String,
+}
+
+/// Asks both sides the same and finds the first answer that differs.
+fn ask_both(ours: &[String], records: &[Vec<u8>]) -> io::Result<(Vec<u8>, Option<Difference>)> {
+    let input = records.concat();
+    let (rust, rust_end) = ask(&[beside("oracle")], &input)?;
+    let (our, our_end) = ask(ours, &input)?;
+    if rust == our && our_end.is_none() {
+        return Ok((rust, rust_end.map(|end| panic!("the oracle ended with {end}"))));
+    }
+    let (rust_answers, our_answers) = (answers(&rust), answers(&our));
+    let shown = |answers: &[&[u8]], i: usize, end: &Option<String>| match answers.get(i) {
+        Some(answer) => String::from_utf8_lossy(answer).into_owned(),
+        None => format!("no answer ({})\n", end.as_deref().unwrap_or("ended well")),
+    };
+    let all = rust_answers.len().max(our_answers.len());
+    let case = (0..all).find(|&i| rust_answers.get(i) != our_answers.get(i)).unwrap_or(all);
+    let difference = Difference {
+        case,
+        record: records.get(case).cloned().unwrap_or_default(),
+        rust: shown(&rust_answers, case, &rust_end),
+        ours: shown(&our_answers, case, &our_end),
+    };
+    Ok((rust, Some(difference)))
+}
+
+fn show(difference: &Difference) {
+    let Difference { record, rust, ours, .. } = difference;
+    let body = record.get(5..).unwrap_or_default();
+    println!("asked  {}", hex(record));
+    println!("body   {:?}", String::from_utf8_lossy(&body[..body.len().min(400)]));
+    println!("the Rust:\n{rust}ours:\n{ours}replay with  compare/run --case {}", hex(record));
+}
+
+/// Runs cases until a side differs; the number of the case that did, counted from 1, and it.
+fn first_difference(
+    ours: &[String],
+    seed: u64,
+    cases: usize,
+    tally: &mut Tally,
+) -> io::Result<(usize, Option<(usize, Difference)>)> {
+    let mut generator = Generator::new(seed);
+    let mut chance = Rng::new(!seed);
+    let mut done = 0;
+    while done < cases {
+        let batch = BATCH.min(cases - done);
+        let asked: Vec<Record> = generator.by_ref().take(batch).collect();
+        let mut records: Vec<Vec<u8>> = asked.iter().map(Record::bytes).collect();
+        records.push(generate::bad(&mut chance));
+        let (output, difference) = ask_both(ours, &records)?;
+        if let Some(difference) = difference {
+            return Ok((generator.left_out, Some((done + difference.case + 1, difference))));
+        }
+        for (record, answer) in asked.iter().zip(answers(&output)) {
+            tally.count(record, &String::from_utf8_lossy(answer));
+        }
+        done += batch;
+    }
+    Ok((generator.left_out, None))
+}
+
+fn compare(ours: &[String], seed: u64, cases: usize) -> io::Result<bool> {
+    let start = Instant::now();
+    let mut tally = Tally::default();
+    let (left_out, found) = first_difference(ours, seed, cases, &mut tally)?;
+    if let Some((case, difference)) = &found {
+        println!("seed {seed}: case {case} of {cases} differs");
+        show(difference);
+        return Ok(false);
+    }
+    println!("{tally}");
+    for missing in tally.missing() {
+        println!("never reached: {missing}");
+    }
+    let seconds = start.elapsed().as_secs();
+    println!("seed {seed}: {cases} cases, no difference, {seconds} s");
+    println!("a bad record after each {BATCH}; {left_out} texts outside the domain left out");
+    Ok(true)
+}
+
+fn replay(case: &str) -> io::Result<bool> {
+    let record = from_hex(case).unwrap_or_else(|| usage());
+    let (output, difference) = ask_both(&ours(), &[record])?;
+    match &difference {
+        Some(difference) => show(difference),
+        None => print!("both:\n{}", String::from_utf8_lossy(&output)),
+    }
+    Ok(difference.is_none())
+}
+
+/// Asks the Rust about each of the 256 bytes: its table, its strides, and the thirteen.
+fn probe() -> bool {
+    let strides = |byte: u8| {
+        let text = [b"k=x".as_slice(), &[byte], b"xxx ", &[b'y'; 40]].concat();
+        oracle::parse(&text).words[5] == 1
+    };
+    let all = |test: &dyn Fn(u8) -> bool| -> Vec<u8> { (0..=255).filter(|&b| test(b)).collect() };
+    println!("boundary bytes of document 01:  {:?}", all(&boundary));
+    println!("boundary bytes of the strides:  {:?}", all(&strides));
+    println!("boundary bytes of the fallback: {:?}", all(&jomini::fallback_boundary));
+    println!("strides and thirteen disagree:  {:?}", all(&|b| strides(b) != boundary(b)));
+    let disputed = all(&|b| jomini::fallback_boundary(b) != boundary(b));
+    println!("fallback and thirteen disagree: {disputed:?}");
+    true
+}
+
+/// The comparison tried on the model: no difference, and each fault found within 10,000 cases.
+fn self_test(seed: u64, cases: usize) -> io::Result<bool> {
+    let mut good = compare(&[beside("standin")], seed, cases)?;
+    for (fault, _) in standin::FAULTS {
+        let ours = [beside("standin"), fault.to_string()];
+        match first_difference(&ours, seed, 10_000, &mut Tally::default())?.1 {
+            Some((case, _)) => println!("fault {fault}: found by case {case}"),
+            None => {
+                println!("fault {fault}: not found in 10000 cases");
+                good = false;
+            }
+        }
+    }
+    Ok(good)
+}

@@ -1,0 +1,135 @@
+//! Cases by seed: document 01's own at the head of a run, then the short ones in order and among
+//! them a mix.
+
+use crate::record::{LONGEST, MOST_TOKENS, Record};
+use crate::rng::Rng;
+use crate::{domain, edges, oracle, scalars, sheets, texts};
+
+/// All cases of one seed, one after another.
+pub struct Generator {
+    rng: Rng,
+    edges: std::vec::IntoIter<Record>,
+    made: usize,
+    texts: usize,
+    scalars: usize,
+    sheets: usize,
+    /// Texts that were made and lie outside the domain.
+    pub left_out: usize,
+}
+
+/// At the head every second case is one of the short ones, later every fourth.
+const HEAD: usize = 16_000;
+
+impl Generator {
+    pub fn new(seed: u64) -> Self {
+        let (rng, edges) = (Rng::new(seed), edges::records().into_iter());
+        Generator { rng, edges, made: 0, texts: 0, scalars: 0, sheets: 0, left_out: 0 }
+    }
+
+    fn take(number: &mut usize) -> usize {
+        *number += 1;
+        *number - 1
+    }
+
+    /// The next short case, while there is one.
+    fn short(&mut self) -> Option<Record> {
+        match self.rng.below(8) {
+            0 => scalars::short(Self::take(&mut self.scalars)).map(Record::scalar),
+            1 => sheets::short(Self::take(&mut self.sheets)),
+            _ => loop {
+                let text = texts::short(Self::take(&mut self.texts))?;
+                if domain::inside(&text) {
+                    return Some(self.with_room(text));
+                }
+                self.left_out += 1;
+            },
+        }
+    }
+
+    fn text(&mut self) -> Record {
+        loop {
+            let large = self.rng.below(1500) == 0;
+            let mut text =
+                if large { texts::large(&mut self.rng) } else { texts::any(&mut self.rng) };
+            if self.rng.chance(2) {
+                texts::sprinkle(&mut self.rng, &mut text, b"!!\x0b\x0c");
+            }
+            if text.len() <= LONGEST && domain::inside(&text) {
+                return self.with_room(text);
+            }
+            self.left_out += 1;
+        }
+    }
+
+    /// A text with room for just what it needs, for one token less, or for anything else.
+    fn with_room(&mut self, text: Vec<u8>) -> Record {
+        let need = oracle::parse(&text).need();
+        let most = usize::from(MOST_TOKENS);
+        let capacity = match self.rng.weighted(&[44, 18, 15, 14, 3, 6]) {
+            0 => most,
+            1 => need,
+            2 => need.saturating_sub(1),
+            3 => self.rng.below(need + 1),
+            4 => 0,
+            _ => self.rng.between(0, most),
+        };
+        Record::text(text, capacity.min(most) as u16)
+    }
+}
+
+impl Iterator for Generator {
+    type Item = Record;
+
+    fn next(&mut self) -> Option<Record> {
+        if let Some(edge) = self.edges.next() {
+            return Some(edge);
+        }
+        let every = if self.made < HEAD { 2 } else { 4 };
+        self.made += 1;
+        if self.made % every == 0
+            && let Some(record) = self.short()
+        {
+            return Some(record);
+        }
+        Some(match self.rng.weighted(&[52, 24, 16, 8]) {
+            0 => self.text(),
+            1 => Record::scalar(scalars::any(&mut self.rng)),
+            2 => sheets::check(&mut self.rng),
+            _ => sheets::view(&mut self.rng),
+        })
+    }
+}
+
+/// Bytes that end in a bad record, of every way to be bad: the answer is `bad record`, whatever
+/// comes behind.
+pub fn bad(rng: &mut Rng) -> Vec<u8> {
+    let good = Record::text(texts::any(rng), 100);
+    let mut bytes = match rng.below(8) {
+        // cut short: these end the input
+        0 => {
+            let mut bytes = good.bytes();
+            bytes.truncate(rng.between(1, 4));
+            return bytes;
+        }
+        1 => {
+            let mut bytes = Record::text(b"a=b".to_vec(), 9).bytes();
+            bytes.truncate(rng.between(5, 7));
+            return bytes;
+        }
+        2 => Record { kind: *rng.pick(b"AUtsv\0\n"), ..good.clone() }.bytes(),
+        3 => Record { capacity: rng.between(5_001, 65_535) as u16, ..good.clone() }.bytes(),
+        4 => Record { body: vec![b' '; rng.between(32_769, 65_535)], ..good.clone() }.bytes(),
+        5 => {
+            let length = *rng.pick(&[0, 1, 7, 9, 10, 11, 13, 21]);
+            Record { kind: b'C', capacity: 0, body: vec![0; length] }.bytes()
+        }
+        6 => Record { kind: b'V', capacity: 0, body: vec![0; rng.below(10)] }.bytes(),
+        _ => {
+            let mut record = Record::view(0, 1, &[4, 0, 1], b"");
+            record.body.pop();
+            record.bytes()
+        }
+    };
+    bytes.extend(good.bytes());
+    bytes
+}

@@ -1,0 +1,16 @@
+//! The real Rust beside our programs, to the byte: see README.md.
+
+pub mod domain;
+pub mod edges;
+pub mod generate;
+pub mod model;
+pub mod oracle;
+pub mod pipe;
+pub mod record;
+pub mod rng;
+pub mod scalars;
+pub mod sheet;
+pub mod sheets;
+pub mod standin;
+pub mod tally;
+pub mod texts;

@@ -1,0 +1,226 @@
+//! The records: a kind, a capacity, a length, and that many bytes. Whoever answers them fills in
+//! one function a kind; what a record is, and where the answering stops, is said here once.
+
+use std::io::{self, Read, Write};
+
+pub const LONGEST: usize = 32_768;
+pub const MOST_TOKENS: u16 = 5_000;
+
+#[derive(Clone, Debug, PartialEq, Eq)]
+pub struct Record {
+    pub kind: u8,
+    pub capacity: u16,
+    pub body: Vec<u8>,
+}
+
+impl Record {
+    pub fn text(text: Vec<u8>, capacity: u16) -> Self {
+        Record { kind: b'T', capacity, body: text }
+    }
+
+    pub fn scalar(bytes: Vec<u8>) -> Self {
+        Record { kind: b'S', capacity: 0, body: bytes }
+    }
+
+    pub fn check(length: u32, count: u32, words: &[u32]) -> Self {
+        let body = [length, count].iter().chain(words).flat_map(|w| w.to_be_bytes()).collect();
+        Record { kind: b'C', capacity: 0, body }
+    }
+
+    pub fn view(index: u32, count: u32, words: &[u32], text: &[u8]) -> Self {
+        let mut body: Vec<u8> = [index, count].iter().flat_map(|w| w.to_be_bytes()).collect();
+        body.extend((words.len() as u16).to_be_bytes());
+        body.extend(words.iter().flat_map(|w| w.to_be_bytes()));
+        body.extend(text);
+        Record { kind: b'V', capacity: 0, body }
+    }
+
+    pub fn bytes(&self) -> Vec<u8> {
+        let mut bytes = vec![self.kind];
+        bytes.extend(self.capacity.to_be_bytes());
+        bytes.extend((self.body.len() as u16).to_be_bytes());
+        bytes.extend(&self.body);
+        bytes
+    }
+}
+
+/// A record's body, taken apart.
+pub enum Question<'r> {
+    Text { text: &'r [u8], capacity: usize },
+    Scalar { bytes: &'r [u8] },
+    Check { length: u32, count: u32, words: Vec<u32> },
+    View { index: u32, count: u32, words: Vec<u32>, text: &'r [u8] },
+}
+
+fn words(bytes: &[u8]) -> Vec<u32> {
+    bytes.chunks_exact(4).map(|w| u32::from_be_bytes(w.try_into().unwrap())).collect()
+}
+
+impl Record {
+    /// What the record asks, or nothing where it is a bad record.
+    pub fn question(&self) -> Option<Question<'_>> {
+        let body = self.body.as_slice();
+        if body.len() > LONGEST {
+            return None;
+        }
+        match self.kind {
+            b'T' if self.capacity > MOST_TOKENS => None,
+            b'T' => Some(Question::Text { text: body, capacity: usize::from(self.capacity) }),
+            b'S' => Some(Question::Scalar { bytes: body }),
+            b'C' => {
+                let (head, rest) = body.split_first_chunk::<8>()?;
+                let head = words(head);
+                let even = rest.len() % 4 == 0;
+                even.then(|| Question::Check {
+                    length: head[0],
+                    count: head[1],
+                    words: words(rest),
+                })
+            }
+            b'V' => {
+                let (head, rest) = body.split_first_chunk::<10>()?;
+                let bytes = 4 * usize::from(u16::from_be_bytes([head[8], head[9]]));
+                let (sheet, text) = rest.split_at_checked(bytes)?;
+                let head = words(&head[..8]);
+                Some(Question::View { index: head[0], count: head[1], words: words(sheet), text })
+            }
+            _ => None,
+        }
+    }
+}
+
+/// The next record: nothing at the input's end, an error where it is cut short.
+fn read(input: &mut impl Read) -> io::Result<Option<Record>> {
+    let mut kind = [0];
+    if input.read(&mut kind)? == 0 {
+        return Ok(None);
+    }
+    let mut head = [0; 4];
+    input.read_exact(&mut head)?;
+    let length = u16::from_be_bytes([head[2], head[3]]);
+    let mut body = vec![0; usize::from(length)];
+    input.read_exact(&mut body)?;
+    Ok(Some(Record { kind: kind[0], capacity: u16::from_be_bytes([head[0], head[1]]), body }))
+}
+
+/// Answers every record of the input; `bad record` is the last line where one is bad.
+pub fn serve(
+    input: &mut impl Read,
+    output: &mut impl Write,
+    answer: impl Fn(Question<'_>, &mut String),
+) -> io::Result<()> {
+    let mut line = String::new();
+    loop {
+        let record = match read(input) {
+            Ok(None) => return output.flush(),
+            Ok(Some(record)) => Some(record),
+            Err(_) => None,
+        };
+        line.clear();
+        let Some(question) = record.as_ref().and_then(Record::question) else {
+            output.write_all(b"bad record\n")?;
+            return output.flush();
+        };
+        answer(question, &mut line);
+        output.write_all(line.as_bytes())?;
+    }
+}
+
+// ---- What the answers look like ----
+
+pub const NAMES: [&str; 11] = [
+    "",
+    "Array",
+    "Object",
+    "MixedContainer",
+    "Unquoted",
+    "Quoted",
+    "Parameter",
+    "UndefinedParameter",
+    "Operator",
+    "End",
+    "Header",
+];
+
+use std::fmt::Write as _;
+
+/// The dump's lines for a tape.
+pub fn write_tape(out: &mut String, words: &[u32], bom: bool) {
+    writeln!(out, "tokens {} bom {}", words.len() / 3, u8::from(bom)).unwrap();
+    for (i, token) in words.chunks_exact(3).enumerate() {
+        let name = NAMES[token[0] as usize];
+        writeln!(out, "{i} {name} {} {}", token[1], token[2]).unwrap();
+    }
+}
+
+pub fn write_refusal(out: &mut String, number: u8, place: usize) {
+    writeln!(out, "refused {number} {place}").unwrap();
+}
+
+/// A reading's value after `=`, or its refusal's number.
+pub fn reading<T: ToString>(reading: Result<T, u8>) -> String {
+    reading.map_or_else(|number| number.to_string(), |value| format!("={}", value.to_string()))
+}
+
+pub fn bits(float: f64) -> String {
+    format!("{:016x}", float.to_bits())
+}
+
+/// One line for a view; the empty view is `view` and a space, with nothing after it.
+pub fn write_view<E>(out: &mut String, view: Result<&[u8], E>) {
+    match view {
+        Err(_) => out.push_str("refused 12\n"),
+        Ok(bytes) => {
+            out.push_str("view ");
+            bytes.iter().for_each(|b| write!(out, "{b:02x}").unwrap());
+            out.push('\n');
+        }
+    }
+}
+
+pub fn write_sound(out: &mut String, sound: bool) {
+    out.push_str(if sound { "sound\n" } else { "unsound\n" });
+}
+
+#[cfg(test)]
+mod tests {
+    use super::*;
+
+    fn served(input: &[u8]) -> String {
+        let mut output = Vec::new();
+        serve(&mut &input[..], &mut output, |_, line| line.push_str("answer\n")).unwrap();
+        String::from_utf8(output).unwrap()
+    }
+
+    #[test]
+    fn good_records_are_answered_to_the_end() {
+        let good = [
+            Record::text(vec![b' '; LONGEST], MOST_TOKENS),
+            Record::scalar(Vec::new()),
+            Record::check(0, 0, &[]),
+            Record::view(0, 0, &[1], b""),
+            Record { capacity: 65_535, ..Record::scalar(Vec::new()) },
+        ];
+        let input: Vec<u8> = good.iter().flat_map(Record::bytes).collect();
+        assert_eq!(served(&input), "answer\n".repeat(good.len()));
+        assert_eq!(served(&input[..input.len() - 1]), "answer\n".repeat(4) + "bad record\n");
+    }
+
+    #[test]
+    fn a_bad_record_ends_it() {
+        let good = Record::scalar(b"1".to_vec());
+        let body = |kind, length| Record { kind, capacity: 0, body: vec![0; length] };
+        for bad in [
+            body(b'X', 0),
+            body(b'T', LONGEST + 1),
+            body(b'C', 7),
+            body(b'C', 9),
+            body(b'V', 9),
+            Record::text(Vec::new(), MOST_TOKENS + 1),
+            Record { body: vec![0, 0, 0, 0, 0, 0, 0, 0, 0, 1, 0, 0, 0], ..body(b'V', 0) },
+        ] {
+            let input = [good.bytes(), bad.bytes(), good.bytes()].concat();
+            assert_eq!(served(&input), "answer\nbad record\n");
+        }
+    }
+}

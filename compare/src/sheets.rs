@@ -1,0 +1,234 @@
+//! Sheets to check and views to ask for: made by parsing, whole and with something changed.
+
+use crate::oracle;
+use crate::record::Record;
+use crate::rng::Rng;
+use crate::texts;
+
+struct Sheet {
+    text: Vec<u8>,
+    words: Vec<u32>,
+    count: u32,
+}
+
+/// The sheet of some text that parses. What the Rust laid before a refusal counts as one, too.
+fn parsed(rng: &mut Rng) -> Sheet {
+    loop {
+        let text = texts::any(rng);
+        let parsed = oracle::parse(&text);
+        if parsed.words.len() <= 600 && (parsed.refusal.is_none() || rng.chance(4)) {
+            let count = (parsed.words.len() / 3) as u32;
+            return Sheet { text, words: parsed.words, count };
+        }
+    }
+}
+
+/// The small sheets in order: every lone token with small words, over texts of up to two bytes.
+pub fn short(number: usize) -> Option<Record> {
+    let (code, a, b) = (number % 13, number / 13 % 10, number / 130 % 4);
+    let length = number / 520;
+    (length < 3).then(|| Record::check(length as u32, 1, &[code as u32, a as u32, b as u32]))
+}
+
+pub fn check(rng: &mut Rng) -> Record {
+    let mut sheet = parsed(rng);
+    let mut length = sheet.text.len() as u32;
+    match rng.weighted(&[16, 18, 8, 6, 6, 6, 6, 6, 3, 35]) {
+        0 => {}
+        1 => change(rng, &mut sheet),
+        2 => {
+            change(rng, &mut sheet);
+            change(rng, &mut sheet);
+        }
+        3 => sheet.count = near(rng, sheet.count),
+        4 => length = shorter(rng, &sheet),
+        5 => cross(rng, &mut sheet),
+        6 => move_tokens(rng, &mut sheet),
+        7 => scalars_only(rng, &mut sheet),
+        8 => behead(&mut sheet),
+        _ => bend(rng, &mut sheet),
+    }
+    spare(rng, &mut sheet);
+    Record::check(length, sheet.count, &sheet.words)
+}
+
+pub fn view(rng: &mut Rng) -> Record {
+    let mut sheet = parsed(rng);
+    match rng.weighted(&[45, 25, 15, 15]) {
+        0 => {}
+        1 => change(rng, &mut sheet),
+        2 => sheet.count = near(rng, sheet.count),
+        _ => edge_view(rng, &mut sheet),
+    }
+    spare(rng, &mut sheet);
+    let index = match rng.below(5) {
+        0 => near(rng, sheet.count),
+        _ => rng.below(sheet.count.clamp(1, 1000) as usize) as u32,
+    };
+    Record::view(index, sheet.count, &sheet.words, &sheet.text)
+}
+
+/// Words behind the tokens, which are ignored, or words that are missing.
+fn spare(rng: &mut Rng, sheet: &mut Sheet) {
+    match rng.below(12) {
+        0 => sheet.words.resize(sheet.words.len() + rng.between(1, 7), 0),
+        1 => (0..rng.between(1, 4)).for_each(|_| sheet.words.push(rng.word() as u32)),
+        2 => sheet.words.truncate(sheet.words.len().saturating_sub(rng.between(1, 4))),
+        _ => {}
+    }
+}
+
+/// A number beside this one, or one that three times makes run over.
+fn near(rng: &mut Rng, number: u32) -> u32 {
+    match rng.below(8) {
+        0 => 0,
+        1 => number.saturating_add(1),
+        2 => number.saturating_sub(1),
+        3 => number.saturating_add(rng.below(4) as u32),
+        4 => rng.below(number as usize + 1) as u32,
+        5 => {
+            *rng.pick(&[0x5555_5555, 0x5555_5556, 0xaaaa_aaab, 0x5555_5557, 0x8000_0000, u32::MAX])
+        }
+        6 => rng.word() as u32,
+        _ => number,
+    }
+}
+
+/// One word becomes another: beside it, out of the sheet, or out of all bounds.
+fn change(rng: &mut Rng, sheet: &mut Sheet) {
+    if sheet.words.is_empty() {
+        sheet.words.extend([rng.below(12) as u32, rng.below(3) as u32, rng.below(3) as u32]);
+        sheet.count = 1;
+        return;
+    }
+    let at = rng.below(sheet.words.len());
+    sheet.words[at] = match rng.below(8) {
+        0 | 1 => sheet.words[at].wrapping_add(1),
+        2 | 3 => sheet.words[at].wrapping_sub(1),
+        4 => rng.below(12) as u32,
+        5 => *rng.pick(&sheet.words),
+        6 => sheet.text.len() as u32 - rng.below(2).min(sheet.text.len()) as u32,
+        _ => *rng.pick(&[0, 1, 2, 2, u32::MAX, 0x8000_0000, 0x7fff_ffff]),
+    };
+}
+
+/// One token is bent where its kind can be: just past a limit, or to its neighbour.
+fn bend(rng: &mut Rng, sheet: &mut Sheet) {
+    if sheet.words.is_empty() {
+        return;
+    }
+    let token = 3 * rng.below(sheet.words.len() / 3);
+    let one_off = if rng.chance(50) { 1 } else { u32::MAX };
+    let (code, a) = (sheet.words[token], sheet.words[token + 1]);
+    let (word, value) = match (code, rng.below(4)) {
+        (1 | 2, 0) => (0, 3 - code),
+        (1 | 2, 1) => (2, 2),
+        (3, i @ 0..2) => (1 + i, 1),
+        (4..=7 | 10, 0) => (0, *rng.pick(&[4, 5, 6, 7, 10, 10, 10])),
+        (4..=7 | 10, 1) => (2, 0),
+        (4..=7 | 10, 2) => (2, (sheet.text.len() as u32 + rng.below(2) as u32).wrapping_sub(a)),
+        (8, 0) => (1, *rng.pick(&[0, 9])),
+        (8, 1) => (1, rng.between(1, 8) as u32),
+        (8 | 9, 2) => (2, 1),
+        _ => (1, a.wrapping_add(one_off)),
+    };
+    sheet.words[token + word] = value;
+    if sheet.words[token] == 10 && rng.chance(30) {
+        sheet.count = token as u32 / 3 + 1;
+    }
+}
+
+fn shorter(rng: &mut Rng, sheet: &Sheet) -> u32 {
+    let scalars = sheet.words.chunks_exact(3).filter(|token| matches!(token[0], 4..=7 | 10));
+    let end = scalars.map(|token| token[1] + token[2]).max().unwrap_or(0);
+    match rng.below(4) {
+        0 => end.saturating_sub(1),
+        1 => end,
+        2 => rng.below(end as usize + 1) as u32,
+        _ => *rng.pick(&[0, end + 1, u32::MAX]),
+    }
+}
+
+/// Two containers, one in the other, exchange their Ends, and all four links say so.
+fn cross(rng: &mut Rng, sheet: &mut Sheet) {
+    let opens = |words: &[u32], i: u32| matches!(words[3 * i as usize], 1 | 2);
+    let openers: Vec<u32> = (0..sheet.count).filter(|&i| opens(&sheet.words, i)).collect();
+    if openers.len() < 2 {
+        return;
+    }
+    let (i, j) = (*rng.pick(&openers) as usize, *rng.pick(&openers) as usize);
+    let (end_i, end_j) = (sheet.words[3 * i + 1], sheet.words[3 * j + 1]);
+    if end_i < sheet.count && end_j < sheet.count {
+        sheet.words[3 * i + 1] = end_j;
+        sheet.words[3 * j + 1] = end_i;
+        sheet.words[3 * end_j as usize + 1] = i as u32;
+        sheet.words[3 * end_i as usize + 1] = j as u32;
+    }
+}
+
+/// Two tokens change places, one is doubled, or one goes.
+fn move_tokens(rng: &mut Rng, sheet: &mut Sheet) {
+    if sheet.count == 0 {
+        return;
+    }
+    let (i, j) = (3 * rng.below(sheet.count as usize), 3 * rng.below(sheet.count as usize));
+    match rng.below(3) {
+        0 => (0..3).for_each(|word| sheet.words.swap(i + word, j + word)),
+        1 => {
+            let token = sheet.words[i..i + 3].to_vec();
+            sheet.words.splice(i..i, token);
+            sheet.count += 1;
+        }
+        _ => {
+            sheet.words.drain(i..i + 3);
+            sheet.count -= 1;
+        }
+    }
+}
+
+/// The tokens before the first opener go, and all links move with them.
+fn behead(sheet: &mut Sheet) {
+    let tokens = sheet.words.chunks_exact(3);
+    let Some(first) = tokens.clone().position(|token| matches!(token[0], 1 | 2)) else { return };
+    let links = |token: &[u32]| matches!(token[0], 1 | 2 | 9);
+    let moved =
+        |token: &[u32]| if links(token) { token[1].saturating_sub(first as u32) } else { token[1] };
+    sheet.words = tokens.skip(first).flat_map(|token| [token[0], moved(token), token[2]]).collect();
+    sheet.count -= first as u32;
+}
+
+/// A sheet of scalars alone, close together, whose views touch, overlap or are empty.
+fn scalars_only(rng: &mut Rng, sheet: &mut Sheet) {
+    sheet.words.clear();
+    let mut at = 0;
+    for _ in 0..rng.between(1, 6) {
+        let code = *rng.pick(&[4, 5, 5, 5, 6, 7, 3, 8, 4, 10]);
+        let length = if code == 5 && rng.chance(50) { 0 } else { rng.below(3) as u32 };
+        match code {
+            3 => sheet.words.extend([3, 0, 0]),
+            8 => sheet.words.extend([8, rng.below(10) as u32, 0]),
+            _ => {
+                sheet.words.extend([code, at, length]);
+                at = (at + length + rng.below(3) as u32).saturating_sub(rng.below(2) as u32);
+            }
+        }
+    }
+    sheet.count = (sheet.words.len() / 3) as u32;
+    sheet.text.resize(at as usize + rng.below(3), b'a');
+}
+
+/// A scalar whose view ends just at the text's end, just past it, or past every number.
+fn edge_view(rng: &mut Rng, sheet: &mut Sheet) {
+    let length = sheet.text.len() as u32;
+    let code = *rng.pick(&[4, 5, 6, 7, 10]);
+    let (a, b) = match rng.below(6) {
+        0 => (0, length),
+        1 => (length, 0),
+        2 => (length, 1),
+        3 => (length + 1, 0),
+        4 => (u32::MAX, rng.between(1, 3) as u32),
+        _ => (rng.below(3) as u32, u32::MAX - rng.below(3) as u32),
+    };
+    sheet.words.splice(0..0, [code, a, b]);
+    sheet.count += 1;
+}

@@ -1,0 +1,56 @@
+//! The model's answers, for testing the comparison, and the faults that it can be given.
+
+use crate::model::{self, F64Refusal, Refusal};
+use crate::record::{self, Question, bits, reading};
+
+fn readings(bytes: &[u8]) -> String {
+    let float = match model::to_f64(bytes) {
+        Ok(float) => format!("={}", bits(float)),
+        Err(F64Refusal::PrecisionLoss(float)) => format!("24:{}", bits(float)),
+        Err(F64Refusal::Number(number)) => number.to_string(),
+    };
+    let yes = reading(model::to_bool(bytes).map(u8::from));
+    let (whole, signed) = (reading(model::to_u64(bytes)), reading(model::to_i64(bytes)));
+    format!("{yes} {whole} {signed} {float} {}\n", model::kind(bytes))
+}
+
+pub fn answer(question: Question<'_>, out: &mut String) {
+    match question {
+        Question::Text { text, capacity } => {
+            let mut tape = vec![u32::MAX; 3 * capacity + capacity % 3];
+            match model::parse(text, &mut tape, model::cut).answer {
+                Err(Refusal(number, place)) => record::write_refusal(out, number, place),
+                Ok((count, bom)) => record::write_tape(out, &tape[..3 * count], bom),
+            }
+        }
+        Question::Scalar { bytes } => out.push_str(&readings(bytes)),
+        Question::Check { length, count, words } => {
+            record::write_sound(out, model::check(length, &words, count));
+        }
+        Question::View { index, count, words, text } => {
+            record::write_view(out, model::view(text, &words, count, index));
+        }
+    }
+}
+
+/// A wrong program, by its name and what it makes of a right answer.
+pub type Fault = (&'static str, fn(&str) -> String);
+
+pub const FAULTS: [Fault; 9] = [
+    ("exists_is_equal", |right| right.replace(" Operator 8 0", " Operator 7 0")),
+    ("not_equal_is_exact", |right| right.replace(" Operator 5 0", " Operator 6 0")),
+    ("place_of_7_at_it", |right| shift_place(right, "refused 7 ")),
+    ("place_of_8_at_it", |right| shift_place(right, "refused 8 ")),
+    ("place_of_10_one_on", |right| shift_place(right, "refused 10 ")),
+    ("minus_zero_lost", |right| right.replace("=8000000000000000", "=0000000000000000")),
+    ("ties_away", |right| right.replace("24:4340000000000000", "24:4340000000000001")),
+    ("bom_forgotten", |right| right.replace(" bom 1\n", " bom 0\n")),
+    ("empty_view_refused", |right| right.replace("view \n", "refused 12\n")),
+];
+
+fn shift_place(right: &str, refusal: &str) -> String {
+    match right.strip_prefix(refusal).and_then(|place| place.trim_end().parse::<usize>().ok()) {
+        Some(place) => format!("{refusal}{}\n", place + 1),
+        None => right.to_string(),
+    }
+}

@@ -1,0 +1,146 @@
+//! What a run reached: cases by kind, refusals, token codes, operators, readings, faults of sheets.
+
+use crate::record::{NAMES, Question, Record};
+use crate::sheet::{self, FAULTS, NoScalar};
+use std::collections::BTreeMap;
+use std::fmt;
+
+/// How often each thing was seen, by a heading and a name under it.
+#[derive(Default)]
+pub struct Tally(BTreeMap<(&'static str, String), usize>);
+
+impl Tally {
+    fn add(&mut self, heading: &'static str, name: impl ToString) {
+        *self.0.entry((heading, name.to_string())).or_default() += 1;
+    }
+
+    /// Counts a record and the Rust's answer to it.
+    pub fn count(&mut self, record: &Record, answer: &str) {
+        for (heading, name) in features(record, answer) {
+            self.add(heading, name);
+        }
+    }
+
+    /// What a long run should have reached and did not.
+    pub fn missing(&self) -> Vec<String> {
+        let reached = |(heading, name): &(&'static str, String)| {
+            !self.0.contains_key(&(*heading, name.clone()))
+        };
+        expected().into_iter().filter(reached).map(|(h, n)| format!("{h} {n}")).collect()
+    }
+}
+
+impl fmt::Display for Tally {
+    fn fmt(&self, f: &mut fmt::Formatter<'_>) -> fmt::Result {
+        let mut last = "";
+        for ((heading, name), times) in &self.0 {
+            if *heading != last {
+                write!(f, "{}{heading}:", if last.is_empty() { "" } else { "\n" })?;
+                last = heading;
+            }
+            write!(f, "  {name} {times}")?;
+        }
+        Ok(())
+    }
+}
+
+type Feature = (&'static str, String);
+
+const READINGS: [(&str, &[&str]); 5] = [
+    ("yes/no", &["=1", "=0", "23"]),
+    ("u64", &["=", "21", "22"]),
+    ("i64", &["=", "=-", "21", "22"]),
+    ("f64", &["=", "21", "22", "24"]),
+    ("kind", &["1", "2", "3", "4"]),
+];
+
+const CAUSES: [NoScalar; 4] = [
+    NoScalar::IndexNotBelowCount,
+    NoScalar::CountOverWords,
+    NoScalar::NoScalarThere,
+    NoScalar::OutsideText,
+];
+
+/// All that records can reach. Refusal 1 needs a text longer than a record holds.
+fn expected() -> Vec<Feature> {
+    let mut all: Vec<Feature> = Vec::new();
+    all.extend(["T", "S", "C", "V"].map(|kind| ("cases", kind.to_string())));
+    all.extend((2..=11).map(|number| ("refusals", number.to_string())));
+    all.extend(NAMES[1..].iter().map(|name| ("tokens", name.to_string())));
+    all.extend((1..=8).map(|kind| ("operators", kind.to_string())));
+    all.extend(
+        ["Array 0", "Array 1", "Object 0", "Object 1"].map(|name| ("flags", name.to_string())),
+    );
+    all.extend(["0", "1"].map(|bom| ("bom", bom.to_string())));
+    for (reading, answers) in READINGS {
+        all.extend(answers.iter().map(|answer| (reading, answer.to_string())));
+    }
+    all.extend(["sound", "unsound"].map(|word| ("sheets", word.to_string())));
+    all.extend(FAULTS.map(|fault| ("failing this alone", format!("{fault:?}"))));
+    all.extend(["empty", "bytes"].map(|view| ("views", view.to_string())));
+    all.extend(CAUSES.map(|cause| ("refused 12 for", format!("{cause:?}"))));
+    all
+}
+
+/// What one case shows.
+pub fn features(record: &Record, answer: &str) -> Vec<Feature> {
+    let mut found: Vec<Feature> = vec![("cases", char::from(record.kind).to_string())];
+    match record.question() {
+        None => {}
+        Some(Question::Text { .. }) => text_features(answer, &mut found),
+        Some(Question::Scalar { .. }) => {
+            for (answer, (reading, _)) in answer.split_whitespace().zip(READINGS) {
+                found.push((reading, reading_name(reading, answer).to_string()));
+            }
+        }
+        Some(Question::Check { length, count, words }) => {
+            found.push(("sheets", answer.trim_end().to_string()));
+            if let [fault] = sheet::faults(length, &words, count)[..] {
+                found.push(("failing this alone", format!("{fault:?}")));
+            }
+        }
+        Some(Question::View { index, count, words, text }) => {
+            found.push(match sheet::view(text, &words, count, index) {
+                Ok([]) => ("views", "empty".to_string()),
+                Ok(_) => ("views", "bytes".to_string()),
+                Err(cause) => ("refused 12 for", format!("{cause:?}")),
+            });
+        }
+    }
+    found
+}
+
+fn text_features(answer: &str, found: &mut Vec<Feature>) {
+    let mut lines = answer.lines().map(|line| line.split(' ').collect::<Vec<_>>());
+    let head = lines.next().unwrap_or_default();
+    match head[..] {
+        ["refused", number, _] => found.push(("refusals", number.to_string())),
+        ["tokens", _, "bom", bom] => found.push(("bom", bom.to_string())),
+        _ => {}
+    }
+    for token in lines {
+        match token[..] {
+            [_, name @ ("Array" | "Object"), _, flag] => {
+                found.push(("tokens", name.to_string()));
+                found.push(("flags", format!("{name} {flag}")));
+            }
+            [_, "Operator", kind, _] => {
+                found.push(("tokens", "Operator".to_string()));
+                found.push(("operators", kind.to_string()));
+            }
+            [_, name, ..] => found.push(("tokens", name.to_string())),
+            _ => {}
+        }
+    }
+}
+
+/// A reading's answer without its value, but with its sign, and with yes and no.
+fn reading_name<'a>(reading: &str, answer: &'a str) -> &'a str {
+    match (reading, answer.as_bytes()) {
+        ("yes/no" | "kind", _) => answer,
+        ("i64", [b'=', b'-', ..]) => "=-",
+        (_, [b'=', ..]) => "=",
+        (_, [b'2', b'4', ..]) => "24",
+        _ => answer,
+    }
+}
