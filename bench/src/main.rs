@@ -1,0 +1,123 @@
+//! bench [BYTES] [SEED]: our calls and the Rust's on one save, in MB/s.
+//!
+//! Each pair is run in turns, and the best round of each counts. Both sides write into memory that they
+//! have written before, so that no round pays for fresh pages: the Rust empties its `Vec` of tokens and
+//! keeps what it holds, ours is lent the same words again with the old tokens in them, and clears, as a
+//! part of its work, all words that the new tokens leave.
+
+mod ours;
+mod save;
+mod theirs;
+
+use jomini::TextTape;
+use std::hint::black_box;
+use std::time::{Duration, Instant};
+
+/// The best of several rounds of two pieces of work, in turns.
+fn race(mut ours: impl FnMut(), mut theirs: impl FnMut()) -> (Duration, Duration) {
+    let time = |work: &mut dyn FnMut()| {
+        let start = Instant::now();
+        work();
+        start.elapsed()
+    };
+    let mut best = (Duration::MAX, Duration::MAX);
+    let began = Instant::now();
+    let mut rounds = 0;
+    while rounds < 7 || began.elapsed() < Duration::from_millis(1500) {
+        best.0 = best.0.min(time(&mut ours));
+        best.1 = best.1.min(time(&mut theirs));
+        rounds += 1;
+    }
+    best
+}
+
+fn show(what: &str, bytes: usize, (ours, theirs): (Duration, Duration)) {
+    let rate = |time: Duration| bytes as f64 / 1e6 / time.as_secs_f64();
+    let (ours, theirs) = (rate(ours), rate(theirs));
+    println!("{what:<34} {ours:>9.1} {theirs:>9.1} {:>7.2}", ours / theirs);
+}
+
+/// The parts of the text that the tape's scalars view.
+fn scalars<'a>(text: &'a [u8], words: &[u32]) -> Vec<&'a [u8]> {
+    let of = |t: &[u32]| match t[0] {
+        4..=7 | 10 => Some(&text[t[1] as usize..][..t[2] as usize]),
+        _ => None,
+    };
+    words.chunks_exact(3).filter_map(of).collect()
+}
+
+/// One reading of all scalars, with what it answers folded into a number.
+fn read_all(scalars: &[&[u8]], read: impl Fn(&[u8]) -> (u32, u64)) -> u64 {
+    scalars.iter().fold(0, |sum, scalar| {
+        let (refusal, value) = read(scalar);
+        sum.rotate_left(5) ^ value.wrapping_add(u64::from(refusal))
+    })
+}
+
+macro_rules! reading {
+    ($scalars:expr, $bytes:expr, $read:ident) => {{
+        let (ours, theirs) = (read_all($scalars, ours::$read), read_all($scalars, theirs::$read));
+        assert_eq!(ours, theirs, concat!(stringify!($read), " answers otherwise"));
+        let times = race(
+            || _ = black_box(read_all(black_box($scalars), ours::$read)),
+            || _ = black_box(read_all(black_box($scalars), theirs::$read)),
+        );
+        show(concat!("  ", stringify!($read)), $bytes, times);
+        times
+    }};
+}
+
+fn main() {
+    let mut args = std::env::args().skip(1).map(|a| a.parse().expect("a number"));
+    let size: u64 = args.next().unwrap_or(1_000_000);
+    let seed: u64 = args.next().unwrap_or(1);
+    let text = &save::save(size as usize, seed)[..];
+    let parsed = compare::oracle::parse(text);
+    assert_eq!(parsed.refusal, None, "the Rust refuses the save");
+    let tokens = parsed.words;
+    let count = tokens.len() / 3;
+    println!("save: {} bytes, seed {seed}, {count} tokens", text.len());
+    println!(
+        "each parse: the Rust's Vec is emptied and keeps its memory; our tape holds old tokens, and"
+    );
+    println!(
+        "the words behind the new ones are cleared within the time; no other buffer is cleared"
+    );
+    println!("{:<34} {:>9} {:>9} {:>7}", "MB/s", "ours", "the Rust", "ratio");
+
+    let mut tape = TextTape::new();
+    let mut small = vec![1u32; text.len()];
+    assert_eq!(ours::parse(text, &mut small), Ok(count));
+    assert!(small[..tokens.len()] == tokens, "the tapes differ");
+    assert!(small[tokens.len()..].iter().all(|&word| word == 0), "a word is left");
+    let mut parse = |what, words: &mut [u32]| {
+        let times = race(
+            || assert_eq!(ours::parse(black_box(text), words), Ok(count)),
+            || assert_eq!(theirs::parse(black_box(text), &mut tape), Some(count)),
+        );
+        show(what, text.len(), times);
+    };
+    parse("parse, a word for each byte", &mut small);
+    let mut large = vec![1u32; 3 * (2 * text.len() + 1)];
+    parse("parse, room for 2n + 1 tokens", &mut large);
+    drop(large);
+
+    let words = &small.clone()[..];
+    let times = race(
+        || assert!(ours::check(text.len(), black_box(words), count)),
+        || assert_eq!(ours::parse(black_box(text), &mut small), Ok(count)),
+    );
+    show("check (beside it: our parse)", text.len(), times);
+
+    let scalars = &scalars(text, &tokens)[..];
+    let bytes = scalars.iter().map(|scalar| scalar.len()).sum();
+    println!("readings of {} scalars, {bytes} bytes", scalars.len());
+    let all = [
+        reading!(scalars, bytes, to_bool),
+        reading!(scalars, bytes, to_u64),
+        reading!(scalars, bytes, to_i64),
+        reading!(scalars, bytes, to_f64),
+    ];
+    let sum = all.iter().fold((Duration::ZERO, Duration::ZERO), |s, t| (s.0 + t.0, s.1 + t.1));
+    show("  all four", 4 * bytes, sum);
+}

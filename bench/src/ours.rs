@@ -1,0 +1,56 @@
+//! Our calls, as C sees them: `include/tackacorn.h` says what each reads and writes.
+
+unsafe extern "C" {
+    fn tackacorn_parse(
+        text: *const u8,
+        text_length: usize,
+        tape: *mut u32,
+        tape_length: usize,
+        count: &mut u32,
+        bom: &mut u32,
+        place: &mut usize,
+    ) -> u32;
+    fn tackacorn_check(text_length: usize, words: *const u32, length: usize, count: usize) -> bool;
+    fn tackacorn_to_bool(scalar: *const u8, length: usize, value: &mut u32) -> u32;
+    fn tackacorn_to_u64(scalar: *const u8, length: usize, value: &mut u64) -> u32;
+    fn tackacorn_to_i64(scalar: *const u8, length: usize, value: &mut i64) -> u32;
+    fn tackacorn_to_f64(scalar: *const u8, length: usize, value: &mut f64) -> u32;
+}
+
+/// The count of a parsed text, or the number of its refusal.
+pub fn parse(text: &[u8], tape: &mut [u32]) -> Result<usize, u32> {
+    let (mut count, mut bom, mut place) = (0, 0, 0);
+    let (words, length) = (tape.as_mut_ptr(), tape.len());
+    let refusal = unsafe {
+        tackacorn_parse(text.as_ptr(), text.len(), words, length, &mut count, &mut bom, &mut place)
+    };
+    if refusal == 0 { Ok(count as usize) } else { Err(refusal) }
+}
+
+pub fn check(text_length: usize, words: &[u32], count: usize) -> bool {
+    unsafe { tackacorn_check(text_length, words.as_ptr(), words.len(), count) }
+}
+
+pub fn to_bool(scalar: &[u8]) -> (u32, u64) {
+    let mut value = 0;
+    let refusal = unsafe { tackacorn_to_bool(scalar.as_ptr(), scalar.len(), &mut value) };
+    (refusal, u64::from(value))
+}
+
+pub fn to_u64(scalar: &[u8]) -> (u32, u64) {
+    let mut value = 0;
+    let refusal = unsafe { tackacorn_to_u64(scalar.as_ptr(), scalar.len(), &mut value) };
+    (refusal, value)
+}
+
+pub fn to_i64(scalar: &[u8]) -> (u32, u64) {
+    let mut value = 0;
+    let refusal = unsafe { tackacorn_to_i64(scalar.as_ptr(), scalar.len(), &mut value) };
+    (refusal, value as u64)
+}
+
+pub fn to_f64(scalar: &[u8]) -> (u32, u64) {
+    let mut value = 0.0;
+    let refusal = unsafe { tackacorn_to_f64(scalar.as_ptr(), scalar.len(), &mut value) };
+    (refusal, value.to_bits())
+}

@@ -1,0 +1,38 @@
+-- What the calls below answer is what C is told: one law for the readings, one for each answer of a parse and of a view.
+-- Assumes nothing.
+use Prim.Native.Nat.{ℕ}
+use mathlib.Core.Bool.{Bool}
+use mathlib.Core.List.{List}
+use mathlib.Core.Path.{_≡_, sym, ap, _∙_}
+use Rattle.parse.specs.declared.Parsed.{Parsed}
+use Rattle.parse.specs.declared.Parsed.the-variants.{Tokens, Refused}
+use Rattle.parse.specs.declared.machine.Refusal.{Refusal}
+use Rattle.parse.specs.Refusals.{number, place}
+use Rattle.parse.specs.Parse.{Outcome, outcome}
+use Rattle.sheet.specs.declared.views.Viewed.{Viewed}
+use Rattle.sheet.specs.declared.views.Viewed.the-variants.{At, NoScalar}
+use Rattle.capi.specs.Told.{bit, ReadTold, read-told, parse-told, tell-parse, view-told, tell-view}
+
+-- the refusal and the value of a reading, told as they are
+pub reads : {Read Value : Type 0} (refusal : Read → ℕ) (value : Read → Value) {told said : ℕ} {v : Value} {read spec : Read} →
+    read ≡ spec → v ≡ value read → said ≡ refusal read → told ≡ said → read-told told v ≡ read-told (refusal spec) (value spec)
+reads refusal value p v n t = cc
+
+-- a parsed text
+pub tells-tokens : {r : Parsed} {words : List ℕ} {spec : Outcome} {count b : ℕ} {bom : Bool} →
+    outcome r words ≡ spec → r ≡ Tokens count bom → b ≡ bit bom → parse-told 0 count b 0 words ≡ tell-parse spec
+tells-tokens {words = words} {count = count} {bom = bom} p e b = ap (λ (k : ℕ). parse-told 0 count k 0 words) b ∙ ap tell-parse (sym (ap (λ (q : Parsed). outcome q words) e) ∙ p)
+
+-- a refused one
+pub tells-refusal : {r : Parsed} {words : List ℕ} {spec : Outcome} {n at : ℕ} {refusal : Refusal} →
+    outcome r words ≡ spec → r ≡ Refused refusal → n ≡ number refusal → at ≡ place refusal → parse-told n 0 0 at words ≡ tell-parse spec
+tells-refusal {words = words} {at = at} {refusal = refusal} p e n l =
+    ap (λ (k : ℕ). parse-told k 0 0 at words) n ∙ ap (λ (k : ℕ). parse-told (number refusal) 0 0 k words) l
+    ∙ ap tell-parse (sym (ap (λ (q : Parsed). outcome q words) e) ∙ p)
+
+-- a view, and none
+pub tells-view : {v spec : Viewed} {offset size : ℕ} → v ≡ spec → v ≡ At offset size → view-told 0 offset size ≡ tell-view spec
+tells-view p e = ap tell-view (sym e ∙ p)
+
+pub tells-none : {v spec : Viewed} → v ≡ spec → v ≡ NoScalar → view-told 12 0 0 ≡ tell-view spec
+tells-none p e = ap tell-view (sym e ∙ p)

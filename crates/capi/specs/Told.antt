@@ -1,0 +1,61 @@
+-- What the calls tell C: a number for the refusal, 0 for none, and beside it what is written through each pointer.
+use Prim.Native.Nat.{ℕ}
+use mathlib.Core.Bool.{Bool, true, false}
+use mathlib.Core.List.{List}
+use lib.Ieee.{Float}
+use lib.IntN.{ℤ}
+use Rattle.parse.specs.declared.Parsed.the-variants.{Tokens, Refused}
+use Rattle.parse.specs.Refusals.{number, place}
+use Rattle.parse.specs.Parse.{Outcome, outcome}
+use Rattle.scalar.specs.Numbers.{bool-refusal-of, bool-value-of, u64-refusal-of, u64-value-of, i64-refusal-of, i64-value-of, f64-refusal-of, f64-value-of}
+use Rattle.scalar.specs.declared.truth.BoolRead.{BoolRead}
+use Rattle.scalar.specs.declared.whole.U64Read.{U64Read}
+use Rattle.scalar.specs.declared.whole.I64Read.{I64Read}
+use Rattle.scalar.specs.declared.float.F64Read.{F64Read}
+use Rattle.sheet.specs.declared.views.Viewed.{Viewed}
+use Rattle.sheet.specs.declared.views.Viewed.the-variants.{At, NoScalar}
+use Rattle.sheet.specs.Views.{refusal-of}
+use Rattle.tape.specs.declared.token.Token.{Token}
+
+-- 1 for yes and 0 for no
+abbrev pub bit : Bool → ℕ
+bit true = 1
+bit false = 0
+
+-- a parse: its refusal, the count, the BOM, the place, and the words that it leaves
+pub data ParseTold : Type 0 where
+  parse-told : (refusal count bom place : ℕ) → List ℕ → ParseTold
+
+-- a refused text has no token and no BOM, and a parsed one no place
+abbrev pub tell-parse : Outcome → ParseTold
+tell-parse (outcome (Tokens count bom) words) = parse-told 0 count (bit bom) 0 words
+tell-parse (outcome (Refused r) words) = parse-told (number r) 0 0 (place r) words
+
+-- a view: its refusal, its offset and its length
+pub data ViewTold : Type 0 where
+  view-told : (refusal offset size : ℕ) → ViewTold
+
+-- a refused view is empty, at the text's start
+abbrev pub tell-view : Viewed → ViewTold
+tell-view (At offset size) = view-told (refusal-of (At offset size)) offset size
+tell-view NoScalar = view-told (refusal-of NoScalar) 0 0
+
+-- a reading: its refusal and its value
+pub data ReadTold (Value : Type 0) : Type 0 where
+  read-told : (refusal : ℕ) → Value → ReadTold Value
+
+abbrev pub tell-bool : BoolRead → ReadTold ℕ
+tell-bool r = read-told (bool-refusal-of r) (bit (bool-value-of r))
+
+abbrev pub tell-u64 : U64Read → ReadTold ℕ
+tell-u64 r = read-told (u64-refusal-of r) (u64-value-of r)
+
+abbrev pub tell-i64 : I64Read → ReadTold ℤ
+tell-i64 r = read-told (i64-refusal-of r) (i64-value-of r)
+
+abbrev pub tell-f64 : F64Read → ReadTold Float
+tell-f64 r = read-told (f64-refusal-of r) (f64-value-of r)
+
+-- a token's three words
+abbrev pub token-told : ℕ → ℕ → ℕ → Token
+token-told code a b = record { code = code; a = a; b = b }

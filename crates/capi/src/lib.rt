@@ -1,0 +1,168 @@
+// The calls for C: parse, check, views, tokens and readings under plain names, on slices (a pointer and a length),
+// pointers to single numbers, and numbers. Each answers document 01's number of a refusal, 0 for none, and writes through
+// every pointer that it is given, whatever it answers.
+use parse::Parsed;
+use sheet::views;
+use sheet::views::Viewed;
+use tape::words;
+ghost use mathlib.Core.Path.{_≡_};
+ghost use mathlib.Core.Bool.{true};
+ghost use mathlib.Core.Logic.{_↔_};
+ghost use lib.ListN.{length};
+ghost use Rattle.parse.specs.Parse.{parse-of};
+ghost use Rattle.scalar.specs.Truth.{bool-read};
+ghost use Rattle.scalar.specs.Whole.{u64-read, i64-read};
+ghost use Rattle.scalar.specs.Float.{f64-read};
+ghost use Rattle.scalar.specs.Kind.{kind-of};
+ghost use Rattle.scalar.specs.Numbers.{kind-number-of};
+ghost use Rattle.sheet.specs.Sound.{Sound};
+ghost use Rattle.sheet.specs.Views.{viewed};
+ghost use Rattle.tape.specs.Words.{token-in};
+ghost use Rattle.capi.specs.Told.{bit, parse-told, tell-parse, view-told, tell-view, read-told, tell-bool, tell-u64, tell-i64, tell-f64, token-told};
+
+// 1 for yes and 0 for no.
+fn bit_of(yes: bool) -> u32
+    ensures { λ r. ⌜ r ≡ bit yes ⌝ }
+{
+    if yes { 1 } else { 0 }
+}
+
+// A number of a byte's width at a word's.
+fn wide(n: u8) -> u32
+    ensures { λ r. ⌜ r ≡ n ⌝ }
+{
+    n as u32
+}
+
+// Parses a text onto a lent tape.
+#[no_mangle]
+pub extern "C" fn tackacorn_parse(
+    text: &[u8],
+    tape: &mut [u32],
+    count: &mut u32,
+    bom: &mut u32,
+    place: &mut usize,
+) -> u32
+    ensures { λ r. ⌜ parse-told r (now (count .exit)) (now (bom .exit)) (now (place .exit)) (now (tape .exit)) ≡ tell-parse (parse-of (now (text .entry)) (length (now (tape .entry)))) ⌝ }
+{
+    match parse::parse(text, tape) {
+        Parsed::Tokens {
+            count: tokens,
+            bom: began,
+        } => {
+            *count = tokens;
+            *bom = bit_of(began);
+            *place = 0;
+            0
+        }
+        Parsed::Refused(refusal) => {
+            *count = 0;
+            *bom = 0;
+            *place = refusal.place();
+            refusal.number()
+        }
+    }
+}
+
+// Whether the first count tokens of the words are a sound sheet for a text of a length.
+#[no_mangle]
+pub extern "C" fn tackacorn_check(text_length: usize, words: &[u32], count: usize) -> bool
+    ensures { λ r. ⌜ (r ≡ true) ↔ Sound «text_length» (now (words .entry)) count ⌝ }
+{
+    sheet::check(text_length, words, count)
+}
+
+// Where in the text the view of token `index` lies.
+#[no_mangle]
+pub extern "C" fn tackacorn_view(
+    text: &[u8],
+    words: &[u32],
+    count: usize,
+    index: usize,
+    offset: &mut usize,
+    size: &mut usize,
+) -> u32
+    ensures { λ r. ⌜ view-told r (now (offset .exit)) (now (size .exit)) ≡ tell-view (viewed (length (now (text .entry))) (now (words .entry)) count index) ⌝ }
+{
+    match views::view_of(text, words, count, index) {
+        Viewed::At {
+            offset: start,
+            length,
+        } => {
+            *offset = start;
+            *size = length;
+            0
+        }
+        Viewed::NoScalar => {
+            *offset = 0;
+            *size = 0;
+            12
+        }
+    }
+}
+
+// The three words of token `index`.
+#[no_mangle]
+pub extern "C" fn tackacorn_token(
+    words: &[u32],
+    count: usize,
+    index: usize,
+    code: &mut u32,
+    a: &mut u32,
+    b: &mut u32,
+)
+    ensures { λ r. ⌜ token-told (now (code .exit)) (now (a .exit)) (now (b .exit)) ≡ token-in (now (words .entry)) count index ⌝ }
+{
+    let token = words::token_of(words, count, index);
+    *code = token.code;
+    *a = token.a;
+    *b = token.b;
+}
+
+// Reads yes or no.
+#[no_mangle]
+pub extern "C" fn tackacorn_to_bool(scalar: &[u8], value: &mut u32) -> u32
+    ensures { λ r. ⌜ read-told r (now (value .exit)) ≡ tell-bool (bool-read (now (scalar .entry))) ⌝ }
+{
+    let read = scalar::to_bool(scalar);
+    *value = bit_of(scalar::bool_value(read));
+    wide(scalar::bool_refusal(read))
+}
+
+// Reads a number without a minus.
+#[no_mangle]
+pub extern "C" fn tackacorn_to_u64(scalar: &[u8], value: &mut u64) -> u32
+    ensures { λ r. ⌜ read-told r (now (value .exit)) ≡ tell-u64 (u64-read (now (scalar .entry))) ⌝ }
+{
+    let read = scalar::to_u64(scalar);
+    *value = scalar::u64_value(read);
+    wide(scalar::u64_refusal(read))
+}
+
+// Reads a number with a sign.
+#[no_mangle]
+pub extern "C" fn tackacorn_to_i64(scalar: &[u8], value: &mut i64) -> u32
+    ensures { λ r. ⌜ read-told r (now (value .exit)) ≡ tell-i64 (i64-read (now (scalar .entry))) ⌝ }
+{
+    let read = scalar::to_i64(scalar);
+    *value = scalar::i64_value(read);
+    wide(scalar::i64_refusal(read))
+}
+
+// Reads a decimal.
+#[no_mangle]
+pub extern "C" fn tackacorn_to_f64(scalar: &[u8], value: &mut f64) -> u32
+    ensures { λ r. ⌜ read-told r (now (value .exit)) ≡ tell-f64 (f64-read (now (scalar .entry))) ⌝ }
+{
+    let read = scalar::to_f64(scalar);
+    *value = scalar::f64_value(read);
+    wide(scalar::f64_refusal(read))
+}
+
+// The kind of an unquoted scalar.
+#[no_mangle]
+pub extern "C" fn tackacorn_kind(scalar: &[u8]) -> u32
+    ensures { λ r. ⌜ r ≡ kind-number-of (kind-of (now (scalar .entry))) ⌝ }
+{
+    wide(scalar::kind_number(scalar::kind(scalar)))
+}

@@ -1,0 +1,76 @@
+/* Calls every function of the header once or more from C and tells what answers otherwise than it should:
+ * what is proved of the functions says nothing of how C passes their arguments. */
+#include "tackacorn.h"
+
+#include <stdio.h>
+#include <string.h>
+
+static int wrong;
+
+static void expect(const char *what, bool right) {
+    if (!right) {
+        fprintf(stderr, "calls: %s\n", what);
+        wrong = 1;
+    }
+}
+
+static const uint8_t *bytes(const char *words) {
+    return (const uint8_t *)words;
+}
+
+static void readings(void) {
+    uint32_t yes = 7;
+    uint64_t whole = 7;
+    int64_t signed_whole = 7;
+    double decimal = 7;
+    expect("yes", tackacorn_to_bool(bytes("yes"), 3, &yes) == TACKACORN_OK && yes == 1);
+    expect("no", tackacorn_to_bool(bytes("no"), 2, &yes) == TACKACORN_OK && yes == 0);
+    expect("ye", tackacorn_to_bool(bytes("yes"), 2, &yes) == TACKACORN_INVALID_BOOL && yes == 0);
+    expect("2^64 - 1", tackacorn_to_u64(bytes("18446744073709551615"), 20, &whole) == TACKACORN_OK && whole == UINT64_MAX);
+    expect("2^64", tackacorn_to_u64(bytes("18446744073709551616"), 20, &whole) == TACKACORN_OVERFLOW && whole == 0);
+    expect("no bytes", tackacorn_to_u64(bytes(""), 0, &whole) == TACKACORN_ALL_DIGITS && whole == 0);
+    expect("-45", tackacorn_to_i64(bytes("-45"), 3, &signed_whole) == TACKACORN_OK && signed_whole == -45);
+    expect("-4a", tackacorn_to_i64(bytes("-4a"), 3, &signed_whole) == TACKACORN_ALL_DIGITS && signed_whole == 0);
+    expect("-1.5", tackacorn_to_f64(bytes("-1.5"), 4, &decimal) == TACKACORN_OK && decimal == -1.5);
+    expect("2^53 + 1", tackacorn_to_f64(bytes("9007199254740993"), 16, &decimal) == TACKACORN_PRECISION_LOSS
+                           && decimal == 9007199254740992.0);
+    expect("109E4", tackacorn_to_f64(bytes("109E4"), 5, &decimal) == TACKACORN_ALL_DIGITS && decimal == 0.0);
+    expect("kinds", tackacorn_kind(bytes("no"), 2) == TACKACORN_BOOL && tackacorn_kind(bytes("-3"), 2) == TACKACORN_WHOLE
+                        && tackacorn_kind(bytes("0.5"), 3) == TACKACORN_DECIMAL
+                        && tackacorn_kind(bytes("1444.11.11"), 10) == TACKACORN_NAME);
+}
+
+static void tokens(void) {
+    const char *text = "a=\"b c\" }";
+    const size_t length = strlen(text);
+    uint32_t tape[32], count = 7, bom = 7, code = 7, a = 7, b = 7;
+    size_t place = 7, offset = 7, size = 7;
+    memset(tape, 255, sizeof tape);
+    expect("parse", tackacorn_parse(bytes(text), length, tape, 32, &count, &bom, &place) == TACKACORN_OK && count == 2
+                        && bom == 0 && place == 0 && tape[5] == 3 && tape[6] == 0 && tape[31] == 0);
+    expect("check", tackacorn_check(length, tape, 32, count) && !tackacorn_check(length, tape, 32, 3)
+                        && !tackacorn_check(5, tape, 32, count) && !tackacorn_check(length, tape, 5, count));
+    tackacorn_token(tape, 32, count, 1, &code, &a, &b);
+    expect("token 1", code == TACKACORN_QUOTED && a == 3 && b == 3);
+    tackacorn_token(tape, 32, count, 2, &code, &a, &b);
+    expect("token 2", code == TACKACORN_NOTHING && a == 0 && b == 0);
+    expect("view 1", tackacorn_view(bytes(text), length, tape, 32, count, 1, &offset, &size) == TACKACORN_OK && size == 3
+                         && memcmp(text + offset, "b c", size) == 0);
+    expect("view 2", tackacorn_view(bytes(text), length, tape, 32, count, 2, &offset, &size) == TACKACORN_NO_SCALAR
+                         && offset == 0 && size == 0);
+    expect("full", tackacorn_parse(bytes(text), length, tape, 5, &count, &bom, &place) == TACKACORN_FULL && count == 0
+                       && tape[0] == 0 && tape[4] == 0);
+    expect("refused at a place", tackacorn_parse(bytes("\xef\xbb\xbf[x"), 5, tape, 32, &count, &bom, &place) == TACKACORN_NO_PARAMETER
+                                     && place == 3 && bom == 0);
+    expect("a BOM", tackacorn_parse(bytes("\xef\xbb\xbf"), 3, tape, 32, &count, &bom, &place) == TACKACORN_OK && bom == 1);
+    expect("words for a text", TACKACORN_WORDS_FOR(TACKACORN_TEXT_LIMIT) == 100663293);
+}
+
+int main(void) {
+    readings();
+    tokens();
+    if (!wrong) {
+        puts("every call answers as it should");
+    }
+    return wrong;
+}

@@ -1,0 +1,3 @@
+#pragma once
+#include <stdint.h>
+#define PRIu32 "u"

@@ -1,0 +1,13 @@
+#pragma once
+#include <stddef.h>
+typedef struct file FILE;
+extern FILE *stdin, *stdout, *stderr;
+FILE *fopen(const char *name, const char *mode);
+int fclose(FILE *file);
+size_t fread(void *into, size_t size, size_t count, FILE *file);
+int ferror(FILE *file);
+int fflush(FILE *file);
+int fputs(const char *words, FILE *file);
+int puts(const char *words);
+int printf(const char *form, ...);
+int fprintf(FILE *file, const char *form, ...);

@@ -1,0 +1,157 @@
+/* Tackacorn: the text of a save as a tape of tokens, and the readings of its scalars.
+ *
+ * Every function here is proved to meet its contract for every argument that its types allow: it reads
+ * and writes only what is described, it ends, and its answer is the one that the format's definition
+ * gives. What C's types cannot say, and nothing checks, is the caller's part:
+ *
+ *  - A text, a scalar, a tape or words are a pointer and how many elements (bytes, or 32-bit words, not
+ *    bytes of words) stand there. All of them must be there to read, and for a tape to write. The
+ *    pointer is not NULL and is aligned for its type, also where the length is 0.
+ *  - A pointer to a single number points to one number of that type, which is written and never read.
+ *  - What a call writes (the tape, each single number) overlaps nothing else that it is passed, and no
+ *    other thread reads or writes it during the call. What a call only reads may be shared.
+ *
+ * Nothing is kept and nothing is allocated: all memory is the caller's, before, during and after a call.
+ * A call takes less than 2 KB of stack.
+ *
+ * Refusals are numbers, 0 for none, and every number that a call writes is written on a refusal too.
+ */
+#ifndef TACKACORN_H
+#define TACKACORN_H
+
+#include <stdbool.h>
+#include <stddef.h>
+#include <stdint.h>
+
+#ifdef __cplusplus
+extern "C" {
+#endif
+
+/* The most bytes that a text may have. */
+#define TACKACORN_TEXT_LIMIT 16777215u
+
+/* How many words a token takes on a tape. */
+#define TACKACORN_WORDS_PER_TOKEN 3u
+
+/* Words that are room enough for any text of so many bytes: 2 * bytes + 1 tokens. */
+#define TACKACORN_WORDS_FOR(bytes) (TACKACORN_WORDS_PER_TOKEN * (2 * (size_t)(bytes) + 1))
+
+/* Why a text, a view or a reading is refused. */
+enum tackacorn_refusal {
+    TACKACORN_OK = 0,
+    TACKACORN_TOO_LONG = 1,          /* the text has more than TACKACORN_TEXT_LIMIT bytes */
+    TACKACORN_EOF = 2,               /* the text ends too early */
+    TACKACORN_STACK_EMPTY = 3,       /* a '}' with nothing open */
+    TACKACORN_NO_HEADER = 4,         /* a '{' with neither a key nor a header before it */
+    TACKACORN_NO_VALUE = 5,          /* a '}' where a value is due */
+    TACKACORN_MIXED_PARAMETER = 6,   /* a '[' that opens a mixed container */
+    TACKACORN_NOTHING_PRECEDES = 7,  /* an operator that nothing may precede */
+    TACKACORN_UNKNOWN_OPERATOR = 8,  /* bytes that begin as an operator and are none */
+    TACKACORN_NO_PARAMETER = 9,      /* a '[' that no '[' follows */
+    TACKACORN_OPEN_NAME = 10,        /* a parameter's name that no ']' ends */
+    TACKACORN_FULL = 11,             /* a token finds no room on the tape */
+    TACKACORN_NO_SCALAR = 12,        /* no view: see tackacorn_view */
+    TACKACORN_ALL_DIGITS = 21,       /* the bytes are no number of this form */
+    TACKACORN_OVERFLOW = 22,         /* the number is too large */
+    TACKACORN_INVALID_BOOL = 23,     /* neither 'yes' nor 'no' */
+    TACKACORN_PRECISION_LOSS = 24    /* no double is this number: the nearest is given */
+};
+
+/* What a token is: the first of its three words. a and b are the second and the third. */
+enum tackacorn_code {
+    TACKACORN_NOTHING = 0,              /* no token */
+    TACKACORN_ARRAY = 1,                /* a: index of its End, b: whether it is mixed, 0 or 1 */
+    TACKACORN_OBJECT = 2,               /* the same */
+    TACKACORN_MIXED_CONTAINER = 3,      /* a, b: 0 */
+    TACKACORN_UNQUOTED = 4,             /* a: offset in the text, b: length, in bytes */
+    TACKACORN_QUOTED = 5,               /* the same, without the quotes and with the escapes */
+    TACKACORN_PARAMETER = 6,            /* the same */
+    TACKACORN_UNDEFINED_PARAMETER = 7,  /* the same */
+    TACKACORN_OPERATOR = 8,             /* a: a tackacorn_operator, b: 0 */
+    TACKACORN_END = 9,                  /* a: index of its opener, b: 0 */
+    TACKACORN_HEADER = 10               /* as Unquoted; a container is next */
+};
+
+enum tackacorn_operator {
+    TACKACORN_LESS_THAN = 1,
+    TACKACORN_LESS_THAN_EQUAL = 2,
+    TACKACORN_GREATER_THAN = 3,
+    TACKACORN_GREATER_THAN_EQUAL = 4,
+    TACKACORN_NOT_EQUAL = 5,
+    TACKACORN_EXACT = 6,
+    TACKACORN_EQUAL = 7,
+    TACKACORN_EXISTS = 8
+};
+
+enum tackacorn_scalar_kind {
+    TACKACORN_BOOL = 1,
+    TACKACORN_WHOLE = 2,
+    TACKACORN_DECIMAL = 3,
+    TACKACORN_NAME = 4
+};
+
+/* Parses a text onto a tape.
+ *
+ * Reads the text. Writes every word of the tape, whatever stood there: on success the tokens, three
+ * words each, from the first word on, and zeros behind them; on a refusal zeros.
+ *
+ * Answers TACKACORN_OK: *count is how many tokens were laid, *bom is 1 if the text began with the bytes
+ * ef bb bf and else 0, *place is 0. Or answers a refusal from 1 to 11: *count and *bom are 0, and *place
+ * is the offset in the text where the refusal stands, 0 for TOO_LONG, EOF and FULL, which have none.
+ *
+ * Offsets count from the first byte of the text, the BOM included. The tape has room for tape_length / 3
+ * tokens. TACKACORN_WORDS_FOR(text_length) words are enough for any text; a word for each byte is enough
+ * for most saves, and FULL says when it was not. */
+uint32_t tackacorn_parse(const uint8_t *text, size_t text_length, uint32_t *tape, size_t tape_length,
+                         uint32_t *count, uint32_t *bom, size_t *place);
+
+/* Whether the first count tokens of the words are a sound sheet for a text of text_length bytes: that
+ * every token has a form of the table above, every opener and its End name each other, containers lie in
+ * each other, every view lies in the text and after the view before it, and so on. It is true for what
+ * tackacorn_parse leaves; ask it of words that come from elsewhere before you trust them.
+ *
+ * Reads 3 * count words, or none where there are fewer, and nothing of the text. Writes nothing. */
+bool tackacorn_check(size_t text_length, const uint32_t *words, size_t words_length, size_t count);
+
+/* The three words of token index of a sheet of count tokens, or zeros where index is not below count
+ * or the words are not there. Writes *code, *a and *b. */
+void tackacorn_token(const uint32_t *words, size_t words_length, size_t count, size_t index, uint32_t *code,
+                     uint32_t *a, uint32_t *b);
+
+/* Where token index of a sheet of count tokens lies in the text.
+ *
+ * Answers TACKACORN_OK: the scalar is the *size bytes from text + *offset on, which are within the
+ * text. They are a part of your text, as it stands there: it is no copy, and no zero ends it. Or answers
+ * TACKACORN_NO_SCALAR, with *offset and *size 0: index is not below count, 3 * count is over
+ * words_length, the token is no scalar (codes 4, 5, 6, 7, 10), or it reaches out of the text. */
+uint32_t tackacorn_view(const uint8_t *text, size_t text_length, const uint32_t *words, size_t words_length,
+                        size_t count, size_t index, size_t *offset, size_t *size);
+
+/* The readings of a scalar's bytes. Each reads the bytes and writes *value: what it reads, or 0 on a
+ * refusal, but for PRECISION_LOSS. */
+
+/* 'yes' is 1 and 'no' is 0; all else is INVALID_BOOL. */
+uint32_t tackacorn_to_bool(const uint8_t *scalar, size_t length, uint32_t *value);
+
+/* An optional '+' and digits. ALL_DIGITS for any other byte, '-' included, and for no byte at all;
+ * else OVERFLOW above 2^64 - 1. */
+uint32_t tackacorn_to_u64(const uint8_t *scalar, size_t length, uint64_t *value);
+
+/* An optional sign and digits. OVERFLOW where the digits are above 2^63 - 1, also after a minus and
+ * before other bytes; else ALL_DIGITS where another byte follows them, and for no byte at all. */
+uint32_t tackacorn_to_i64(const uint8_t *scalar, size_t length, int64_t *value);
+
+/* A sign, digits, a point, digits and a closing 'f', each as it may be left out. ALL_DIGITS for any other
+ * form, OVERFLOW for a number too large or over 22 digits behind the point. A number without a point
+ * that is over 2^53 - 1 is PRECISION_LOSS, and *value is the nearest double. */
+uint32_t tackacorn_to_f64(const uint8_t *scalar, size_t length, double *value);
+
+/* What an unquoted scalar is, a tackacorn_scalar_kind: a Bool if to_bool answers, else Whole if to_i64
+ * answers, else Decimal if to_f64 answers or loses precision, else a Name. */
+uint32_t tackacorn_kind(const uint8_t *scalar, size_t length);
+
+#ifdef __cplusplus
+}
+#endif
+
+#endif
