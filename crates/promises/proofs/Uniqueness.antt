@@ -1,11 +1,17 @@
 -- Any two results that a contract allows are equal, and so are the tapes at exit: said of each public call's contract itself, by the
 -- claim `Post` that the toolchain reads off its `ensures`. Every public call stands here, in a record for each crate.
 -- Assumes nothing.
-use mathlib.Core.Path.{_≡_, sym, _∙_}
+use mathlib.Core.Path.{_≡_, refl, sym, _∙_, ap}
 use mathlib.Core.Bool.{Bool, true, false}
-use mathlib.Core.List.{List}
+use mathlib.Core.List.{List, [], _∷_}
 use mathlib.Core.Logic.{_↔_}
 use Prim.Native.Nat.{ℕ}
+use native.Mathlib.Omega.{arith}
+use borrow.Author.Tests.{eqb-true, eqb-false}
+use lib.Dec.{eqb}
+use Rattle.data.proofs.Cases.{by-bool}
+use Rattle.tape.specs.declared.token.Token.{Token}
+use Rattle.report.specs.Append.{Wrote, wrote}
 use Rattle.data.proofs.character_class.Reads as character-class
 use Rattle.operator.proofs.Operator.number.Reads as operator-number
 use Rattle.operator.proofs.Operator.is_equal.Reads as operator-is-equal
@@ -61,15 +67,50 @@ use Rattle.sheet.proofs.views.code.Reads as code
 use Rattle.sheet.proofs.views.link.Reads as link
 use Rattle.sheet.proofs.views.view_of.Reads as view-of
 use Rattle.sheet.proofs.views.view.Reads as view
+use Rattle.report.proofs.put.put_byte.Reads as put-byte
+use Rattle.report.proofs.put.put_bytes.Reads as put-bytes
+use Rattle.report.proofs.put.front.Reads as front
+use Rattle.report.proofs.numbers.put_decimal.Reads as put-decimal
+use Rattle.report.proofs.numbers.put_hex.Reads as put-hex
+use Rattle.report.proofs.numbers.put_integer.Reads as put-integer
+use Rattle.report.proofs.tokens.put_name.Reads as put-name
+use Rattle.report.proofs.tokens.put_field.Reads as put-field
+use Rattle.report.proofs.tokens.put_token.Reads as put-token
+use Rattle.report.proofs.tokens.put_tokens.Reads as put-tokens
+use Rattle.report.proofs.tokens.put_header.Reads as put-header
+use Rattle.report.proofs.tokens.put_refused.Reads as put-refused
+use Rattle.report.proofs.dump.put_dump.Reads as put-dump
+use Rattle.report.proofs.dump.put_save.Reads as put-save
+use Rattle.report.proofs.readings.put_bool.Reads as put-bool
+use Rattle.report.proofs.readings.put_u64.Reads as put-u64
+use Rattle.report.proofs.readings.put_i64.Reads as put-i64
+use Rattle.report.proofs.readings.put_f64.Reads as put-f64
+use Rattle.report.proofs.readings.put_readings.Reads as put-readings
+use Rattle.report.proofs.sheets.put_check.Reads as put-check
+use Rattle.report.proofs.sheets.put_hex_bytes.Reads as put-hex-bytes
+use Rattle.report.proofs.sheets.put_view.Reads as put-view
+use Rattle.capi.proofs.tackacorn_parse.Reads as tackacorn-parse
+use Rattle.capi.proofs.tackacorn_check.Reads as tackacorn-check
+use Rattle.capi.proofs.tackacorn_view.Reads as tackacorn-view
+use Rattle.capi.proofs.tackacorn_token.Reads as tackacorn-token
+use Rattle.capi.proofs.tackacorn_to_bool.Reads as tackacorn-to-bool
+use Rattle.capi.proofs.tackacorn_to_u64.Reads as tackacorn-to-u64
+use Rattle.capi.proofs.tackacorn_to_i64.Reads as tackacorn-to-i64
+use Rattle.capi.proofs.tackacorn_to_f64.Reads as tackacorn-to-f64
+use Rattle.capi.proofs.tackacorn_kind.Reads as tackacorn-kind
 
 -- what a contract claims at exit, of the lifetimes, the arguments, the result and the parameters as they are left, allows one result
 abbrev pub One-result : {K : Type 0} {A R X : K → Type 0} → ((κs : K) → A κs → R κs → X κs → Type 0) → Type 0
 One-result {K} {A} {R} {X} Post = (κs : K) (args : A κs) (r s : R κs) (xs ys : X κs) → Post κs args r xs → Post κs args s ys → r ≡ s
 
--- and leaves one tape
-abbrev pub One-tape : {K : Type 0} {A R X : K → Type 0} → ((κs : K) → A κs → R κs → X κs → Type 0) → ((κs : K) → X κs → List ℕ) → Type 0
-One-tape {K} {A} {R} {X} Post tape =
-    (κs : K) (args : A κs) (r s : R κs) (xs ys : X κs) → Post κs args r xs → Post κs args s ys → tape κs xs ≡ tape κs ys
+-- and leaves one tape, one buffer or one number behind, by what of the parameters is asked for
+abbrev pub One-left : {K Value : Type 0} {A R X : K → Type 0} → ((κs : K) → A κs → R κs → X κs → Type 0) → ((κs : K) → X κs → Value) → Type 0
+One-left {K} {Value} {A} {R} {X} Post left =
+    (κs : K) (args : A κs) (r s : R κs) (xs ys : X κs) → Post κs args r xs → Post κs args s ys → left κs xs ≡ left κs ys
+
+-- and puts one line of bytes: the place after it, and the buffer
+abbrev pub One-line : {K : Type 0} {A R X : K → Type 0} → ((κs : K) → A κs → R κs → X κs → Type 0) → ((κs : K) → X κs → List ℕ) → Type 0
+One-line Post out = One-result Post × One-left Post out
 
 -- a contract that says `r ≡ definition` allows one result
 by-definition : {K : Type 0} {A R : K → Type 0} (X : K → Type 0) (definition : (κs : K) → A κs → R κs) → One-result {X = X} (λ κs args r xs. r ≡ definition κs args)
@@ -81,6 +122,41 @@ one-verdict P true true p q = cc
 one-verdict P true false p q = sym (q .1 (p .0 cc))
 one-verdict P false true p q = p .1 (q .0 cc)
 one-verdict P false false p q = cc
+
+-- a contract that says what was put allows one place and one buffer
+by-bytes : {K : Type 0} {A X : K → Type 0} (out : (κs : K) → X κs → List ℕ) (definition : (κs : K) → A κs → Wrote)
+    → One-line {R = λ κs. ℕ} (λ κs args r xs. wrote r (out κs xs) ≡ definition κs args) out
+by-bytes out definition = (λ κs args r s xs ys p q. cc, λ κs args r s xs ys p q. cc)
+
+-- what cannot differ is equal: numbers and rows of numbers can be compared
+same-number : (m n : ℕ) → ((m ≡ n → ⊥) → ⊥) → m ≡ n
+same-number m n h = by-bool (eqb m n) (λ e. eqb-true m n e) (λ e. absurd (h (eqb-false m n e)))
+
+same-row : (ms ns : List ℕ) → ((ms ≡ ns → ⊥) → ⊥) → ms ≡ ns
+same-row [] [] h = refl
+same-row [] (n ∷ ns) h = absurd (h (λ e. let z : _≡_ {A = ℕ} 0 1 = cc in omega arith))
+same-row (m ∷ ms) [] h = absurd (h (λ e. let z : _≡_ {A = ℕ} 0 1 = cc in omega arith))
+same-row (m ∷ ms) (n ∷ ns) h =
+    let a : m ≡ n = same-number m n (λ d. h (λ e. d cc)) in
+    let b : ms ≡ ns = same-row ms ns (λ d. h (λ e. d cc)) in
+    cc
+
+-- one that says what was put where a claim holds, and what where it does not, allows one as well: which of the two need not be known
+module _ (P : Type 0) (x y : Wrote) (r s : ℕ) (o p : List ℕ)
+    (first : (P → wrote r o ≡ x) × ((P → ⊥) → wrote r o ≡ y)) (second : (P → wrote s p ≡ x) × ((P → ⊥) → wrote s p ≡ y)) where
+  either-place : r ≡ s
+  either-place =
+      same-number r s
+      (λ d.
+      let no : P → ⊥ = λ h. let a = first .0 h in let b = second .0 h in d cc in
+      let a = first .1 no in let b = second .1 no in d cc)
+
+  either-buffer : o ≡ p
+  either-buffer =
+      same-row o p
+      (λ d.
+      let no : P → ⊥ = λ h. let a = first .0 h in let b = second .0 h in d cc in
+      let a = first .1 no in let b = second .1 no in d cc)
 
 pub record Data : Type 0 where
   pub character-class : One-result character-class.Post
@@ -178,12 +254,12 @@ pub record Tape : Type 0 where
   pub token-of : One-result token-of.Post
   pub token : One-result token.Post
   pub holds : One-result holds.Post
-  pub put-tape : One-tape put.Post (λ κs xs. xs .0 .now)
+  pub put-tape : One-left put.Post (λ κs xs. xs .0 .now)
   pub push-result : One-result push.Post
-  pub push-tape : One-tape push.Post (λ κs xs. xs .0 .now)
+  pub push-tape : One-left push.Post (λ κs xs. xs .0 .now)
   pub insert-mixed-result : One-result insert-mixed.Post
-  pub insert-mixed-tape : One-tape insert-mixed.Post (λ κs xs. xs .0 .now)
-  pub clear-from-tape : One-tape clear-from.Post (λ κs xs. xs .0 .now)
+  pub insert-mixed-tape : One-left insert-mixed.Post (λ κs xs. xs .0 .now)
+  pub clear-from-tape : One-left clear-from.Post (λ κs xs. xs .0 .now)
   pub scalar-named : One-result scalar-named.Post
   pub shape-of : One-result shape-of.Post
   pub link-of : One-result link-of.Post
@@ -217,7 +293,7 @@ pub record Parse : Type 0 where
   pub refusal-number : One-result refusal-number.Post
   pub refusal-place : One-result refusal-place.Post
   pub parse-result : One-result parse.Post
-  pub parse-tape : One-tape parse.Post (λ κs xs. xs .1 .0 .now)
+  pub parse-tape : One-left parse.Post (λ κs xs. xs .1 .0 .now)
 
 pub parse-calls : Parse
 parse-calls =
@@ -246,4 +322,108 @@ sheet-calls =
       link = by-definition _ _;
       view-of = by-definition _ _;
       view = λ κs args r s xs ys p q. p ∙ sym q;
+    }
+
+pub record Report : Type 0 where
+  pub put-byte : One-line put-byte.Post (λ κs xs. xs .0 .now)
+  pub put-bytes : One-line put-bytes.Post (λ κs xs. xs .0 .now)
+  pub put-decimal : One-line put-decimal.Post (λ κs xs. xs .0 .now)
+  pub put-hex : One-line put-hex.Post (λ κs xs. xs .0 .now)
+  pub put-integer : One-line put-integer.Post (λ κs xs. xs .0 .now)
+  pub put-name : One-line put-name.Post (λ κs xs. xs .0 .now)
+  pub put-field : One-line put-field.Post (λ κs xs. xs .0 .now)
+  pub put-token : One-line put-token.Post (λ κs xs. xs .0 .now)
+  pub put-tokens : One-line put-tokens.Post (λ κs xs. xs .0 .now)
+  pub put-header : One-line put-header.Post (λ κs xs. xs .0 .now)
+  pub put-refused : One-line put-refused.Post (λ κs xs. xs .0 .now)
+  pub put-bool : One-line put-bool.Post (λ κs xs. xs .0 .now)
+  pub put-u64 : One-line put-u64.Post (λ κs xs. xs .0 .now)
+  pub put-i64 : One-line put-i64.Post (λ κs xs. xs .0 .now)
+  pub put-f64 : One-line put-f64.Post (λ κs xs. xs .0 .now)
+  pub put-readings : One-line put-readings.Post (λ κs xs. xs .0 .now)
+  pub put-hex-bytes : One-line put-hex-bytes.Post (λ κs xs. xs .0 .now)
+  pub put-view : One-line put-view.Post (λ κs xs. xs .0 .now)
+  pub front : (κs : _) (args : _) (r s : _) (xs ys : _) → front.Post κs args r xs → front.Post κs args s ys → r .now ≡ s .now
+  pub put-check : One-line put-check.Post (λ κs xs. xs .0 .now)
+  pub put-dump-line : One-line put-dump.Post (λ κs xs. xs .0 .now)
+  pub put-dump-tape : One-left put-dump.Post (λ κs xs. xs .1 .1 .1 .0 .now)
+  pub put-save-line : One-line put-save.Post (λ κs xs. xs .0 .now)
+  pub put-save-tape : One-left put-save.Post (λ κs xs. xs .1 .1 .1 .0 .now)
+
+pub report-calls : Report
+report-calls =
+    record {
+      put-byte = by-bytes _ _;
+      put-bytes = by-bytes _ _;
+      put-decimal = by-bytes _ _;
+      put-hex = by-bytes _ _;
+      put-integer = by-bytes _ _;
+      put-name = by-bytes _ _;
+      put-field = by-bytes _ _;
+      put-token = by-bytes _ _;
+      put-tokens = by-bytes _ _;
+      put-header = by-bytes _ _;
+      put-refused = by-bytes _ _;
+      put-bool = by-bytes _ _;
+      put-u64 = by-bytes _ _;
+      put-i64 = by-bytes _ _;
+      put-f64 = by-bytes _ _;
+      put-readings = by-bytes _ _;
+      put-hex-bytes = by-bytes _ _;
+      put-view = by-bytes _ _;
+      front = λ κs args r s xs ys p q. p ∙ sym q;
+      put-check = (λ κs args r s xs ys p q. either-place _ _ _ r s _ _ p q, λ κs args r s xs ys p q. either-buffer _ _ _ r s _ _ p q);
+      put-dump-line = (λ κs args r s xs ys p q. cc, λ κs args r s xs ys p q. cc);
+      put-dump-tape = λ κs args r s xs ys p q. cc;
+      put-save-line = (λ κs args r s xs ys p q. cc, λ κs args r s xs ys p q. cc);
+      put-save-tape = λ κs args r s xs ys p q. cc;
+    }
+
+pub record Capi : Type 0 where
+  pub tackacorn-parse-result : One-result tackacorn-parse.Post
+  pub tackacorn-parse-tape : One-left tackacorn-parse.Post (λ κs xs. xs .1 .0 .now)
+  pub tackacorn-parse-count : One-left tackacorn-parse.Post (λ κs xs. xs .1 .1 .0 .now)
+  pub tackacorn-parse-bom : One-left tackacorn-parse.Post (λ κs xs. xs .1 .1 .1 .0 .now)
+  pub tackacorn-parse-place : One-left tackacorn-parse.Post (λ κs xs. xs .1 .1 .1 .1 .0 .now)
+  pub tackacorn-check : One-result tackacorn-check.Post
+  pub tackacorn-view-result : One-result tackacorn-view.Post
+  pub tackacorn-view-offset : One-left tackacorn-view.Post (λ κs xs. xs .1 .1 .1 .1 .0 .now)
+  pub tackacorn-view-size : One-left tackacorn-view.Post (λ κs xs. xs .1 .1 .1 .1 .1 .0 .now)
+  pub tackacorn-token-code : One-left tackacorn-token.Post (λ κs xs. xs .1 .1 .1 .0 .now)
+  pub tackacorn-token-a : One-left tackacorn-token.Post (λ κs xs. xs .1 .1 .1 .1 .0 .now)
+  pub tackacorn-token-b : One-left tackacorn-token.Post (λ κs xs. xs .1 .1 .1 .1 .1 .0 .now)
+  pub tackacorn-to-bool-result : One-result tackacorn-to-bool.Post
+  pub tackacorn-to-bool-value : One-left tackacorn-to-bool.Post (λ κs xs. xs .1 .0 .now)
+  pub tackacorn-to-u64-result : One-result tackacorn-to-u64.Post
+  pub tackacorn-to-u64-value : One-left tackacorn-to-u64.Post (λ κs xs. xs .1 .0 .now)
+  pub tackacorn-to-i64-result : One-result tackacorn-to-i64.Post
+  pub tackacorn-to-i64-value : One-left tackacorn-to-i64.Post (λ κs xs. xs .1 .0 .now)
+  pub tackacorn-to-f64-result : One-result tackacorn-to-f64.Post
+  pub tackacorn-to-f64-value : One-left tackacorn-to-f64.Post (λ κs xs. xs .1 .0 .now)
+  pub tackacorn-kind : One-result tackacorn-kind.Post
+
+pub capi-calls : Capi
+capi-calls =
+    record {
+      tackacorn-parse-result = λ κs args r s xs ys p q. cc;
+      tackacorn-parse-tape = λ κs args r s xs ys p q. cc;
+      tackacorn-parse-count = λ κs args r s xs ys p q. cc;
+      tackacorn-parse-bom = λ κs args r s xs ys p q. cc;
+      tackacorn-parse-place = λ κs args r s xs ys p q. cc;
+      tackacorn-check = λ κs args r s xs ys p q. one-verdict _ r s p q;
+      tackacorn-view-result = λ κs args r s xs ys p q. cc;
+      tackacorn-view-offset = λ κs args r s xs ys p q. cc;
+      tackacorn-view-size = λ κs args r s xs ys p q. cc;
+      tackacorn-token-code = λ κs args r s xs ys p q. ap (λ (t : Token). t .code) (p ∙ sym q);
+      tackacorn-token-a = λ κs args r s xs ys p q. ap (λ (t : Token). t .a) (p ∙ sym q);
+      tackacorn-token-b = λ κs args r s xs ys p q. ap (λ (t : Token). t .b) (p ∙ sym q);
+      tackacorn-to-bool-result = λ κs args r s xs ys p q. cc;
+      tackacorn-to-bool-value = λ κs args r s xs ys p q. cc;
+      tackacorn-to-u64-result = λ κs args r s xs ys p q. cc;
+      tackacorn-to-u64-value = λ κs args r s xs ys p q. cc;
+      tackacorn-to-i64-result = λ κs args r s xs ys p q. cc;
+      tackacorn-to-i64-value = λ κs args r s xs ys p q. cc;
+      tackacorn-to-f64-result = λ κs args r s xs ys p q. cc;
+      tackacorn-to-f64-value = λ κs args r s xs ys p q. cc;
+      tackacorn-kind = by-definition _ _;
     }

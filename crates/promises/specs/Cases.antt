@@ -3,13 +3,13 @@ use Prim.Native.Nat.{ℕ}
 use Prim.Native.Char.{code}
 use Prim.Native.String.{String}
 use Prim.Native.String as Strings
-use mathlib.Core.Bool.{false}
+use mathlib.Core.Bool.{true, false}
 use mathlib.Core.List.{List, [], _∷_}
 use Rattle.tape.specs.declared.token.Token.{Token}
 use Rattle.tape.specs.declared.token.ContainerKind.the-variants.{Array}
-use Rattle.tape.specs.declared.token.ScalarKind.the-variants.{Header}
-use Rattle.tape.specs.Token.{opener-of, scalar-of}
-use Rattle.tape.specs.Words.{words-for, token-in}
+use Rattle.tape.specs.declared.token.ScalarKind.the-variants.{Unquoted, Header}
+use Rattle.tape.specs.Token.{opener-of, end-of, scalar-of, operator-of, mixed-container-token}
+use Rattle.tape.specs.Words.{words-for, token-in, tokens-in}
 use Rattle.parse.specs.declared.Parsed.the-variants.{Tokens, Refused}
 use Rattle.parse.specs.Refusals.{number, place}
 use Rattle.parse.specs.Parse.{Outcome, outcome, parse-of}
@@ -20,10 +20,11 @@ unfoldable pub bytes : String → List ℕ
 bytes Strings.[] = []
 bytes (Strings._∷_ c s) = code c ∷ bytes s
 
--- so many tokens; so many, of which one is of note; or a refusal's number and place
+-- so many tokens; so many, of which one is of note; all of them; or a refusal's number and place
 pub data Answer : Type 0 where
   tokens : ℕ → Answer
   tokens-with : ℕ → ℕ → Token → Answer
+  these : List Token → Answer
   refusal_at_ : ℕ → ℕ → Answer
 
 -- one line of the table
@@ -36,9 +37,11 @@ pub record Case : Type 0 where
 unfoldable pub told : Answer → Outcome → Answer
 told (tokens n) (outcome (Tokens count bom) ws) = tokens count
 told (tokens-with n i t) (outcome (Tokens count bom) ws) = tokens-with count i (token-in ws count i)
+told (these ts) (outcome (Tokens count bom) ws) = these (tokens-in ws count)
 told (refusal n at p) (outcome (Tokens count bom) ws) = tokens count
 told (tokens n) (outcome (Refused r) ws) = refusal (number r) at (place r)
 told (tokens-with n i t) (outcome (Refused r) ws) = refusal (number r) at (place r)
+told (these ts) (outcome (Refused r) ws) = refusal (number r) at (place r)
 told (refusal n at p) (outcome (Refused r) ws) = refusal (number r) at (place r)
 
 -- what the parse answers to the text of a line
@@ -48,9 +51,22 @@ parsed c = told (c .answer) (parse-of (bytes (c .text)) (words-for (c .room)))
 abbrev pub case : String → ℕ → Answer → Case
 case text room answer = record { text = text; room = room; answer = answer }
 
+-- the dump's input, token by token as document 01 prints them
+unfoldable pub dumped : List Token
+dumped =
+    scalar-of Unquoted 0 1
+    ∷ opener-of Array 7 true
+    ∷ scalar-of Unquoted 3 1
+    ∷ mixed-container-token
+    ∷ scalar-of Unquoted 5 1
+    ∷ operator-of 7
+    ∷ scalar-of Unquoted 7 1
+    ∷ end-of 1
+    ∷ []
+
 unfoldable pub cases : List Case
 cases =
-    case "a={b c=d}\n" 8 (tokens 8)
+    case "a={b c=d}\n" 8 (these dumped)
     ∷ case "a={b c=d}\n" 7 (refusal 11 at 0)
     ∷ case "" 16 (tokens 0)
     ∷ case "a" 16 (refusal 2 at 0)

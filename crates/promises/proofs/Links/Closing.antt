@@ -1,6 +1,6 @@
 -- Leaving a container, and the text's end inside one, keep the tokens in order.
 -- Assumes nothing.
-use mathlib.Core.Path.{_≡_, sym, _∙_, ap}
+use mathlib.Core.Path.{_≡_, refl, sym, _∙_, ap}
 use mathlib.Core.Bool.{Bool, true, false}
 use mathlib.Core.List.{List, [], _∷_, _++_}
 use mathlib.Core.Logic.{inl, inr}
@@ -22,10 +22,10 @@ use Rattle.sheet.specs.Sound.{nth}
 use Rattle.parse.specs.declared.machine.Machine.{Machine}
 use Rattle.parse.specs.Machine.{done}
 use Rattle.parse.specs.Containers as C
-use Rattle.parse.specs.Containers.{container-at, state-in, close, nothing-open, key-end, text-end}
+use Rattle.parse.specs.Containers.{container-at, state-in, mixed-in, close, nothing-open, key-end, text-end}
 use Rattle.parse.proofs.Splits.{by-container, by-state}
 use Rattle.promises.proofs.Links.Nest.{by-below, Parent}
-use Rattle.promises.proofs.Links.Rows.{add-length}
+use Rattle.promises.proofs.Links.Rows.{add-length, add-last, scalar-coded, Apart, apart-unscaled}
 use Rattle.promises.proofs.Links.Kept.{link-at, Kept, Resting, container-link, link-container, kept-close, tied}
 use Rattle.promises.proofs.Links.Held.{Shaped, Held, Resting-at, Ready, All, all-close-at}
 
@@ -66,12 +66,21 @@ in-container t p s e = inside t p (λ z. let n = none z in let y : _≡_ {A = �
         (λ k l f c. absurd (s .links .top l (rw z at (reads-opener (t .tokens) s p c))))
         (λ c. rw (c, z))
 
--- a parent taken up
-pub resumes : (c : Containers.Container) (ts : List Token) (p : ℕ) → Resting ts p → 1 ≤ length ts → Shaped (state-in c) p ts
-resumes (Containers.the-variants.Opened Array link mixed) ts p r some = (r, some)
-resumes (Containers.the-variants.Opened Object link true) ts p r some = (r, some)
-resumes (Containers.the-variants.Opened Object link false) ts p r some = r
-resumes Containers.the-variants.Nothing ts p r some = r
+-- a parent taken up behind an End
+pub resumes : (c : Containers.Container) (ts : List Token) (p opener : ℕ) → Resting (ts ++ (end-of opener ∷ [])) p → Shaped (state-in c) (mixed-in c) p (ts ++ (end-of opener ∷ []))
+resumes c ts p opener r = go c
+  where
+    some : 1 ≤ length (ts ++ (end-of opener ∷ []))
+    some = omega (arith, add-length ts (end-of opener))
+
+    apart : Apart (ts ++ (end-of opener ∷ []))
+    apart = apart-unscaled _ (r .kept .row) (λ s. scalar-coded (rw (add-last ts (end-of opener)) at s) .3 refl)
+
+    go : (c : Containers.Container) → Shaped (state-in c) (mixed-in c) p (ts ++ (end-of opener ∷ []))
+    go (Containers.the-variants.Opened Array link mixed) = (r, some, λ e. apart)
+    go (Containers.the-variants.Opened Object link true) = (r, some, λ e. apart)
+    go (Containers.the-variants.Opened Object link false) = r
+    go Containers.the-variants.Nothing = r
 
 pub closed-length : (ts : List Token) (p : ℕ) (x y : Token) → length (set ts p x ++ (y ∷ [])) ≡ length ts + 1
 closed-length ts p x y = add-length (set ts p x) y ∙ ap (λ (k : ℕ). k + 1) (length-set ts p x)
@@ -95,8 +104,8 @@ module _ (t : Tape) (m : Machine) (r : Resting-at (m .count) (m .parent) (t .tok
   unfolding close
   close-held o kind =
       all-close-at Held (m .parent) kind (m .mixed) t m _
-      (λ t′ e. let g = closed-rests o kind (m .mixed) e in
-      record { counted = g .rest .counted; shaped = resumes (container-at t (o .up)) (t′ .tokens) (o .up) (g .rest .resting) (g .some) })
+      (λ t′ e. let g = closed-rests o kind (m .mixed) e .rest in
+      record { counted = g .counted; shaped = rw e (resumes (container-at t (o .up)) (set (t .tokens) (m .parent) (opener-of kind (m .count) (m .mixed))) (o .up) (m .parent) (rw e at (g .resting))) })
 
   key-end-held : All Held (key-end t m)
   unfolding key-end

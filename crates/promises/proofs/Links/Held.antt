@@ -1,6 +1,6 @@
 -- What holds of a machine with its tokens, by its state, and what laying a token down keeps of it.
 -- Assumes nothing.
-use mathlib.Core.Path.{_≡_, refl, _∙_, ap}
+use mathlib.Core.Path.{_≡_, refl}
 use mathlib.Core.Bool.{Bool, false}
 use mathlib.Core.List.{List, [], _∷_, _++_}
 use Prim.Native.Nat.{ℕ, _+_, _-_, _≤_}
@@ -12,9 +12,7 @@ use Rattle.tape.specs.declared.token.Token.{Token}
 use Rattle.tape.specs.declared.token.ScalarKind.the-variants.{Unquoted, Quoted}
 use Rattle.tape.specs.declared.token.ContainerKind.{ContainerKind}
 use Rattle.tape.specs.declared.token.ContainerKind.the-variants.{Array}
-use Rattle.tape.specs.declared.shape.Link.{Link}
 use Rattle.tape.specs.Token.{mixed-container-token, opener-of, end-of}
-use Rattle.tape.specs.Shape.{link-of}
 use Rattle.tape.specs.Tape.{Tape, has-room, replace, add, before-last, add-before-last, lay, lay-mixed}
 use Rattle.parse.specs.declared.machine.State.{State}
 use Rattle.parse.specs.declared.machine.State.the-variants.{Key, KeyValueSeparator, ObjectValue, ParseOpen, ArrayValue}
@@ -24,7 +22,7 @@ use Rattle.parse.specs.Scalars.{scalar-then}
 use Rattle.parse.specs.Containers.{close-at}
 use Rattle.parse.specs.KeyValueSeparator.{mixed-on, mix-then}
 use Rattle.parse.proofs.Splits.{by-cut}
-use Rattle.promises.proofs.Links.Rows.{last, add-length, add-last, Plain, plain-scalar}
+use Rattle.promises.proofs.Links.Rows.{last, add-length, add-last, Scalar, scalar-made, Plain, plain-scalar, Apart, apart-add}
 use Rattle.promises.proofs.Links.Kept.{Kept, Resting, kept-plain, Tied}
 
 -- the opener whose kind is not yet known
@@ -32,18 +30,19 @@ abbrev pub unsettled : Token
 unsettled = opener-of Array 0 false
 
 -- in ParseOpen the last token is an unsettled opener, which is not yet counted among the open ones; in KeyValueSeparator the
--- last is the key; only in Key may there be no token
-abbrev pub Shaped : State → ℕ → List Token → Type 0
-Shaped Key p ts = Resting ts p
-Shaped KeyValueSeparator p ts = Resting ts p × (1 ≤ length ts) × (link-of (last ts) ≡ Link.Nothing)
-Shaped ObjectValue p ts = Resting ts p × (1 ≤ length ts)
-Shaped ParseOpen p ts = (us : List Token) × (ts ≡ us ++ (unsettled ∷ [])) × Kept us p × (1 ≤ length us)
-Shaped ArrayValue p ts = Resting ts p × (1 ≤ length ts)
+-- last is the key; where a MixedContainer may go in before the last, in KeyValueSeparator and in ArrayValue unmixed, none stands
+-- there; only in Key may there be no token
+abbrev pub Shaped : State → Bool → ℕ → List Token → Type 0
+Shaped Key mixed p ts = Resting ts p
+Shaped KeyValueSeparator mixed p ts = Resting ts p × (1 ≤ length ts) × Scalar (last ts) × Apart ts
+Shaped ObjectValue mixed p ts = Resting ts p × (1 ≤ length ts)
+Shaped ParseOpen mixed p ts = (us : List Token) × (ts ≡ us ++ (unsettled ∷ [])) × Kept us p × (1 ≤ length us)
+Shaped ArrayValue mixed p ts = Resting ts p × (1 ≤ length ts) × (mixed ≡ false → Apart ts)
 
 -- and the count is that of the tokens
 pub record Held (m : Machine) (ts : List Token) : Type 0 where
   pub counted : m .count ≡ length ts
-  pub shaped : Shaped (m .state) (m .parent) ts
+  pub shaped : Shaped (m .state) (m .mixed) (m .parent) ts
 
 -- what a run that is done leaves
 pub record Finished (count : ℕ) (ts : List Token) : Type 0 where
@@ -95,14 +94,14 @@ module _ (P : Machine → List Token → Type 0) where
       (λ e. rw (close-at, lay, replace, e) (h (add (replace t i (opener-of kind (m .count) mixed)) (end-of i)) refl))
       (λ e. rw (close-at, lay, replace, e) tt)
 
--- what follows a scalar follows a plain token
+-- what follows a scalar follows a plain token that is one
 pub all-scalar-then : (P : Machine → List Token → Type 0) (text : List ℕ) (state : State) (t : Tape) (m : Machine)
-    → ((x : Token) (at : ℕ) → Plain x → P (to m at state (m .count + 1)) (t .tokens ++ (x ∷ []))) → All P (scalar-then text state t m)
+    → ((x : Token) (at : ℕ) → Plain x → Scalar x → P (to m at state (m .count + 1)) (t .tokens ++ (x ∷ []))) → All P (scalar-then text state t m)
 unfolding scalar-then
 all-scalar-then P text state t m h =
     by-cut (scalar-cut text (m .at))
-    (λ from to rest q. rw (scalar-then, q) (all-lay-then P _ rest state t m (h _ rest (plain-scalar Unquoted from (to - from) tt))))
-    (λ from to rest q. rw (scalar-then, q) (all-lay-then P _ rest state t m (h _ rest (plain-scalar Quoted from (to - from) tt))))
+    (λ from to rest q. rw (scalar-then, q) (all-lay-then P _ rest state t m (h _ rest (plain-scalar Unquoted from (to - from) tt) (scalar-made Unquoted from (to - from)))))
+    (λ from to rest q. rw (scalar-then, q) (all-lay-then P _ rest state t m (h _ rest (plain-scalar Quoted from (to - from) tt) (scalar-made Quoted from (to - from)))))
     (λ q. rw (scalar-then, q) tt)
 
 -- ---- a plain token laid down
@@ -110,7 +109,15 @@ all-scalar-then P text state t m h =
 pub counted-add : (ts : List Token) (x : Token) {n : ℕ} → n ≡ length ts → n + 1 ≡ length (ts ++ (x ∷ []))
 counted-add ts x e = omega (arith, add-length ts x)
 
--- a state in which no opener is unsettled
+-- a state that a token may come before: one in which no opener is unsettled, and KeyValueSeparator only after a scalar
+abbrev pub Before : State → Token → Type 0
+Before Key x = Unit {0}
+Before KeyValueSeparator x = Scalar x
+Before ObjectValue x = Unit {0}
+Before ParseOpen x = ⊥
+Before ArrayValue x = Unit {0}
+
+-- a state that a scalar may come before
 abbrev pub Settled : State → Type 0
 Settled Key = Unit {0}
 Settled KeyValueSeparator = Unit {0}
@@ -118,20 +125,27 @@ Settled ObjectValue = Unit {0}
 Settled ParseOpen = ⊥
 Settled ArrayValue = Unit {0}
 
+pub settled-before : (state : State) (x : Token) → Settled state → Scalar x → Before state x
+settled-before Key x d s = tt
+settled-before KeyValueSeparator x d s = s
+settled-before ObjectValue x d s = tt
+settled-before ParseOpen x d s = d
+settled-before ArrayValue x d s = tt
+
 -- a plain token may come before any such state
-pub rest-add : (ts : List Token) (x : Token) (p : ℕ) → Resting ts p → Plain x → (state : State) → Settled state → Shaped state p (ts ++ (x ∷ []))
-rest-add ts x p r plain Key d = kept-plain ts x r plain
-rest-add ts x p r plain KeyValueSeparator d = (kept-plain ts x r plain, omega (arith, add-length ts x), ap link-of (add-last ts x) ∙ plain .unlinked)
-rest-add ts x p r plain ObjectValue d = (kept-plain ts x r plain, omega (arith, add-length ts x))
-rest-add ts x p r plain ParseOpen d = absurd d
-rest-add ts x p r plain ArrayValue d = (kept-plain ts x r plain, omega (arith, add-length ts x))
+pub rest-add : (ts : List Token) (x : Token) (p : ℕ) → Resting ts p → Plain x → (state : State) (mixed : Bool) → Before state x → Shaped state mixed p (ts ++ (x ∷ []))
+rest-add ts x p r plain Key mixed d = kept-plain ts x r plain
+rest-add ts x p r plain KeyValueSeparator mixed d = (kept-plain ts x r plain, omega (arith, add-length ts x), rw (add-last ts x) d, apart-add ts x (r .kept .row))
+rest-add ts x p r plain ObjectValue mixed d = (kept-plain ts x r plain, omega (arith, add-length ts x))
+rest-add ts x p r plain ParseOpen mixed d = absurd d
+rest-add ts x p r plain ArrayValue mixed d = (kept-plain ts x r plain, omega (arith, add-length ts x), λ e. apart-add ts x (r .kept .row))
 
 module _ (t : Tape) (m : Machine) (r : Resting-at (m .count) (m .parent) (t .tokens)) where
-  added : (x : Token) (at : ℕ) (state : State) → Plain x → Settled state → Held (to m at state (m .count + 1)) (t .tokens ++ (x ∷ []))
-  added x at state plain d = record { counted = counted-add (t .tokens) x (r .counted); shaped = rest-add (t .tokens) x (m .parent) (r .resting) plain state d }
+  added : (x : Token) (at : ℕ) (state : State) → Plain x → Before state x → Held (to m at state (m .count + 1)) (t .tokens ++ (x ∷ []))
+  added x at state plain d = record { counted = counted-add (t .tokens) x (r .counted); shaped = rest-add (t .tokens) x (m .parent) (r .resting) plain state (m .mixed) d }
 
-  pub lay-plain : (x : Token) (at : ℕ) (state : State) → Plain x → Settled state → All Held (lay-then x at state t m)
+  pub lay-plain : (x : Token) (at : ℕ) (state : State) → Plain x → Before state x → All Held (lay-then x at state t m)
   lay-plain x at state plain d = all-lay-then Held x at state t m (added x at state plain d)
 
   pub scalar-held : (text : List ℕ) (state : State) → Settled state → All Held (scalar-then text state t m)
-  scalar-held text state d = all-scalar-then Held text state t m (λ x at plain. added x at state plain d)
+  scalar-held text state d = all-scalar-then Held text state t m (λ x at plain s. added x at state plain (settled-before state x d s))

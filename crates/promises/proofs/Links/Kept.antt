@@ -19,10 +19,10 @@ use Rattle.tape.specs.declared.shape.Link.the-variants.{ToEnd}
 use Rattle.tape.specs.Token.{no-token, mixed-container-token, opener-of, scalar-of, end-of, headed, container-of, standing-of}
 use Rattle.tape.specs.Shape.{linked, link-of, Opens}
 use Rattle.tape.specs.Tape.{before-last}
-use Rattle.tape.proofs.Shapes.{scalar-shape, operator-shape, opens-link, end-link, link-made}
+use Rattle.tape.proofs.Shapes.{scalar-shape, opens-link, end-link, link-made, unlinked-opens}
 use Rattle.sheet.specs.Sound.{nth, Form, container, mixed-container, scalar, operator, closing, Closed, Opened, Nested, Headed}
 use Rattle.promises.proofs.Links.Nest.{by-equal, by-below, Nest, opener-below, end-below, widen, nest-open, nest-close, all-closed}
-use Rattle.promises.proofs.Links.Rows.{last, add-length, add-new, add-same, add-last, insert-length, insert-new, insert-last, insert-same, Unheaded, unheaded, Plain, plain-mixed, Row, row-add, row-set, row-insert}
+use Rattle.promises.proofs.Links.Rows.{last, add-length, add-new, add-same, add-last, insert-length, insert-new, insert-last, insert-same, Scalar, Unmarked, unmarked, scalar-made, scalar-unlinked, Unheaded, unheaded, Plain, mixed-unlinked, Row, Apart, row-add, row-set, row-insert}
 
 -- the link at each index
 abbrev pub link-at : List Token → ℕ → Link
@@ -47,6 +47,14 @@ opener-link kind link mixed = opens-link (opener-of kind link mixed) (opens-self
 opener-unheaded : (kind : ContainerKind) (link : ℕ) (mixed : Bool) → Unheaded (opener-of kind link mixed)
 opener-unheaded Array link mixed = unheaded _ (λ z. omega arith)
 opener-unheaded Object link mixed = unheaded _ (λ z. omega arith)
+
+opener-unmarked : (kind : ContainerKind) (link : ℕ) (mixed : Bool) → Unmarked (opener-of kind link mixed)
+opener-unmarked Array link mixed = unmarked _ (λ z. omega arith)
+opener-unmarked Object link mixed = unmarked _ (λ z. omega arith)
+
+-- an opener is no scalar
+opener-no-scalar : {t : Token} {link : ℕ} {P : Type 0} → link-of t ≡ ToEnd link → Scalar t → P
+opener-no-scalar {t} e s = absurd (unlinked-opens t (scalar-unlinked s) (link-made t e))
 
 -- what a token is read as is what it was made as
 opener-container : (kind : ContainerKind) (link : ℕ) (mixed : Bool) → container-of (opener-of kind link mixed) ≡ Containers.the-variants.Opened kind link mixed
@@ -96,20 +104,20 @@ ScalarStands Standings.the-variants.OtherScalar = Unit {0}
 ScalarStands Standings.the-variants.End = ⊥
 ScalarStands Standings.the-variants.Nothing = ⊥
 
--- a token of a form that is read as a scalar names none
-pub standing-link : {t : Token} → Form t → ScalarStands (standing-of t) → link-of t ≡ Link.Nothing
+-- a token of a form that is read as a scalar is one
+pub standing-scalar : {t : Token} → Form t → ScalarStands (standing-of t) → Scalar t
 unfolding standing-of
-standing-link {t} (container end o) s = absurd (rw (o .2, opener-standing (o .0) end (o .1)) at s)
-standing-link {t} (mixed-container q) s = ap link-of q ∙ plain-mixed .unlinked
-standing-link {t} (scalar offset size v) s = ap link-of (v .1) ∙ ap linked (scalar-shape (v .0) offset size)
-standing-link {t} (operator number low high q) s = ap link-of q ∙ ap linked (operator-shape number low high)
-standing-link {t} (closing opener q) s = absurd (rw q at s)
+standing-scalar {t} (container end o) s = absurd (rw (o .2, opener-standing (o .0) end (o .1)) at s)
+standing-scalar {t} (mixed-container q) s = absurd (rw q at s)
+standing-scalar {t} (scalar offset size v) s = record { kind = v .0; offset = offset; size = size; made = v .1 }
+standing-scalar {t} (operator number low high q) s = absurd (rw q at s)
+standing-scalar {t} (closing opener q) s = absurd (rw q at s)
 
 -- ---- a plain token added
 pub kept-plain : (ts : List Token) (x : Token) {p : ℕ} → Resting ts p → Plain x → Resting (ts ++ (x ∷ [])) p
 kept-plain ts x r plain = record {
   kept = record {
-    row = row-add ts x (r .kept .row) (plain .form) (λ offset size e. absurd (r .rests offset size e));
+    row = row-add ts x (r .kept .row) (plain .form) (plain .bare) (λ offset size e. absurd (r .rests offset size e));
     links = widen (r .kept .links)
         (λ i. by-equal i (length ts)
         (λ z. rw z (ap link-of (add-new ts x) ∙ plain .unlinked ∙ sym (r .kept .links .past (length ts) (omega arith))))
@@ -125,7 +133,7 @@ kept-opener ts kind p k some =
     let x : Token = opener-of kind p false in
     record {
       kept = record {
-        row = row-add ts x (k .row) (container p (opens-self kind p false)) (λ offset size e. (p, opens-self kind p false));
+        row = row-add ts x (k .row) (container p (opens-self kind p false)) (opener-unmarked kind p false) (λ offset size e. (p, opens-self kind p false));
         links = rw (add-length ts x)
             (nest-open (k .links) some
             (λ i d. ap link-of (add-same ts x i d))
@@ -134,9 +142,9 @@ kept-opener ts kind p k some =
       rests = rw (add-last ts x) (opener-unheaded kind p false);
     }
 
--- ---- a MixedContainer put in before the last, which names none
-pub kept-insert : (ts : List Token) {p : ℕ} → Resting ts p → 1 ≤ length ts → link-of (last ts) ≡ Link.Nothing → Resting (before-last ts mixed-container-token) p
-kept-insert ts {p} r some unlinked = go (length ts - 1) (omega arith)
+-- ---- a MixedContainer put in before the last, a scalar that has none before it
+pub kept-insert : (ts : List Token) {p : ℕ} → Resting ts p → 1 ≤ length ts → Scalar (last ts) → Apart ts → Resting (before-last ts mixed-container-token) p
+kept-insert ts {p} r some last-one apart = go (length ts - 1) (omega arith)
   where
     go : (k : ℕ) → length ts ≡ suc k → Resting (before-last ts mixed-container-token) p
     go k counted =
@@ -144,16 +152,16 @@ kept-insert ts {p} r some unlinked = go (length ts - 1) (omega arith)
         let x : Token = mixed-container-token in
         let l : length (before-last ts x) ≡ length ts + 1 = insert-length ts x k counted in
         let end : length (before-last ts x) - 1 ≡ suc k = omega arith in
-        let bare : link-of (nth ts k) ≡ Link.Nothing = rw here at unlinked in
+        let one : Scalar (nth ts k) = rw here at last-one in
         let other : Unheaded (nth ts k) = rw here at (r .rests) in
         record {
           kept = record {
-            row = row-insert ts x k counted (r .kept .row) plain-mixed bare other;
+            row = row-insert ts k counted (r .kept .row) one other apart;
             links = widen (r .kept .links)
                 (λ i. by-equal i k
-                (λ z. rw z (ap link-of (insert-new ts x k counted) ∙ plain-mixed .unlinked ∙ sym bare))
+                (λ z. rw z (ap link-of (insert-new ts x k counted) ∙ mixed-unlinked ∙ sym (scalar-unlinked one)))
                 (λ d. by-equal i (suc k)
-                (λ z. rw z (ap link-of (insert-last ts x k counted) ∙ bare ∙ sym (r .kept .links .past (suc k) (omega arith))))
+                (λ z. rw z (ap link-of (insert-last ts x k counted) ∙ scalar-unlinked one ∙ sym (r .kept .links .past (suc k) (omega arith))))
                 (λ d′. ap link-of (insert-same ts x k counted i d d′))))
                 (omega arith);
           };
@@ -170,7 +178,7 @@ kept-close ts p up kind mixed r here inner =
     let below : p < n = opener-below (r .kept .links) here in
     let l : length us ≡ n = length-set ts p x in
     let at : nth us p ≡ x = getD-set-same ts p x no-token below in
-    let row : Row us = row-set ts p x below (r .kept .row) (container n (opens-self kind n mixed)) (λ o. (n, opens-self kind n mixed)) (λ h. opener-unheaded kind n mixed) in
+    let row : Row us = row-set ts p x below (r .kept .row) (container n (opens-self kind n mixed)) (opener-unmarked kind n mixed) (λ o. (n, opens-self kind n mixed)) (opener-no-scalar here) (λ h. opener-unheaded kind n mixed) in
     let rests : Unheaded (last us) =
     by-equal (n - 1) p
     (λ z. rw (l, z, at) (opener-unheaded kind n mixed))
@@ -178,7 +186,7 @@ kept-close ts p up kind mixed r here inner =
     in
     record {
       kept = record {
-        row = row-add us (end-of p) row (closing p refl) (λ offset size e. absurd (rests offset size e));
+        row = row-add us (end-of p) row (closing p refl) (unmarked (end-of p) (λ z. omega arith)) (λ offset size e. absurd (rests offset size e));
         links = rw (add-length us (end-of p), l)
             (nest-close (r .kept .links) here inner
             (λ i d d′. ap link-of (add-same us (end-of p) i (λ z. d′ (z ∙ l)) ∙ getD-set-other ts p i x no-token d))
@@ -189,10 +197,11 @@ kept-close ts p up kind mixed r here inner =
     }
 
 -- ---- a token changed for one that names the same
-pub kept-alike : (ts : List Token) (k : ℕ) (x : Token) {p : ℕ} → k < length ts → Kept ts p → Form x → link-of x ≡ link-at ts k → (k + 1 < length ts → Unheaded x) → Kept (set ts k x) p
-kept-alike ts k x {p} below s form same other =
+pub kept-alike : (ts : List Token) (k : ℕ) (x : Token) {p : ℕ} → k < length ts → Kept ts p → Form x → Unmarked x → (Scalar (nth ts k) → Scalar x) → link-of x ≡ link-at ts k
+    → (k + 1 < length ts → Unheaded x) → Kept (set ts k x) p
+kept-alike ts k x {p} below s form bare scalars same other =
     record {
-      row = row-set ts k x below (s .row) form (λ o. (o .0, link-made x (same ∙ opens-link (nth ts k) (o .1)))) other;
+      row = row-set ts k x below (s .row) form bare (λ o. (o .0, link-made x (same ∙ opens-link (nth ts k) (o .1)))) scalars other;
       links = widen (s .links)
           (λ i. by-equal i k
           (λ z. rw z (ap link-of (getD-set-same ts k x no-token below) ∙ same))
@@ -206,19 +215,24 @@ kept-header ts r some e =
     let t : Token = last ts in
     kept-alike ts (length ts - 1) (headed t) (omega arith) (r .kept)
     (scalar (t .a) (t .b) (Header, refl))
-    (ap linked (scalar-shape Header (t .a) (t .b)) ∙ sym (standing-link (r .kept .row .forms (length ts - 1) (omega arith)) (rw e tt)))
+    (unmarked (headed t) (λ z. omega arith))
+    (λ s. scalar-made Header (t .a) (t .b))
+    (ap linked (scalar-shape Header (t .a) (t .b)) ∙ sym (scalar-unlinked (standing-scalar (r .kept .row .forms (length ts - 1) (omega arith)) (rw e tt))))
     (λ h. absurd (omega arith))
 
 -- the parent's flag set
 pub kept-flag : (ts : List Token) (p : ℕ) (kind : ContainerKind) (link : ℕ) (mixed : Bool) → p < length ts → Kept ts p
     → container-of (nth ts p) ≡ Containers.the-variants.Opened kind link mixed → Kept (set ts p (opener-of kind link true)) p
 kept-flag ts p kind link mixed below s e =
+    let here : link-at ts p ≡ ToEnd link = container-link (s .row .forms p below) e in
     kept-alike ts p (opener-of kind link true) below s
     (container link (opens-self kind link true))
-    (opener-link kind link true ∙ sym (container-link (s .row .forms p below) e))
+    (opener-unmarked kind link true)
+    (opener-no-scalar here)
+    (opener-link kind link true ∙ sym here)
     (λ h. opener-unheaded kind link true)
 
--- ---- nothing open: the sentences of a sound sheet that speak of forms, links and Headers
+-- ---- nothing open: the sentences of a sound sheet that speak of forms, links and Headers; and MixedContainers
 pub record Tied (ts : List Token) : Type 0 where
   pub forms : (i : ℕ) → i < length ts → Form (nth ts i)
   pub closed : (i : ℕ) → Closed ts i
@@ -226,6 +240,7 @@ pub record Tied (ts : List Token) : Type 0 where
   pub nested : (i : ℕ) → Nested ts i
   pub top : (end : ℕ) → Opens (nth ts 0) end → ⊥
   pub headed : (i : ℕ) → Headed ts i
+  pub marked : (i : ℕ) → nth ts i ≡ mixed-container-token → Scalar (nth ts (i + 1))
 
 pub tied : (ts : List Token) → Resting ts 0 → Tied ts
 tied ts r =
@@ -248,4 +263,5 @@ tied ts r =
           (λ h. absurd (by-below i (length ts)
           (λ k. let z : i ≡ length ts - 1 = omega arith in r .rests offset size (rw z at e))
           (λ k. unheaded no-token (λ z. omega arith) offset size (sym (List·getD-eq-default ts no-token {n = i} k) ∙ e))));
+      marked = r .kept .row .marked;
     }

@@ -27,9 +27,9 @@ use Rattle.parse.specs.Containers.{open-then, container-at}
 use Rattle.parse.specs.ParseOpen.{open-byte, settle, open-empty, open-parameter, open-brace, flag-parent, follows-key, open-as, open-scalar, parse-open-turn}
 use Rattle.parse.proofs.Splits.{by-skipped, by-container, by-open-byte}
 use Rattle.promises.proofs.Links.Nest.{parent-below}
-use Rattle.promises.proofs.Links.Rows.{add-length, add-new, Plain}
+use Rattle.promises.proofs.Links.Rows.{add-length, add-new, Scalar, Plain, Apart, apart-add}
 use Rattle.promises.proofs.Links.Kept.{Kept, opener-link, kept-opener, kept-close, kept-flag}
-use Rattle.promises.proofs.Links.Held.{unsettled, Held, Ready, All, all-and-then, all-lay-then, all-close-at, counted-add, Settled, rest-add, all-scalar-then}
+use Rattle.promises.proofs.Links.Held.{unsettled, Held, Ready, All, all-and-then, all-lay-then, all-close-at, counted-add, Settled, settled-before, rest-add, all-scalar-then}
 use Rattle.promises.proofs.Links.Closing.{resumes, closed-length}
 use Rattle.promises.proofs.Links.Parameters.{parameter-held}
 
@@ -57,6 +57,7 @@ pub record Fresh (count p : ℕ) (ts : List Token) : Type 0 where
   pub kept : Kept before p
   pub some : 1 ≤ length before
   pub plain : Plain first
+  pub scalar : Scalar first
 
 -- the opener settles
 settle-held : (kind : ContainerKind) (at : ℕ) (state : State) → Settled state → (t : Tape) (m : Machine) → Fresh (m .count) (m .parent) (t .tokens) → All Held (settle kind 2 at state t m)
@@ -69,7 +70,7 @@ settle-held kind at state d t m f =
     let e : set (t .tokens) (m .count - 2) x ≡ (us ++ (x ∷ [])) ++ (f .first ∷ []) = rw (f .standing, reset us unsettled x (f .first ∷ []) i) (snoc-two us x (f .first)) in
     record {
       counted = rw (length-set (t .tokens) (m .count - 2) x) (f .counted);
-      shaped = rw (e, i) (rest-add (us ++ (x ∷ [])) (f .first) (length us) (kept-opener us kind (m .parent) (f .kept) (f .some)) (f .plain) state d);
+      shaped = rw (e, i) (rest-add (us ++ (x ∷ [])) (f .first) (length us) (kept-opener us kind (m .parent) (f .kept) (f .some)) (f .plain) state false (settled-before state (f .first) d (f .scalar)));
     }
 
 -- the parent's flag set
@@ -91,6 +92,7 @@ flag-held t m f =
       kept = kept-flag us (m .parent) k l b below (f .kept) (rw same at c);
       some = rw (length-set us (m .parent) x) (f .some);
       plain = f .plain;
+      scalar = f .scalar;
     }))
     (λ c. rw (flag-parent, e, c) f))
     (λ e. rw (flag-parent, e) f)
@@ -110,15 +112,21 @@ module _ (text : List ℕ) (t : Tape) (m : Machine) (c : m .count ≡ length (t 
   place = omega (arith, add-length us unsettled, ap length standing)
 
   -- the opener settled, with nothing behind it
+  settled-tokens : (kind : ContainerKind) → set (t .tokens) (m .count - 1) (opener-of kind (m .parent) false) ≡ us ++ (opener-of kind (m .parent) false ∷ [])
+  settled-tokens kind = rw standing (reset us unsettled (opener-of kind (m .parent) false) [] place)
+
   settled : (kind : ContainerKind) → Ready (m .count) (m .count - 1) (set (t .tokens) (m .count - 1) (opener-of kind (m .parent) false))
   settled kind =
       let x : Token = opener-of kind (m .parent) false in
       let l : length (set (t .tokens) (m .count - 1) x) ≡ length (t .tokens) = length-set (t .tokens) (m .count - 1) x in
-      let e : set (t .tokens) (m .count - 1) x ≡ us ++ (x ∷ []) = rw standing (reset us unsettled x [] place) in
+      let e : set (t .tokens) (m .count - 1) x ≡ us ++ (x ∷ []) = settled-tokens kind in
       record {
         rest = record { counted = c ∙ sym l; resting = rw (e, place) (kept-opener us kind (m .parent) k some) };
         some = rw e (omega (arith, add-length us x));
       }
+
+  settled-apart : (kind : ContainerKind) → Apart (set (t .tokens) (m .count - 1) (opener-of kind (m .parent) false))
+  settled-apart kind = rw (settled-tokens kind) (apart-add us (opener-of kind (m .parent) false) (k .row))
 
   open-scalar-held : All Held (open-scalar text t m)
   unfolding open-scalar
@@ -127,7 +135,7 @@ module _ (text : List ℕ) (t : Tape) (m : Machine) (c : m .count ≡ length (t 
       (scalar-then text ParseOpen t m)
       (λ t′ m′. open-as text (flag-parent t′ m′) m′)
       (all-scalar-then (λ m′ ts. Fresh (m′ .count) (m′ .parent) ts) text ParseOpen t m
-      (λ x at plain. record {
+      (λ x at plain s. record {
         before = us;
         first = x;
         counted = counted-add (t .tokens) x c;
@@ -135,6 +143,7 @@ module _ (text : List ℕ) (t : Tape) (m : Machine) (c : m .count ≡ length (t 
         kept = k;
         some = some;
         plain = plain;
+        scalar = s;
       }))
       (λ t′ m′ f. open-as-held text (flag-parent t′ m′) m′ (flag-held t′ m′ f))
 
@@ -145,7 +154,7 @@ module _ (text : List ℕ) (t : Tape) (m : Machine) (c : m .count ≡ length (t 
       (λ p e. by-bool (eqb (byte-at text p) brace-close)
       (λ f. rw (open-brace, e, f) (record { counted = c; shaped = (us, standing, k, some) }))
       (λ f. let g = settled Array in
-      rw (open-brace, e, f) (record { counted = g .rest .counted; shaped = (g .rest .resting, g .some) })))
+      rw (open-brace, e, f) (record { counted = g .rest .counted; shaped = (g .rest .resting, g .some, λ z. settled-apart Array) })))
       (λ e. rw (open-brace, e) tt)
 
   open-parameter-held : All Held (open-parameter text t m)
@@ -170,7 +179,7 @@ module _ (text : List ℕ) (t : Tape) (m : Machine) (c : m .count ≡ length (t 
       let n : length (set vs (length us) x ++ (end-of (length us) ∷ [])) ≡ length vs + 1 = closed-length vs (length us) x (end-of (length us)) in
       record {
         counted = rw (same, n, l);
-        shaped = rw same (resumes (container-at t (m .parent)) _ (m .parent) (rw l at r) (omega arith));
+        shaped = rw same (resumes (container-at t (m .parent)) (set vs (length us) x) (m .parent) (length us) (rw l at r));
       })
 
   pub parse-open-held : All Held (parse-open-turn text t m)

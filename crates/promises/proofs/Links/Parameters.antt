@@ -21,7 +21,7 @@ use Rattle.parse.specs.Machine.{byte-at, within, lay-then}
 use Rattle.parse.specs.Parameter.{parameter-object, value-or-object, parameter-value, parameter-named, parameter-name, parameter}
 use Rattle.parse.specs.Parse.{start}
 use Rattle.parse.proofs.Splits.{by-skipped}
-use Rattle.promises.proofs.Links.Rows.{add-length, Cut-kind, plain-scalar}
+use Rattle.promises.proofs.Links.Rows.{add-length, Cut-kind, scalar-made, plain-scalar}
 use Rattle.promises.proofs.Links.Kept.{kept-plain, kept-opener}
 use Rattle.promises.proofs.Links.Held.{Held, Resting-at, Ready, All, all-and-then, all-lay-then, counted-add, lay-plain}
 
@@ -36,7 +36,7 @@ object-held start end rest t m r =
       counted = counted-add (t .tokens) _ (r .rest .counted);
       resting = rw (r .rest .counted) (kept-opener (t .tokens) Object (m .parent) (r .rest .resting .kept) (r .some));
     }))
-    (λ t′ m′ g. lay-plain t′ (within m′ (m .count)) g _ rest KeyValueSeparator (plain-scalar Unquoted start (end - start) tt) tt)
+    (λ t′ m′ g. lay-plain t′ (within m′ (m .count)) g _ rest KeyValueSeparator (plain-scalar Unquoted start (end - start) tt) (scalar-made Unquoted start (end - start)))
 
 value-held : (text : List ℕ) (start end rest : ℕ) (t : Tape) (m : Machine) → Ready (m .count) (m .parent) (t .tokens) → All Held (value-or-object text start end rest t m)
 unfolding value-or-object

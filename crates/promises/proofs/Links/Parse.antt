@@ -19,7 +19,7 @@ use Rattle.tape.specs.Words.{tokens-in, padded}
 use Rattle.tape.proofs.Views.{padded-tokens}
 use Rattle.parse.specs.declared.Parsed.the-variants.{Tokens, Refused}
 use Rattle.promises.proofs.Links.Nest.{nest-none}
-use Rattle.promises.proofs.Links.Rows.{unheaded}
+use Rattle.promises.proofs.Links.Rows.{unmarked, unheaded}
 use Rattle.promises.proofs.Links.Held.{Held, Finished, All}
 use Rattle.promises.proofs.Links.Turns.{turn-held}
 
@@ -38,7 +38,7 @@ start-held bom = record {
   counted = refl;
   shaped = record {
     kept = record {
-      row = record { forms = λ i h. absurd (omega arith); headed = λ i offset size e h. absurd (omega arith) };
+      row = record { forms = λ i h. absurd (omega arith); headed = λ i offset size e h. absurd (omega arith); marked = λ i e. absurd (unmarked no-token (λ z. omega arith) e) };
       links = nest-none (λ i. ap linked no-shape);
     };
     rests = unheaded no-token (λ z. omega arith);

@@ -1,4 +1,5 @@
--- The tokens of a tape one by one: each has a form, and a Header that has a token behind it has an opener there.
+-- The tokens of a tape one by one: each has a form, a Header that has a token behind it has an opener there, and a MixedContainer
+-- has a scalar there.
 -- What each change of a tape does to the token at an index, and to this.
 -- Assumes nothing.
 use mathlib.Core.Path.{_≡_, refl, sym, _∙_, ap}
@@ -14,7 +15,7 @@ use Rattle.tape.specs.declared.token.Token.{Token}
 use Rattle.tape.specs.declared.token.ScalarKind.{ScalarKind}
 use Rattle.tape.specs.declared.token.ScalarKind.the-variants.{Unquoted, Quoted, Parameter, UndefinedParameter, Header}
 use Rattle.tape.specs.declared.shape.Link.{Link}
-use Rattle.tape.specs.Token.{no-token, mixed-container-token, scalar-of, operator-of, header-code, scalar-code}
+use Rattle.tape.specs.Token.{no-token, mixed-container-token, scalar-of, operator-of, header-code, mixed-container-code, scalar-code}
 use Rattle.tape.specs.Shape.{linked, link-of, Opens}
 use Rattle.tape.specs.Tape.{before-last}
 use Rattle.tape.proofs.Shapes.{scalar-shape, operator-shape, mixed-container-shape, unlinked-opens}
@@ -64,7 +65,46 @@ module _ (ts : List Token) (x : Token) (k : ℕ) (counted : length ts ≡ suc k)
       rw (← moved, getD-set-other (ts ++ (nth ts k ∷ [])) k i x no-token d)
       (add-same ts (nth ts k) i (λ z. d′ (omega arith)))
 
--- ---- tokens that name none and are no Header
+-- ---- scalars, and tokens that are no MixedContainer
+pub record Scalar (t : Token) : Type 0 where
+  pub kind : ScalarKind
+  pub offset : ℕ
+  pub size : ℕ
+  pub made : t ≡ scalar-of kind offset size
+
+abbrev pub Unmarked : Token → Type 0
+Unmarked t = t ≡ mixed-container-token → ⊥
+
+pub unmarked : (t : Token) → (t .code ≡ mixed-container-code → ⊥) → Unmarked t
+unmarked t d e = d (ap (λ (x : Token). x .code) e)
+
+-- a scalar's code is 4, 5, 6, 7 or 10
+pub scalar-coded : {t : Token} → Scalar t → (4 ≤ t .code) × (t .code ≤ 10) × (t .code ≡ 8 → ⊥) × (t .code ≡ 9 → ⊥)
+scalar-coded {t} s = rw (s .made) (go (s .kind))
+  where
+    go : (k : ScalarKind) → (4 ≤ scalar-code k) × (scalar-code k ≤ 10) × (scalar-code k ≡ 8 → ⊥) × (scalar-code k ≡ 9 → ⊥)
+    go Unquoted = (omega arith, omega arith, λ z. omega arith, λ z. omega arith)
+    go Quoted = (omega arith, omega arith, λ z. omega arith, λ z. omega arith)
+    go Parameter = (omega arith, omega arith, λ z. omega arith, λ z. omega arith)
+    go UndefinedParameter = (omega arith, omega arith, λ z. omega arith, λ z. omega arith)
+    go Header = (omega arith, omega arith, λ z. omega arith, λ z. omega arith)
+
+pub scalar-unmarked : {t : Token} → Scalar t → Unmarked t
+scalar-unmarked {t} s = let c = scalar-coded s in unmarked t (λ z. omega (arith, c .0))
+
+pub scalar-unlinked : {t : Token} → Scalar t → link-of t ≡ Link.Nothing
+scalar-unlinked s = ap link-of (s .made) ∙ ap linked (scalar-shape (s .kind) (s .offset) (s .size))
+
+-- where a scalar is read there is a token
+pub scalar-below : (ts : List Token) (i : ℕ) → Scalar (nth ts i) → i < length ts
+scalar-below ts i s =
+    by-below i (length ts)
+    (λ h. h)
+    (λ h.
+    let none : nth ts i ≡ no-token = List·getD-eq-default ts no-token {n = i} h in
+    let c : 4 ≤ no-token .code = scalar-coded (rw none at s) .0 in absurd (omega arith))
+
+-- ---- tokens that name none and are neither a Header nor a MixedContainer
 abbrev pub Unheaded : Token → Type 0
 Unheaded t = (offset size : ℕ) → t ≡ scalar-of Header offset size → ⊥
 
@@ -75,6 +115,7 @@ pub record Plain (t : Token) : Type 0 where
   pub form : Form t
   pub unlinked : link-of t ≡ Link.Nothing
   pub other : Unheaded t
+  pub bare : Unmarked t
 
 -- a kind of scalar that a run is cut as
 abbrev pub Cut-kind : ScalarKind → Type 0
@@ -84,11 +125,15 @@ Cut-kind Parameter = Unit {0}
 Cut-kind UndefinedParameter = Unit {0}
 Cut-kind Header = ⊥
 
+pub scalar-made : (kind : ScalarKind) (offset size : ℕ) → Scalar (scalar-of kind offset size)
+scalar-made kind offset size = record { kind = kind; offset = offset; size = size; made = refl }
+
 pub plain-scalar : (kind : ScalarKind) (offset size : ℕ) → Cut-kind kind → Plain (scalar-of kind offset size)
 plain-scalar kind offset size d = record {
   form = scalar offset size (kind, refl);
   unlinked = ap linked (scalar-shape kind offset size);
   other = unheaded (scalar-of kind offset size) (no-header kind d);
+  bare = scalar-unmarked (scalar-made kind offset size);
 }
   where
     no-header : (k : ScalarKind) → Cut-kind k → scalar-code k ≡ header-code → ⊥
@@ -111,10 +156,10 @@ numbered Exists = omega arith
 pub plain-operator : (o : Operator) → Plain (operator-of (number-of o))
 plain-operator o =
     let r = numbered o in
-    record { form = operator (number-of o) (r .0) (r .1) refl; unlinked = ap linked (operator-shape (number-of o) (r .0) (r .1)); other = unheaded _ (λ z. omega arith) }
+    record { form = operator (number-of o) (r .0) (r .1) refl; unlinked = ap linked (operator-shape (number-of o) (r .0) (r .1)); other = unheaded _ (λ z. omega arith); bare = unmarked _ (λ z. omega arith) }
 
-pub plain-mixed : Plain mixed-container-token
-plain-mixed = record { form = mixed-container refl; unlinked = ap linked mixed-container-shape; other = unheaded _ (λ z. omega arith) }
+pub mixed-unlinked : link-of mixed-container-token ≡ Link.Nothing
+mixed-unlinked = ap linked mixed-container-shape
 
 -- ---- the tokens of a tape, one by one
 -- an opener of some link
@@ -124,10 +169,27 @@ Opener t = (end : ℕ) × Opens t end
 pub record Row (ts : List Token) : Type 0 where
   pub forms : (i : ℕ) → i < length ts → Form (nth ts i)
   pub headed : (i offset size : ℕ) → nth ts i ≡ scalar-of Header offset size → i + 1 < length ts → Opener (nth ts (i + 1))
+  pub marked : (i : ℕ) → nth ts i ≡ mixed-container-token → Scalar (nth ts (i + 1))
+
+-- the last but one is no MixedContainer, so that one may go in before the last
+abbrev pub Apart : List Token → Type 0
+Apart ts = (j : ℕ) → j + 2 ≡ length ts → Unmarked (nth ts j)
+
+-- it is none where the last is no scalar
+pub apart-unscaled : (ts : List Token) → Row ts → (Scalar (last ts) → ⊥) → Apart ts
+apart-unscaled ts r d j h e = let k : j + 1 ≡ length ts - 1 = omega arith in d (rw k at (r .marked j e))
+
+-- nor where a token was added
+pub apart-add : (ts : List Token) (x : Token) → Row ts → Apart (ts ++ (x ∷ []))
+apart-add ts x r j h e =
+    let l : length (ts ++ (x ∷ [])) ≡ length ts + 1 = add-length ts x in
+    let old : nth ts j ≡ mixed-container-token = rw (add-same ts x j (λ z. omega arith)) at e in
+    let below : j + 1 < length ts = scalar-below ts (j + 1) (r .marked j old) in
+    omega arith
 
 -- a token added: behind a Header only an opener
-pub row-add : (ts : List Token) (x : Token) → Row ts → Form x → ((offset size : ℕ) → last ts ≡ scalar-of Header offset size → Opener x) → Row (ts ++ (x ∷ []))
-row-add ts x r form suits = record {
+pub row-add : (ts : List Token) (x : Token) → Row ts → Form x → Unmarked x → ((offset size : ℕ) → last ts ≡ scalar-of Header offset size → Opener x) → Row (ts ++ (x ∷ []))
+row-add ts x r form bare suits = record {
   forms = λ i h.
       by-equal i (length ts)
       (λ z. rw (z, add-new ts x) form)
@@ -140,11 +202,19 @@ row-add ts x r form suits = record {
       let k : i ≡ length ts - 1 = omega arith in
       rw (z, add-new ts x) (suits offset size (rw k at old)))
       (λ d. rw (add-same ts x (i + 1) d) (r .headed i offset size old (omega arith)));
+  marked = λ i e.
+      by-equal i (length ts)
+      (λ z. absurd (bare (rw (z, add-new ts x) at e)))
+      (λ d.
+      let old = r .marked i (rw (add-same ts x i d) at e) in
+      let below : i + 1 < length ts = scalar-below ts (i + 1) old in
+      rw (add-same ts x (i + 1) (λ z. omega arith)) old);
 }
 
--- a token changed: an opener stays one, and a Header is made of the last alone
-pub row-set : (ts : List Token) (k : ℕ) (x : Token) → k < length ts → Row ts → Form x → (Opener (nth ts k) → Opener x) → (k + 1 < length ts → Unheaded x) → Row (set ts k x)
-row-set ts k x below r form keeps other = record {
+-- a token changed: an opener stays one, a scalar stays one, and a Header is made of the last alone
+pub row-set : (ts : List Token) (k : ℕ) (x : Token) → k < length ts → Row ts → Form x → Unmarked x → (Opener (nth ts k) → Opener x) → (Scalar (nth ts k) → Scalar x)
+    → (k + 1 < length ts → Unheaded x) → Row (set ts k x)
+row-set ts k x below r form bare keeps scalars other = record {
   forms = λ i h.
       by-equal i k
       (λ z. rw (z, getD-set-same ts k x no-token below) form)
@@ -160,25 +230,46 @@ row-set ts k x below r form keeps other = record {
       by-equal (i + 1) k
       (λ z. rw (z, getD-set-same ts k x no-token below) (keeps (rw z at old)))
       (λ d′. rw (getD-set-other ts k (i + 1) x no-token d′) old));
+  marked = λ i e.
+      by-equal i k
+      (λ z. absurd (bare (rw (z, getD-set-same ts k x no-token below) at e)))
+      (λ d.
+      let old = r .marked i (rw (getD-set-other ts k i x no-token d) at e) in
+      by-equal (i + 1) k
+      (λ z. rw (z, getD-set-same ts k x no-token below) (scalars (rw z at old)))
+      (λ d′. rw (getD-set-other ts k (i + 1) x no-token d′) old));
 }
 
--- a plain token put in before the last, which opens nothing and is no Header
-pub row-insert : (ts : List Token) (x : Token) (k : ℕ) → length ts ≡ suc k → Row ts → Plain x → link-of (nth ts k) ≡ Link.Nothing → Unheaded (nth ts k) → Row (before-last ts x)
-row-insert ts x k counted r plain unlinked other = record {
-  forms = λ i h.
-      let l : length (before-last ts x) ≡ length ts + 1 = insert-length ts x k counted in
-      by-equal i k
-      (λ z. rw (z, insert-new ts x k counted) (plain .form))
-      (λ d. by-equal i (suc k)
-      (λ z. rw (z, insert-last ts x k counted) (r .forms k (omega arith)))
-      (λ d′. rw (insert-same ts x k counted i d d′) (r .forms i (omega arith))));
-  headed = λ i offset size e h.
-      let l : length (before-last ts x) ≡ length ts + 1 = insert-length ts x k counted in
-      by-equal i k
-      (λ z. absurd (plain .other offset size (rw (z, insert-new ts x k counted) at e)))
-      (λ d.
-      let old = r .headed i offset size (rw (insert-same ts x k counted i d (λ z. omega arith)) at e) (omega arith) in
-      by-equal (i + 1) k
-      (λ z. absurd (unlinked-opens (nth ts k) unlinked ((rw z at old) .1)))
-      (λ d′. rw (insert-same ts x k counted (i + 1) d′ (λ z. omega arith)) old));
-}
+-- a MixedContainer put in before the last, which is a scalar and no Header, and has none before it
+pub row-insert : (ts : List Token) (k : ℕ) → length ts ≡ suc k → Row ts → Scalar (nth ts k) → Unheaded (nth ts k) → Apart ts → Row (before-last ts mixed-container-token)
+row-insert ts k counted r last-one other apart =
+    let x : Token = mixed-container-token in
+    let l : length (before-last ts x) ≡ length ts + 1 = insert-length ts x k counted in
+    record {
+      forms = λ i h.
+          by-equal i k
+          (λ z. rw (z, insert-new ts x k counted) (mixed-container refl))
+          (λ d. by-equal i (suc k)
+          (λ z. rw (z, insert-last ts x k counted) (r .forms k (omega arith)))
+          (λ d′. rw (insert-same ts x k counted i d d′) (r .forms i (omega arith))));
+      headed = λ i offset size e h.
+          by-equal i k
+          (λ z. absurd (unheaded x (λ y. omega arith) offset size (rw (z, insert-new ts x k counted) at e)))
+          (λ d.
+          let old = r .headed i offset size (rw (insert-same ts x k counted i d (λ z. omega arith)) at e) (omega arith) in
+          by-equal (i + 1) k
+          (λ z. absurd (unlinked-opens (nth ts k) (scalar-unlinked last-one) ((rw z at old) .1)))
+          (λ d′. rw (insert-same ts x k counted (i + 1) d′ (λ z. omega arith)) old));
+      marked = λ i e.
+          by-equal i k
+          (λ z. let next : i + 1 ≡ suc k = omega arith in rw (next, insert-last ts x k counted) last-one)
+          (λ d. by-equal i (suc k)
+          (λ z. absurd (scalar-unmarked last-one (rw (z, insert-last ts x k counted) at e)))
+          (λ d′.
+          let same : nth ts i ≡ x = rw (insert-same ts x k counted i d d′) at e in
+          let old = r .marked i same in
+          let below : i + 1 < length ts = scalar-below ts (i + 1) old in
+          by-equal (i + 1) k
+          (λ z. absurd (apart i (omega arith) same))
+          (λ d″. rw (insert-same ts x k counted (i + 1) d″ (λ z. omega arith)) old)));
+    }

@@ -1,6 +1,7 @@
 -- Every turn keeps the tokens in order.
 -- Assumes nothing.
 use mathlib.Core.Path.{_≡_, refl, sym, _∙_}
+use mathlib.Core.Bool.{false}
 use mathlib.Core.List.{List}
 use Prim.Native.Nat.{ℕ, _+_, _-_, _≤_}
 use native.Mathlib.Omega.{arith}
@@ -15,9 +16,7 @@ use Rattle.tape.specs.declared.token.Token.{Token}
 use Rattle.tape.specs.declared.token.ScalarKind.the-variants.{Unquoted}
 use Rattle.tape.specs.declared.token.ContainerKind.the-variants.{Object}
 use Rattle.tape.specs.declared.token.Standing as Standings
-use Rattle.tape.specs.declared.shape.Link.{Link}
 use Rattle.tape.specs.Token.{no-token, mixed-container-token, headed, standing-of}
-use Rattle.tape.specs.Shape.{link-of}
 use Rattle.tape.specs.Tape.{Tape, token-at, replace, before-last}
 use Rattle.sheet.specs.Sound.{nth}
 use Rattle.parse.specs.declared.machine.State.the-variants.{Key, KeyValueSeparator, ObjectValue, ParseOpen, ArrayValue}
@@ -33,8 +32,8 @@ use Rattle.parse.specs.Parse.{state-turn, turn}
 use Rattle.parse.proofs.Splits.{by-skipped, by-sighted, by-standing, by-state, by-key-byte, by-value-byte}
 use Rattle.parse.proofs.States.{in-key, in-separator, in-object-value, in-parse-open, in-array-value}
 use Rattle.promises.proofs.Links.Nest.{by-below}
-use Rattle.promises.proofs.Links.Rows.{last, insert-length, plain-operator}
-use Rattle.promises.proofs.Links.Kept.{Kept, Resting, ScalarStands, standing-link, kept-insert, kept-header}
+use Rattle.promises.proofs.Links.Rows.{last, insert-length, Scalar, plain-operator, Apart}
+use Rattle.promises.proofs.Links.Kept.{Kept, Resting, ScalarStands, standing-scalar, kept-insert, kept-header}
 use Rattle.promises.proofs.Links.Held.{unsettled, Held, Resting-at, Ready, All, all-lay-then, all-mix-then, counted-add, lay-plain, scalar-held}
 use Rattle.promises.proofs.Links.Closing.{in-container, close-held, end-held}
 use Rattle.promises.proofs.Links.Parameters.{parameter-held}
@@ -107,22 +106,22 @@ operator-held text t m g =
     (λ o w e. rw (operator-then, e) (lay-plain t m (g .rest) _ (m .at + w) ArrayValue (plain-operator o) tt))
     (λ e. rw (operator-then, e) tt)
 
-module _ (text : List ℕ) (t : Tape) (m : Machine) (g : Ready (m .count) (m .parent) (t .tokens)) where
-  -- the same tokens, in a state that asks for one
-  stays : {at : ℕ} → Held (to m at ArrayValue (m .count)) (t .tokens)
-  stays = record { counted = g .rest .counted; shaped = (g .rest .resting, g .some) }
+-- mixed on in ArrayValue
+pub on-held : (t : Tape) (m : Machine) (n : ℕ) → Ready n (m .parent) (t .tokens) → Held (mixed-on m n) (t .tokens)
+on-held t m n h = record { counted = h .rest .counted; shaped = (h .rest .resting, h .some, λ e. let z : _≡_ {A = ℕ} 0 1 = cc in absurd (omega arith)) }
 
-  -- a MixedContainer put in before a last token that names none
-  mix-held : (go : Tape → Machine → After) → link-of (last (t .tokens)) ≡ Link.Nothing
+module _ (text : List ℕ) (t : Tape) (m : Machine) (g : Ready (m .count) (m .parent) (t .tokens)) where
+  -- a MixedContainer put in before the last token, a scalar that has none before it
+  mix-held : (go : Tape → Machine → After) → Scalar (last (t .tokens)) → Apart (t .tokens)
       → ((t′ : Tape) (n : ℕ) → Ready n (m .parent) (t′ .tokens) → All Held (go t′ (mixed-on m n))) → All Held (mix-then t m go)
-  mix-held go bare h =
+  mix-held go one apart h =
       all-mix-then Held t m go
       (λ t′ e.
       let ts : List Token = t .tokens in
       let l : length (before-last ts mixed-container-token) ≡ length ts + 1 = insert-length ts mixed-container-token (length ts - 1) (omega (arith, g .some)) in
       h t′ (m .count + 1)
       (record {
-        rest = record { counted = rw (e, l, g .rest .counted); resting = rw e (kept-insert ts (g .rest .resting) (g .some) bare) };
+        rest = record { counted = rw (e, l, g .rest .counted); resting = rw e (kept-insert ts (g .rest .resting) (g .some) one apart) };
         some = rw (e, l) (omega arith);
       }))
 
@@ -134,15 +133,15 @@ module _ (text : List ℕ) (t : Tape) (m : Machine) (g : Ready (m .count) (m .pa
       (λ e. rw (separator-then, e) (record { counted = g .rest .counted; shaped = (g .rest .resting, g .some) }))
       (λ e. rw (separator-then, e) (lay-plain t m (g .rest) _ (m .at + w) ObjectValue (plain-operator o) tt))
 
-  separator-held : link-of (last (t .tokens)) ≡ Link.Nothing → All Held (separator-turn text t m)
+  separator-held : Scalar (last (t .tokens)) → Apart (t .tokens) → All Held (separator-turn text t m)
   unfolding separator-turn
-  separator-held bare =
+  separator-held one apart =
       by-sighted (sighted (byte-at text (m .at)) (byte-at text (m .at + 1)))
       (λ o w e. rw (separator-turn, e) (separator-then-held o w))
       (λ e. by-bool (eqb (byte-at text (m .at)) brace-open)
       (λ f. rw (separator-turn, e, f) (record { counted = g .rest .counted; shaped = (g .rest .resting, g .some) }))
       (λ f. rw (separator-turn, e, f)
-      (mix-held (λ t′ m′. next m′ t′) bare (λ t′ n h. record { counted = h .rest .counted; shaped = (h .rest .resting, h .some) }))))
+      (mix-held (λ t′ m′. next m′ t′) one apart (λ t′ n h. on-held t′ m n h))))
 
   -- ---- ObjectValue
   object-value-held : All Held (object-value-turn text t m)
@@ -163,44 +162,43 @@ module _ (text : List ℕ) (t : Tape) (m : Machine) (g : Ready (m .count) (m .pa
       (λ e. let o = in-container t (m .parent) (g .rest .resting .kept) e in
       rw (array-close, e, o .read) (close-held t m (g .rest) o (o .kind)))
 
-  after-end-held : All Held (after-end text t m)
-  unfolding after-end
-  after-end-held =
-      by-bool (eqb (byte-at text (m .at)) equals)
-      (λ e. rw (after-end, e) stays)
-      (λ e. rw (after-end, e) tt)
-
-  -- the last token, read as a scalar, names none, and a MixedContainer goes in before it
-  mix-operator-held : ScalarStands (standing-of (token-at t (m .count - 1))) → All Held (mix-then t m (operator-then text))
-  unfolding token-at
-  mix-operator-held s =
-      mix-held (operator-then text)
-      (standing-link (g .rest .resting .kept .row .forms (length (t .tokens) - 1) (omega (arith, g .some))) (rw (g .rest .counted) at s))
-      (λ t′ n h. operator-held text t′ (mixed-on m n) h)
-
-  unmixed-held : All Held (unmixed-operator text t m)
-  unfolding unmixed-operator
-  unmixed-held =
-      by-standing (standing-of (token-at t (m .count - 1)))
-      (λ e. rw (unmixed-operator, e) (mix-operator-held (rw e tt)))
-      (λ e. rw (unmixed-operator, e) (mix-operator-held (rw e tt)))
-      (λ e. rw (unmixed-operator, e) after-end-held)
-      (λ e. rw (unmixed-operator, e) tt)
-
-  array-operator-held : All Held (array-operator text t m)
-  unfolding array-operator
-  array-operator-held =
+  array-operator-held : (m .mixed ≡ false → Apart (t .tokens)) → All Held (array-operator text t m)
+  unfolding array-operator after-end unmixed-operator token-at
+  array-operator-held free =
       by-bool (m .mixed)
       (λ e. rw (array-operator, e) (operator-held text t m g))
-      (λ e. rw (array-operator, e) unmixed-held)
+      (λ e. rw (array-operator, e) (unmixed-held (free e)))
+    where
+      -- the same tokens
+      after-end-held : All Held (after-end text t m)
+      after-end-held =
+          by-bool (eqb (byte-at text (m .at)) equals)
+          (λ e. rw (after-end, e) (record { counted = g .rest .counted; shaped = (g .rest .resting, g .some, free) }))
+          (λ e. rw (after-end, e) tt)
 
-  array-value-held : All Held (array-value-turn text t m)
+      -- the last token is read as a scalar, and a MixedContainer goes in before it
+      mix-operator-held : Apart (t .tokens) → ScalarStands (standing-of (token-at t (m .count - 1))) → All Held (mix-then t m (operator-then text))
+      mix-operator-held apart s =
+          mix-held (operator-then text)
+          (standing-scalar (g .rest .resting .kept .row .forms (length (t .tokens) - 1) (omega (arith, g .some))) (rw (g .rest .counted) at s))
+          apart
+          (λ t′ n h. operator-held text t′ (mixed-on m n) h)
+
+      unmixed-held : Apart (t .tokens) → All Held (unmixed-operator text t m)
+      unmixed-held apart =
+          by-standing (standing-of (token-at t (m .count - 1)))
+          (λ e. rw (unmixed-operator, e) (mix-operator-held apart (rw e tt)))
+          (λ e. rw (unmixed-operator, e) (mix-operator-held apart (rw e tt)))
+          (λ e. rw (unmixed-operator, e) after-end-held)
+          (λ e. rw (unmixed-operator, e) tt)
+
+  array-value-held : (m .mixed ≡ false → Apart (t .tokens)) → All Held (array-value-turn text t m)
   unfolding array-value-turn
-  array-value-held =
+  array-value-held free =
       by-value-byte (value-byte (byte-at text (m .at)))
       (λ e. rw (array-value-turn, e) (open-held t m g))
       (λ e. rw (array-value-turn, e) array-close-held)
-      (λ e. rw (array-value-turn, e) array-operator-held)
+      (λ e. rw (array-value-turn, e) (array-operator-held free))
       (λ e. rw (array-value-turn, e) (scalar-held t m (g .rest) text ArrayValue tt))
 
 -- ---- a state's turn, and any turn
@@ -208,10 +206,10 @@ state-held : (text : List ℕ) (t : Tape) (m : Machine) → Held m (t .tokens) �
 state-held text t m h =
     by-state (m .state)
     (λ e. rw (in-key text t m e) (key-held text t m (rest (rw e at (h .shaped)))))
-    (λ e. let s = rw e at (h .shaped) in rw (in-separator text t m e) (separator-held text t m (ready (s .0) (s .1)) (s .2)))
+    (λ e. let s = rw e at (h .shaped) in rw (in-separator text t m e) (separator-held text t m (ready (s .0) (s .1)) (s .2) (s .3)))
     (λ e. let s = rw e at (h .shaped) in rw (in-object-value text t m e) (object-value-held text t m (ready (s .0) (s .1))))
     (λ e. let s = rw e at (h .shaped) in rw (in-parse-open text t m e) (parse-open-held text t m (h .counted) (s .0) (s .1) (s .2) (s .3)))
-    (λ e. let s = rw e at (h .shaped) in rw (in-array-value text t m e) (array-value-held text t m (ready (s .0) (s .1))))
+    (λ e. let s = rw e at (h .shaped) in rw (in-array-value text t m e) (array-value-held text t m (ready (s .0) (s .1)) (s .2)))
   where
     rest : Resting (t .tokens) (m .parent) → Resting-at (m .count) (m .parent) (t .tokens)
     rest r = record { counted = h .counted; resting = r }
