@@ -4,7 +4,6 @@ pub mod Cases
 pub mod Demand1
 pub mod Domain
 pub mod Links
-pub mod Marks
 pub mod Mixed
 pub mod Rising
 pub mod Room

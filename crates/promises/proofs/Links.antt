@@ -1,5 +1,6 @@
 pub mod Nest
 pub mod Rows
+pub mod Flags
 pub mod Kept
 pub mod Held
 pub mod Closing

@@ -1,19 +1,38 @@
--- Mixed is on in ParseOpen and ArrayValue alone, on every tape and after any number of turns. So in KeyValueSeparator `=` never adds
--- an operator: the Rust's arm for it there while mixed is on, which document 01 leaves out, is never taken.
+-- What is promised of mixed: where it is in force, where its mark stands on a finished tape, and that the flag which brings it back
+-- is stored.
 -- Assumes nothing.
-use mathlib.Core.List.{List}
-use Prim.Native.Nat.{ℕ, _*_}
+use mathlib.Core.Path.{_≡_, refl, subst}
+use mathlib.Core.Bool.{Bool}
+use mathlib.Core.List.{List, [], _∷_, _++_}
+use Prim.Native.Nat.{ℕ, _+_, _*_, _<_}
 use native.Mathlib.Omega.{arith}
 use borrow.Author.Tests.{ltb-true, ltb-false}
 use lib.Dec.{ltb}
 use lib.ListN.{length}
 use Rattle.data.proofs.Cases.{by-bool}
-use Rattle.tape.specs.Tape.{Room, holds, unbounded}
+use Rattle.tape.specs.declared.token.Token.{Token}
+use Rattle.tape.specs.declared.token.ContainerKind.the-variants.{Object}
+use Rattle.tape.specs.Token.{mixed-container-token, opener-of}
+use Rattle.tape.specs.Words.{tokens-in}
+use Rattle.tape.specs.Tape.{Tape, Room, holds, unbounded}
+use Rattle.sheet.specs.Sound.{nth}
+use Rattle.parse.specs.declared.Parsed.the-variants.{Tokens}
+use Rattle.parse.specs.declared.machine.State.{State}
+use Rattle.parse.specs.declared.machine.State.the-variants.{Key, KeyValueSeparator, ObjectValue, ParseOpen, ArrayValue}
+use Rattle.parse.specs.declared.machine.Machine.{Machine}
 use Rattle.parse.specs.Machine.{After, next, done, refused}
+use Rattle.parse.specs.Parse.{outcome, parse-of, has-bom}
 use Rattle.parse.proofs.Falls.{All}
 use Rattle.promises.proofs.Alike.{in-room, Mixes, Known}
 use Rattle.promises.proofs.Room.{after-turns, laid-in-turns, turns-alike}
+use Rattle.promises.proofs.Links.Rows.{Scalar}
+use Rattle.promises.proofs.Links.Flags.{equal-token, Stored, Flags, codes-differ, flags-add}
+use Rattle.promises.proofs.Links.Held as Held
+use Rattle.promises.proofs.Links.Held.{Held, Shaped, unsettled}
+use Rattle.promises.proofs.Links.Parse.{run-from-start, parse-tied}
 
+-- ---- mixed is on in ParseOpen and ArrayValue alone, on every tape and after any number of turns. So in KeyValueSeparator `=` never
+-- adds an operator: the Rust's arm for it there while mixed is on, which document 01 leaves out, is never taken
 -- what goes on, on a tape of any room
 abbrev pub Mixing : After → Type 0
 Mixing x = All (λ m. Mixes (m .state) (m .mixed)) x
@@ -39,3 +58,23 @@ module _ (text : List ℕ) (n : ℕ) where
       by-bool (ltb k (laid-in-turns text n))
       (λ e. rw (a .full (omega arith) (ltb-true _ _ e)) tt)
       (λ e. rw (a .fits (ltb-false _ _ e)) (mixing-in-room k (after-turns text n unbounded) free-turns))
+
+-- ---- a MixedContainer stands directly before a scalar, on every tape that a successful parse leaves
+pub mixed-before-scalar : (text : List ℕ) (len count : ℕ) (bom : Bool) (words : List ℕ) → parse-of text len ≡ outcome (Tokens count bom) words
+    → (i : ℕ) → nth (tokens-in words count) i ≡ mixed-container-token → Scalar (nth (tokens-in words count) (i + 1))
+mixed-before-scalar text len count bom words e = parse-tied text len count bom words e .tokens .marked
+
+-- ---- an Equal is laid down under mixed alone. Where an Object opens behind one, the container around it, if there is one, has
+-- stored its flag as long as the Object is open: what leaving the Object takes mixed up from
+shaped-flags : (state : State) (mixed : Bool) (p : ℕ) (ts : List Token) → Shaped state mixed p ts → Flags ts
+shaped-flags Key mixed p ts s = s .kept .flags
+shaped-flags KeyValueSeparator mixed p ts s = s .0 .kept .flags
+shaped-flags ObjectValue mixed p ts s = s .0 .kept .flags
+shaped-flags ParseOpen mixed p ts s = rw (s .1) (flags-add (s .0) unsettled (s .2 .flags) (λ c b e f. codes-differ (λ z. omega arith) e))
+shaped-flags ArrayValue mixed p ts s = s .0 .kept .flags
+
+pub flag-remembered : (text : List ℕ) (n : ℕ) (room : Room) (m : Machine) (t : Tape) → after-turns text n room ≡ next m t
+    → (i around : ℕ) (mixed : Bool) → nth (t .tokens) i ≡ equal-token → nth (t .tokens) (i + 1) ≡ opener-of Object around mixed → around < i + 1 → Stored (t .tokens) around
+flag-remembered text n room m t e =
+    let h : Held m (t .tokens) = subst (λ (x : After). Held.All Held x) e (run-from-start text n (has-bom text) _ refl) in
+    shaped-flags (m .state) (m .mixed) (m .parent) (t .tokens) (h .shaped)

@@ -26,8 +26,9 @@ use Rattle.parse.specs.Containers.{container-at, state-in, mixed-in, close, not
 use Rattle.parse.proofs.Splits.{by-container, by-state}
 use Rattle.promises.proofs.Links.Nest.{by-below, Parent}
 use Rattle.promises.proofs.Links.Rows.{add-length, add-last, scalar-coded, Apart, apart-unscaled}
+use Rattle.promises.proofs.Links.Flags.{codes-differ}
 use Rattle.promises.proofs.Links.Kept.{link-at, Kept, Resting, container-link, link-container, kept-close, tied}
-use Rattle.promises.proofs.Links.Held.{Shaped, Held, Resting-at, Ready, All, all-close-at}
+use Rattle.promises.proofs.Links.Held.{Signed, Shaped, Held, Resting-at, Ready, All, all-close-at}
 
 -- what is read as an opener is one
 reads-opener : (ts : List Token) {p : ℕ} → Kept ts p → (i : ℕ) {kind : ContainerKind} {link : ℕ} {mixed : Bool} → container-of (nth ts i) ≡ Containers.the-variants.Opened kind link mixed → link-at ts i ≡ ToEnd link
@@ -76,9 +77,12 @@ resumes c ts p opener r = go c
     apart : Apart (ts ++ (end-of opener ∷ []))
     apart = apart-unscaled _ (r .kept .row) (λ s. scalar-coded (rw (add-last ts (end-of opener)) at s) .3 refl)
 
+    signed : (mixed : Bool) → Signed mixed (ts ++ (end-of opener ∷ []))
+    signed mixed e = codes-differ (λ z. omega arith) (rw (add-last ts (end-of opener)) at e)
+
     go : (c : Containers.Container) → Shaped (state-in c) (mixed-in c) p (ts ++ (end-of opener ∷ []))
-    go (Containers.the-variants.Opened Array link mixed) = (r, some, λ e. apart)
-    go (Containers.the-variants.Opened Object link true) = (r, some, λ e. apart)
+    go (Containers.the-variants.Opened Array link mixed) = (r, some, signed mixed, λ e. apart)
+    go (Containers.the-variants.Opened Object link true) = (r, some, signed true, λ e. apart)
     go (Containers.the-variants.Opened Object link false) = r
     go Containers.the-variants.Nothing = r
 

@@ -1,7 +1,7 @@
 -- What holds of a machine with its tokens, by its state, and what laying a token down keeps of it.
 -- Assumes nothing.
 use mathlib.Core.Path.{_≡_, refl}
-use mathlib.Core.Bool.{Bool, false}
+use mathlib.Core.Bool.{Bool, true, false}
 use mathlib.Core.List.{List, [], _∷_, _++_}
 use Prim.Native.Nat.{ℕ, _+_, _-_, _≤_}
 use native.Mathlib.Omega.{arith}
@@ -23,11 +23,16 @@ use Rattle.parse.specs.Containers.{close-at}
 use Rattle.parse.specs.KeyValueSeparator.{mixed-on, mix-then}
 use Rattle.parse.proofs.Splits.{by-cut}
 use Rattle.promises.proofs.Links.Rows.{last, add-length, add-last, Scalar, scalar-made, Plain, plain-scalar, Apart, apart-add}
+use Rattle.promises.proofs.Links.Flags.{equal-token, scalar-no-equal}
 use Rattle.promises.proofs.Links.Kept.{Kept, Resting, kept-plain, Tied}
 
 -- the opener whose kind is not yet known
 abbrev pub unsettled : Token
 unsettled = opener-of Array 0 false
+
+-- an Equal stands last only under mixed
+abbrev pub Signed : Bool → List Token → Type 0
+Signed mixed ts = last ts ≡ equal-token → mixed ≡ true
 
 -- in ParseOpen the last token is an unsettled opener, which is not yet counted among the open ones; in KeyValueSeparator the
 -- last is the key; where a MixedContainer may go in before the last, in KeyValueSeparator and in ArrayValue unmixed, none stands
@@ -35,9 +40,9 @@ unsettled = opener-of Array 0 false
 abbrev pub Shaped : State → Bool → ℕ → List Token → Type 0
 Shaped Key mixed p ts = Resting ts p
 Shaped KeyValueSeparator mixed p ts = Resting ts p × (1 ≤ length ts) × Scalar (last ts) × Apart ts
-Shaped ObjectValue mixed p ts = Resting ts p × (1 ≤ length ts)
-Shaped ParseOpen mixed p ts = (us : List Token) × (ts ≡ us ++ (unsettled ∷ [])) × Kept us p × (1 ≤ length us)
-Shaped ArrayValue mixed p ts = Resting ts p × (1 ≤ length ts) × (mixed ≡ false → Apart ts)
+Shaped ObjectValue mixed p ts = Resting ts p × (1 ≤ length ts) × Signed mixed ts
+Shaped ParseOpen mixed p ts = (us : List Token) × (ts ≡ us ++ (unsettled ∷ [])) × Kept us p × (1 ≤ length us) × Signed mixed us
+Shaped ArrayValue mixed p ts = Resting ts p × (1 ≤ length ts) × Signed mixed ts × (mixed ≡ false → Apart ts)
 
 -- and the count is that of the tokens
 pub record Held (m : Machine) (ts : List Token) : Type 0 where
@@ -109,13 +114,14 @@ all-scalar-then P text state t m h =
 pub counted-add : (ts : List Token) (x : Token) {n : ℕ} → n ≡ length ts → n + 1 ≡ length (ts ++ (x ∷ []))
 counted-add ts x e = omega (arith, add-length ts x)
 
--- a state that a token may come before: one in which no opener is unsettled, and KeyValueSeparator only after a scalar
-abbrev pub Before : State → Token → Type 0
-Before Key x = Unit {0}
-Before KeyValueSeparator x = Scalar x
-Before ObjectValue x = Unit {0}
-Before ParseOpen x = ⊥
-Before ArrayValue x = Unit {0}
+-- a state that a token may come before: one in which no opener is unsettled, KeyValueSeparator only after a scalar, and a state
+-- that asks for a value after an Equal only under mixed
+abbrev pub Before : State → Bool → Token → Type 0
+Before Key mixed x = Unit {0}
+Before KeyValueSeparator mixed x = Scalar x
+Before ObjectValue mixed x = x ≡ equal-token → mixed ≡ true
+Before ParseOpen mixed x = ⊥
+Before ArrayValue mixed x = x ≡ equal-token → mixed ≡ true
 
 -- a state that a scalar may come before
 abbrev pub Settled : State → Type 0
@@ -125,27 +131,27 @@ Settled ObjectValue = Unit {0}
 Settled ParseOpen = ⊥
 Settled ArrayValue = Unit {0}
 
-pub settled-before : (state : State) (x : Token) → Settled state → Scalar x → Before state x
-settled-before Key x d s = tt
-settled-before KeyValueSeparator x d s = s
-settled-before ObjectValue x d s = tt
-settled-before ParseOpen x d s = d
-settled-before ArrayValue x d s = tt
+pub settled-before : (state : State) (mixed : Bool) (x : Token) → Settled state → Scalar x → Before state mixed x
+settled-before Key mixed x d s = tt
+settled-before KeyValueSeparator mixed x d s = s
+settled-before ObjectValue mixed x d s = λ e. scalar-no-equal s e
+settled-before ParseOpen mixed x d s = d
+settled-before ArrayValue mixed x d s = λ e. scalar-no-equal s e
 
 -- a plain token may come before any such state
-pub rest-add : (ts : List Token) (x : Token) (p : ℕ) → Resting ts p → Plain x → (state : State) (mixed : Bool) → Before state x → Shaped state mixed p (ts ++ (x ∷ []))
+pub rest-add : (ts : List Token) (x : Token) (p : ℕ) → Resting ts p → Plain x → (state : State) (mixed : Bool) → Before state mixed x → Shaped state mixed p (ts ++ (x ∷ []))
 rest-add ts x p r plain Key mixed d = kept-plain ts x r plain
 rest-add ts x p r plain KeyValueSeparator mixed d = (kept-plain ts x r plain, omega (arith, add-length ts x), rw (add-last ts x) d, apart-add ts x (r .kept .row))
-rest-add ts x p r plain ObjectValue mixed d = (kept-plain ts x r plain, omega (arith, add-length ts x))
+rest-add ts x p r plain ObjectValue mixed d = (kept-plain ts x r plain, omega (arith, add-length ts x), rw (add-last ts x) d)
 rest-add ts x p r plain ParseOpen mixed d = absurd d
-rest-add ts x p r plain ArrayValue mixed d = (kept-plain ts x r plain, omega (arith, add-length ts x), λ e. apart-add ts x (r .kept .row))
+rest-add ts x p r plain ArrayValue mixed d = (kept-plain ts x r plain, omega (arith, add-length ts x), rw (add-last ts x) d, λ e. apart-add ts x (r .kept .row))
 
 module _ (t : Tape) (m : Machine) (r : Resting-at (m .count) (m .parent) (t .tokens)) where
-  added : (x : Token) (at : ℕ) (state : State) → Plain x → Before state x → Held (to m at state (m .count + 1)) (t .tokens ++ (x ∷ []))
+  added : (x : Token) (at : ℕ) (state : State) → Plain x → Before state (m .mixed) x → Held (to m at state (m .count + 1)) (t .tokens ++ (x ∷ []))
   added x at state plain d = record { counted = counted-add (t .tokens) x (r .counted); shaped = rest-add (t .tokens) x (m .parent) (r .resting) plain state (m .mixed) d }
 
-  pub lay-plain : (x : Token) (at : ℕ) (state : State) → Plain x → Before state x → All Held (lay-then x at state t m)
+  pub lay-plain : (x : Token) (at : ℕ) (state : State) → Plain x → Before state (m .mixed) x → All Held (lay-then x at state t m)
   lay-plain x at state plain d = all-lay-then Held x at state t m (added x at state plain d)
 
   pub scalar-held : (text : List ℕ) (state : State) → Settled state → All Held (scalar-then text state t m)
-  scalar-held text state d = all-scalar-then Held text state t m (λ x at plain s. added x at state plain (settled-before state x d s))
+  scalar-held text state d = all-scalar-then Held text state t m (λ x at plain s. added x at state plain (settled-before state (m .mixed) x d s))

@@ -22,6 +22,7 @@ use Rattle.tape.specs.Tape.{before-last}
 use Rattle.tape.proofs.Shapes.{scalar-shape, opens-link, end-link, link-made, unlinked-opens}
 use Rattle.sheet.specs.Sound.{nth, Form, container, mixed-container, scalar, operator, closing, Closed, Opened, Nested, Headed}
 use Rattle.promises.proofs.Links.Nest.{by-equal, by-below, Nest, opener-below, end-below, widen, nest-open, nest-close, all-closed}
+use Rattle.promises.proofs.Links.Flags.{equal-token, Flagged, Stored, Flags, codes-differ, flags-add, flags-set, flags-insert}
 use Rattle.promises.proofs.Links.Rows.{last, add-length, add-new, add-same, add-last, insert-length, insert-new, insert-last, insert-same, Scalar, Unmarked, unmarked, scalar-made, scalar-unlinked, Unheaded, unheaded, Plain, mixed-unlinked, Row, Apart, row-add, row-set, row-insert}
 
 -- the link at each index
@@ -31,6 +32,7 @@ link-at ts i = link-of (nth ts i)
 pub record Kept (ts : List Token) (p : ℕ) : Type 0 where
   pub row : Row ts
   pub links : Nest (link-at ts) (length ts) p
+  pub flags : Flags ts
 
 -- and the last is no Header, so that any token may come
 pub record Resting (ts : List Token) (p : ℕ) : Type 0 where
@@ -51,6 +53,10 @@ opener-unheaded Object link mixed = unheaded _ (λ z. omega arith)
 opener-unmarked : (kind : ContainerKind) (link : ℕ) (mixed : Bool) → Unmarked (opener-of kind link mixed)
 opener-unmarked Array link mixed = unmarked _ (λ z. omega arith)
 opener-unmarked Object link mixed = unmarked _ (λ z. omega arith)
+
+opener-no-equal : (kind : ContainerKind) (link : ℕ) (mixed : Bool) → opener-of kind link mixed ≡ equal-token → ⊥
+opener-no-equal Array link mixed e = codes-differ (λ z. omega arith) e
+opener-no-equal Object link mixed e = codes-differ (λ z. omega arith) e
 
 -- an opener is no scalar
 opener-no-scalar : {t : Token} {link : ℕ} {P : Type 0} → link-of t ≡ ToEnd link → Scalar t → P
@@ -97,6 +103,15 @@ link-container t {link} e =
     let o = link-made t e in
     (o .0, o .1, ap container-of (o .2) ∙ opener-container (o .0) link (o .1))
 
+-- what is read as an opener was made as it is read
+container-made : {t : Token} {kind : ContainerKind} {link : ℕ} {mixed : Bool} → Form t → container-of t ≡ Containers.the-variants.Opened kind link mixed → t ≡ opener-of kind link mixed
+container-made {t} {kind} {link} {mixed} form e =
+    let o = link-made t (container-link form e) in
+    let r : container-of t ≡ Containers.the-variants.Opened (o .0) link (o .1) = ap container-of (o .2) ∙ opener-container (o .0) link (o .1) in
+    let same-kind : o .0 ≡ kind = cc in
+    let same-flag : o .1 ≡ mixed = cc in
+    o .2 ∙ ap (λ (k : ContainerKind). opener-of k link (o .1)) same-kind ∙ ap (λ (b : Bool). opener-of kind link b) same-flag
+
 -- what may stand last where a MixedContainer goes in before it
 abbrev pub ScalarStands : Standings.Standing → Type 0
 ScalarStands Standings.the-variants.Unquoted = Unit {0}
@@ -123,13 +138,19 @@ kept-plain ts x r plain = record {
         (λ z. rw z (ap link-of (add-new ts x) ∙ plain .unlinked ∙ sym (r .kept .links .past (length ts) (omega arith))))
         (λ d. ap link-of (add-same ts x i d)))
         (omega (arith, add-length ts x));
+    flags = flags-add ts x (r .kept .flags) (λ c mixed e f. absurd (unlinked-opens x (plain .unlinked) (Object, mixed, e)));
   };
   rests = rw (add-last ts x) (plain .other);
 }
 
--- ---- an opener added, which names the parent
-pub kept-opener : (ts : List Token) (kind : ContainerKind) (p : ℕ) → Kept ts p → 1 ≤ length ts → Resting (ts ++ (opener-of kind p false ∷ [])) (length ts)
-kept-opener ts kind p k some =
+-- ---- an opener added, which names the parent: an Object behind an Equal only where the parent's flag is set
+object-kind : (kind : ContainerKind) (p : ℕ) (a : Bool) (c : ℕ) (b : Bool) → opener-of kind p a ≡ opener-of Object c b → (kind ≡ Object) × (p ≡ c)
+object-kind Array p a c b e = codes-differ (λ z. omega arith) e
+object-kind Object p a c b e = (refl, ap (λ (x : Token). x .a) e)
+
+pub kept-opener : (ts : List Token) (kind : ContainerKind) (p : ℕ) → Kept ts p → 1 ≤ length ts → (kind ≡ Object → last ts ≡ equal-token → Stored ts p)
+    → Resting (ts ++ (opener-of kind p false ∷ [])) (length ts)
+kept-opener ts kind p k some stored =
     let x : Token = opener-of kind p false in
     record {
       kept = record {
@@ -138,6 +159,7 @@ kept-opener ts kind p k some =
             (nest-open (k .links) some
             (λ i d. ap link-of (add-same ts x i d))
             (ap link-of (add-new ts x) ∙ opener-link kind p false));
+        flags = flags-add ts x (k .flags) (λ c mixed e f. let o = object-kind kind p false c mixed e in rw (← (o .1)) (stored (o .0) f));
       };
       rests = rw (add-last ts x) (opener-unheaded kind p false);
     }
@@ -164,6 +186,7 @@ kept-insert ts {p} r some last-one apart = go (length ts - 1) (omega arith)
                 (λ z. rw z (ap link-of (insert-last ts x k counted) ∙ scalar-unlinked one ∙ sym (r .kept .links .past (suc k) (omega arith))))
                 (λ d′. ap link-of (insert-same ts x k counted i d d′))))
                 (omega arith);
+            flags = flags-insert ts k counted (r .kept .flags) one;
           };
           rests = rw (end, insert-last ts x k counted) other;
         }
@@ -179,6 +202,11 @@ kept-close ts p up kind mixed r here inner =
     let l : length us ≡ n = length-set ts p x in
     let at : nth us p ≡ x = getD-set-same ts p x no-token below in
     let row : Row us = row-set ts p x below (r .kept .row) (container n (opens-self kind n mixed)) (opener-unmarked kind n mixed) (λ o. (n, opens-self kind n mixed)) (opener-no-scalar here) (λ h. opener-unheaded kind n mixed) in
+    let flags : Flags us =
+    flags-set ts p x below (r .kept .flags) (opener-no-equal kind n mixed)
+    (λ c m e h. let o = object-kind kind n mixed c m e .1 in absurd (omega arith))
+    (λ j m e h f. let o = r .kept .links .open-one j p (opens-link (nth ts j) (Object, m, e)) (omega arith) in absurd (omega (arith, o .reached)))
+    in
     let rests : Unheaded (last us) =
     by-equal (n - 1) p
     (λ z. rw (l, z, at) (opener-unheaded kind n mixed))
@@ -192,14 +220,15 @@ kept-close ts p up kind mixed r here inner =
             (λ i d d′. ap link-of (add-same us (end-of p) i (λ z. d′ (z ∙ l)) ∙ getD-set-other ts p i x no-token d))
             (ap link-of (add-same us (end-of p) p (λ z. omega arith) ∙ at) ∙ opener-link kind n mixed)
             (ap link-of (ap (λ (i : ℕ). nth (us ++ (end-of p ∷ [])) i) (sym l) ∙ add-new us (end-of p)) ∙ end-link (end-of p) refl));
+        flags = flags-add us (end-of p) flags (λ c m e f. codes-differ (λ z. omega arith) e);
       };
       rests = rw (add-last us (end-of p)) (unheaded (end-of p) (λ z. omega arith));
     }
 
 -- ---- a token changed for one that names the same
 pub kept-alike : (ts : List Token) (k : ℕ) (x : Token) {p : ℕ} → k < length ts → Kept ts p → Form x → Unmarked x → (Scalar (nth ts k) → Scalar x) → link-of x ≡ link-at ts k
-    → (k + 1 < length ts → Unheaded x) → Kept (set ts k x) p
-kept-alike ts k x {p} below s form bare scalars same other =
+    → (k + 1 < length ts → Unheaded x) → Flags (set ts k x) → Kept (set ts k x) p
+kept-alike ts k x {p} below s form bare scalars same other flags =
     record {
       row = row-set ts k x below (s .row) form bare (λ o. (o .0, link-made x (same ∙ opens-link (nth ts k) (o .1)))) scalars other;
       links = widen (s .links)
@@ -207,18 +236,24 @@ kept-alike ts k x {p} below s form bare scalars same other =
           (λ z. rw z (ap link-of (getD-set-same ts k x no-token below) ∙ same))
           (λ d. ap link-of (getD-set-other ts k i x no-token d)))
           (omega (arith, length-set ts k x));
+      flags = flags;
     }
 
 -- the last, an Unquoted, as a Header
 pub kept-header : (ts : List Token) {p : ℕ} → Resting ts p → 1 ≤ length ts → standing-of (last ts) ≡ Standings.the-variants.Unquoted → Kept (set ts (length ts - 1) (headed (last ts))) p
 kept-header ts r some e =
     let t : Token = last ts in
+    let one : Scalar t = standing-scalar (r .kept .row .forms (length ts - 1) (omega arith)) (rw e tt) in
     kept-alike ts (length ts - 1) (headed t) (omega arith) (r .kept)
     (scalar (t .a) (t .b) (Header, refl))
     (unmarked (headed t) (λ z. omega arith))
     (λ s. scalar-made Header (t .a) (t .b))
-    (ap linked (scalar-shape Header (t .a) (t .b)) ∙ sym (scalar-unlinked (standing-scalar (r .kept .row .forms (length ts - 1) (omega arith)) (rw e tt))))
+    (ap linked (scalar-shape Header (t .a) (t .b)) ∙ sym (scalar-unlinked one))
     (λ h. absurd (omega arith))
+    (flags-set ts (length ts - 1) (headed t) (omega arith) (r .kept .flags)
+    (λ f. codes-differ (λ z. omega arith) f)
+    (λ c mixed f h. codes-differ (λ z. omega arith) f)
+    (λ j mixed f h g. opener-no-scalar (opens-link t (g .kind, true, g .made)) one))
 
 -- the parent's flag set
 pub kept-flag : (ts : List Token) (p : ℕ) (kind : ContainerKind) (link : ℕ) (mixed : Bool) → p < length ts → Kept ts p
@@ -231,6 +266,9 @@ kept-flag ts p kind link mixed below s e =
     (opener-no-scalar here)
     (opener-link kind link true ∙ sym here)
     (λ h. opener-unheaded kind link true)
+    (flags-set ts p (opener-of kind link true) below (s .flags) (opener-no-equal kind link true)
+    (λ c m f h. let o = object-kind kind link true c m f in (mixed, container-made (s .row .forms p below) e ∙ ap (λ (k : ContainerKind). opener-of k link mixed) (o .0) ∙ ap (λ (l : ℕ). opener-of Object l mixed) (o .1)))
+    (λ j m f h g. record { kind = kind; link = link; made = refl }))
 
 -- ---- nothing open: the sentences of a sound sheet that speak of forms, links and Headers; and MixedContainers
 pub record Tied (ts : List Token) : Type 0 where

@@ -20,6 +20,7 @@ use Rattle.tape.proofs.Views.{padded-tokens}
 use Rattle.parse.specs.declared.Parsed.the-variants.{Tokens, Refused}
 use Rattle.promises.proofs.Links.Nest.{nest-none}
 use Rattle.promises.proofs.Links.Rows.{unmarked, unheaded}
+use Rattle.promises.proofs.Links.Flags.{codes-differ}
 use Rattle.promises.proofs.Links.Held.{Held, Finished, All}
 use Rattle.promises.proofs.Links.Turns.{turn-held}
 
@@ -40,12 +41,13 @@ start-held bom = record {
     kept = record {
       row = record { forms = λ i h. absurd (omega arith); headed = λ i offset size e h. absurd (omega arith); marked = λ i e. absurd (unmarked no-token (λ z. omega arith) e) };
       links = nest-none (λ i. ap linked no-shape);
+      flags = λ i c mixed e. codes-differ (λ z. omega arith) e;
     };
     rests = unheaded no-token (λ z. omega arith);
   };
 }
 
-run-from-start : (text : List ℕ) (n : ℕ) (bom : Bool) (t : Tape) → t .tokens ≡ [] → All Held (run text n (next (start bom) t))
+pub run-from-start : (text : List ℕ) (n : ℕ) (bom : Bool) (t : Tape) → t .tokens ≡ [] → All Held (run text n (next (start bom) t))
 run-from-start text n bom t none = run-held text n (next (start bom) t) (rw none (start-held bom))
 
 -- a run from the start that is done leaves tied tokens, as many as it answers

@@ -1,22 +1,24 @@
 -- Every turn keeps the tokens in order.
 -- Assumes nothing.
-use mathlib.Core.Path.{_≡_, refl, sym, _∙_}
-use mathlib.Core.Bool.{false}
+use mathlib.Core.Path.{_≡_, refl, sym, _∙_, ap}
+use mathlib.Core.Bool.{true, false}
 use mathlib.Core.List.{List}
-use Prim.Native.Nat.{ℕ, _+_, _-_, _≤_}
+use Prim.Native.Nat.{ℕ, _+_, _-_, _≤_, _<_}
 use native.Mathlib.Omega.{arith}
 use lib.Dec.{eqb}
 use lib.ListN.{length, set, length-set, List·getD-eq-default}
+use lib.Seq.{getD-set-same}
 use Rattle.data.specs.Bytes.{brace-open, brace-close, equals}
 use Rattle.data.proofs.Cases.{by-bool}
 use Rattle.cut.specs.Blanks.{skip-ws}
 use Rattle.operator.specs.declared.Operator.{Operator}
-use Rattle.operator.specs.Operators.{is-equal, sighted}
+use Rattle.operator.specs.declared.Operator.the-variants.{LessThan, LessThanEqual, GreaterThan, GreaterThanEqual, NotEqual, Exact, Equal, Exists}
+use Rattle.operator.specs.Operators.{number-of, is-equal, sighted}
 use Rattle.tape.specs.declared.token.Token.{Token}
 use Rattle.tape.specs.declared.token.ScalarKind.the-variants.{Unquoted}
 use Rattle.tape.specs.declared.token.ContainerKind.the-variants.{Object}
 use Rattle.tape.specs.declared.token.Standing as Standings
-use Rattle.tape.specs.Token.{no-token, mixed-container-token, headed, standing-of}
+use Rattle.tape.specs.Token.{no-token, mixed-container-token, operator-of, headed, standing-of}
 use Rattle.tape.specs.Tape.{Tape, token-at, replace, before-last}
 use Rattle.sheet.specs.Sound.{nth}
 use Rattle.parse.specs.declared.machine.State.the-variants.{Key, KeyValueSeparator, ObjectValue, ParseOpen, ArrayValue}
@@ -33,8 +35,9 @@ use Rattle.parse.proofs.Splits.{by-skipped, by-sighted, by-standing, by-state, 
 use Rattle.parse.proofs.States.{in-key, in-separator, in-object-value, in-parse-open, in-array-value}
 use Rattle.promises.proofs.Links.Nest.{by-below}
 use Rattle.promises.proofs.Links.Rows.{last, insert-length, Scalar, plain-operator, Apart}
+use Rattle.promises.proofs.Links.Flags.{equal-token, codes-differ, scalar-no-equal}
 use Rattle.promises.proofs.Links.Kept.{Kept, Resting, ScalarStands, standing-scalar, kept-insert, kept-header}
-use Rattle.promises.proofs.Links.Held.{unsettled, Held, Resting-at, Ready, All, all-lay-then, all-mix-then, counted-add, lay-plain, scalar-held}
+use Rattle.promises.proofs.Links.Held.{Signed, unsettled, Held, Resting-at, Ready, All, all-lay-then, all-mix-then, counted-add, lay-plain, scalar-held}
 use Rattle.promises.proofs.Links.Closing.{in-container, close-held, end-held}
 use Rattle.promises.proofs.Links.Parameters.{parameter-held}
 use Rattle.promises.proofs.Links.Opening.{open-held, parse-open-held}
@@ -68,8 +71,10 @@ module _ (text : List ℕ) (t : Tape) (m : Machine) (r : Resting-at (m .count) (
       let us : List Token = set ts (m .count - 1) (headed (nth ts (m .count - 1))) in
       let l : length us ≡ length ts = length-set ts (m .count - 1) _ in
       let k : Kept us (m .parent) = rw (r .counted) (kept-header ts (r .resting) some s) in
+      let there : m .count - 1 < length ts = omega (arith, r .counted) in
+      let header-last : Signed (m .mixed) us = λ e. codes-differ (λ z. omega arith) (rw (l, ← (r .counted), getD-set-same ts (m .count - 1) (headed (nth ts (m .count - 1))) no-token there) at e) in
       all-lay-then Held unsettled at ParseOpen _ m
-      (record { counted = counted-add us unsettled (r .counted ∙ sym l); shaped = (us, refl, k, rw l some) })
+      (record { counted = counted-add us unsettled (r .counted ∙ sym l); shaped = (us, refl, k, rw l some, header-last) })
 
   key-header-held : (at : ℕ) → All Held (key-header at t m)
   unfolding key-header
@@ -98,17 +103,28 @@ module _ (text : List ℕ) (t : Tape) (m : Machine) (r : Resting-at (m .count) (
       (λ e. rw (key-turn, e) (parameter-held text t m r))
       (λ e. rw (key-turn, e) (scalar-held t m r text KeyValueSeparator tt))
 
+-- only `=` is the Equal
+no-equal : (o : Operator) → is-equal o ≡ false → operator-of (number-of o) ≡ equal-token → ⊥
+no-equal LessThan e f = let z : _≡_ {A = ℕ} 1 7 = ap (λ (x : Token). x .a) f in omega arith
+no-equal LessThanEqual e f = let z : _≡_ {A = ℕ} 2 7 = ap (λ (x : Token). x .a) f in omega arith
+no-equal GreaterThan e f = let z : _≡_ {A = ℕ} 3 7 = ap (λ (x : Token). x .a) f in omega arith
+no-equal GreaterThanEqual e f = let z : _≡_ {A = ℕ} 4 7 = ap (λ (x : Token). x .a) f in omega arith
+no-equal NotEqual e f = let z : _≡_ {A = ℕ} 5 7 = ap (λ (x : Token). x .a) f in omega arith
+no-equal Exact e f = let z : _≡_ {A = ℕ} 6 7 = ap (λ (x : Token). x .a) f in omega arith
+no-equal Equal e f = let z : _≡_ {A = ℕ} 0 1 = cc in omega arith
+no-equal Exists e f = let z : _≡_ {A = ℕ} 8 7 = ap (λ (x : Token). x .a) f in omega arith
+
 -- ---- mixed: an operator is added
-operator-held : (text : List ℕ) (t : Tape) (m : Machine) → Ready (m .count) (m .parent) (t .tokens) → All Held (operator-then text t m)
+operator-held : (text : List ℕ) (t : Tape) (m : Machine) → Ready (m .count) (m .parent) (t .tokens) → m .mixed ≡ true → All Held (operator-then text t m)
 unfolding operator-then
-operator-held text t m g =
+operator-held text t m g on =
     by-sighted (sighted (byte-at text (m .at)) (byte-at text (m .at + 1)))
-    (λ o w e. rw (operator-then, e) (lay-plain t m (g .rest) _ (m .at + w) ArrayValue (plain-operator o) tt))
+    (λ o w e. rw (operator-then, e) (lay-plain t m (g .rest) _ (m .at + w) ArrayValue (plain-operator o) (λ f. on)))
     (λ e. rw (operator-then, e) tt)
 
 -- mixed on in ArrayValue
 pub on-held : (t : Tape) (m : Machine) (n : ℕ) → Ready n (m .parent) (t .tokens) → Held (mixed-on m n) (t .tokens)
-on-held t m n h = record { counted = h .rest .counted; shaped = (h .rest .resting, h .some, λ e. let z : _≡_ {A = ℕ} 0 1 = cc in absurd (omega arith)) }
+on-held t m n h = record { counted = h .rest .counted; shaped = (h .rest .resting, h .some, λ e. refl, λ e. let z : _≡_ {A = ℕ} 0 1 = cc in absurd (omega arith)) }
 
 module _ (text : List ℕ) (t : Tape) (m : Machine) (g : Ready (m .count) (m .parent) (t .tokens)) where
   -- a MixedContainer put in before the last token, a scalar that has none before it
@@ -126,29 +142,33 @@ module _ (text : List ℕ) (t : Tape) (m : Machine) (g : Ready (m .count) (m .pa
       }))
 
   -- ---- KeyValueSeparator
-  separator-then-held : (o : Operator) (w : ℕ) → All Held (separator-then o w t m)
+  -- the same tokens, the key last
+  value-due : {at : ℕ} → Scalar (last (t .tokens)) → Held (to m at ObjectValue (m .count)) (t .tokens)
+  value-due one = record { counted = g .rest .counted; shaped = (g .rest .resting, g .some, λ e. scalar-no-equal one e) }
+
+  separator-then-held : Scalar (last (t .tokens)) → (o : Operator) (w : ℕ) → All Held (separator-then o w t m)
   unfolding separator-then
-  separator-then-held o w =
+  separator-then-held one o w =
       by-bool (is-equal o)
-      (λ e. rw (separator-then, e) (record { counted = g .rest .counted; shaped = (g .rest .resting, g .some) }))
-      (λ e. rw (separator-then, e) (lay-plain t m (g .rest) _ (m .at + w) ObjectValue (plain-operator o) tt))
+      (λ e. rw (separator-then, e) (value-due one))
+      (λ e. rw (separator-then, e) (lay-plain t m (g .rest) _ (m .at + w) ObjectValue (plain-operator o) (λ f. absurd (no-equal o e f))))
 
   separator-held : Scalar (last (t .tokens)) → Apart (t .tokens) → All Held (separator-turn text t m)
   unfolding separator-turn
   separator-held one apart =
       by-sighted (sighted (byte-at text (m .at)) (byte-at text (m .at + 1)))
-      (λ o w e. rw (separator-turn, e) (separator-then-held o w))
+      (λ o w e. rw (separator-turn, e) (separator-then-held one o w))
       (λ e. by-bool (eqb (byte-at text (m .at)) brace-open)
-      (λ f. rw (separator-turn, e, f) (record { counted = g .rest .counted; shaped = (g .rest .resting, g .some) }))
+      (λ f. rw (separator-turn, e, f) (value-due one))
       (λ f. rw (separator-turn, e, f)
       (mix-held (λ t′ m′. next m′ t′) one apart (λ t′ n h. on-held t′ m n h))))
 
   -- ---- ObjectValue
-  object-value-held : All Held (object-value-turn text t m)
+  object-value-held : Signed (m .mixed) (t .tokens) → All Held (object-value-turn text t m)
   unfolding object-value-turn
-  object-value-held =
+  object-value-held signed =
       by-bool (eqb (byte-at text (m .at)) brace-open)
-      (λ e. rw (object-value-turn, e) (open-held t m g))
+      (λ e. rw (object-value-turn, e) (open-held t m g signed))
       (λ e. by-bool (eqb (byte-at text (m .at)) brace-close)
       (λ f. rw (object-value-turn, e, f) tt)
       (λ f. rw (object-value-turn, e, f) (scalar-held t m (g .rest) text Key tt)))
@@ -162,18 +182,18 @@ module _ (text : List ℕ) (t : Tape) (m : Machine) (g : Ready (m .count) (m .pa
       (λ e. let o = in-container t (m .parent) (g .rest .resting .kept) e in
       rw (array-close, e, o .read) (close-held t m (g .rest) o (o .kind)))
 
-  array-operator-held : (m .mixed ≡ false → Apart (t .tokens)) → All Held (array-operator text t m)
+  array-operator-held : Signed (m .mixed) (t .tokens) → (m .mixed ≡ false → Apart (t .tokens)) → All Held (array-operator text t m)
   unfolding array-operator after-end unmixed-operator token-at
-  array-operator-held free =
+  array-operator-held signed free =
       by-bool (m .mixed)
-      (λ e. rw (array-operator, e) (operator-held text t m g))
+      (λ e. rw (array-operator, e) (operator-held text t m g e))
       (λ e. rw (array-operator, e) (unmixed-held (free e)))
     where
       -- the same tokens
       after-end-held : All Held (after-end text t m)
       after-end-held =
           by-bool (eqb (byte-at text (m .at)) equals)
-          (λ e. rw (after-end, e) (record { counted = g .rest .counted; shaped = (g .rest .resting, g .some, free) }))
+          (λ e. rw (after-end, e) (record { counted = g .rest .counted; shaped = (g .rest .resting, g .some, signed, free) }))
           (λ e. rw (after-end, e) tt)
 
       -- the last token is read as a scalar, and a MixedContainer goes in before it
@@ -182,7 +202,7 @@ module _ (text : List ℕ) (t : Tape) (m : Machine) (g : Ready (m .count) (m .pa
           mix-held (operator-then text)
           (standing-scalar (g .rest .resting .kept .row .forms (length (t .tokens) - 1) (omega (arith, g .some))) (rw (g .rest .counted) at s))
           apart
-          (λ t′ n h. operator-held text t′ (mixed-on m n) h)
+          (λ t′ n h. operator-held text t′ (mixed-on m n) h refl)
 
       unmixed-held : Apart (t .tokens) → All Held (unmixed-operator text t m)
       unmixed-held apart =
@@ -192,13 +212,13 @@ module _ (text : List ℕ) (t : Tape) (m : Machine) (g : Ready (m .count) (m .pa
           (λ e. rw (unmixed-operator, e) after-end-held)
           (λ e. rw (unmixed-operator, e) tt)
 
-  array-value-held : (m .mixed ≡ false → Apart (t .tokens)) → All Held (array-value-turn text t m)
+  array-value-held : Signed (m .mixed) (t .tokens) → (m .mixed ≡ false → Apart (t .tokens)) → All Held (array-value-turn text t m)
   unfolding array-value-turn
-  array-value-held free =
+  array-value-held signed free =
       by-value-byte (value-byte (byte-at text (m .at)))
-      (λ e. rw (array-value-turn, e) (open-held t m g))
+      (λ e. rw (array-value-turn, e) (open-held t m g signed))
       (λ e. rw (array-value-turn, e) array-close-held)
-      (λ e. rw (array-value-turn, e) (array-operator-held free))
+      (λ e. rw (array-value-turn, e) (array-operator-held signed free))
       (λ e. rw (array-value-turn, e) (scalar-held t m (g .rest) text ArrayValue tt))
 
 -- ---- a state's turn, and any turn
@@ -207,9 +227,9 @@ state-held text t m h =
     by-state (m .state)
     (λ e. rw (in-key text t m e) (key-held text t m (rest (rw e at (h .shaped)))))
     (λ e. let s = rw e at (h .shaped) in rw (in-separator text t m e) (separator-held text t m (ready (s .0) (s .1)) (s .2) (s .3)))
-    (λ e. let s = rw e at (h .shaped) in rw (in-object-value text t m e) (object-value-held text t m (ready (s .0) (s .1))))
-    (λ e. let s = rw e at (h .shaped) in rw (in-parse-open text t m e) (parse-open-held text t m (h .counted) (s .0) (s .1) (s .2) (s .3)))
-    (λ e. let s = rw e at (h .shaped) in rw (in-array-value text t m e) (array-value-held text t m (ready (s .0) (s .1)) (s .2)))
+    (λ e. let s = rw e at (h .shaped) in rw (in-object-value text t m e) (object-value-held text t m (ready (s .0) (s .1)) (s .2)))
+    (λ e. let s = rw e at (h .shaped) in rw (in-parse-open text t m e) (parse-open-held text t m (h .counted) (s .0) (s .1) (s .2) (s .3) (s .4)))
+    (λ e. let s = rw e at (h .shaped) in rw (in-array-value text t m e) (array-value-held text t m (ready (s .0) (s .1)) (s .2) (s .3)))
   where
     rest : Resting (t .tokens) (m .parent) → Resting-at (m .count) (m .parent) (t .tokens)
     rest r = record { counted = h .counted; resting = r }
