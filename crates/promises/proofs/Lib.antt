@@ -2,10 +2,11 @@ pub mod Alike
 pub mod AlikeTurns
 pub mod Cases
 pub mod Demand1
+pub mod Demand2
+pub mod Demand3
 pub mod Domain
 pub mod Links
 pub mod Mixed
 pub mod Rising
 pub mod Room
-pub mod Sheets
 pub mod Uniqueness

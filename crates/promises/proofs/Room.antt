@@ -1,4 +1,4 @@
--- Demand 2, room: the parse with room for k tokens is Full exactly when the one with no bound lays down more than k, and otherwise answers the same.
+-- The parse with room for k tokens is Full exactly when the one with no bound lays down more than k, and otherwise answers the same.
 -- Assumes nothing.
 use mathlib.Core.Path.{_≡_, refl, sym, _∙_, ap}
 use mathlib.Core.Bool.{Bool, true, false}
@@ -21,7 +21,6 @@ use Rattle.parse.specs.Refusals.{number}
 use Rattle.parse.specs.Machine.{After, next, done, refused}
 use Rattle.parse.specs.Parse.{turn, run, has-bom, start, enough, text-limit, Outcome, outcome, refuse, answer, parse-of}
 use Rattle.parse.proofs.Runs.{run-done, run-refused, Ended, run-ends, within-enough}
-use Rattle.parse.proofs.parse.Reads as parse
 use Rattle.promises.specs.Room.{tape-of, run-in, unbounded-parse, turn-lays, and-one, laid-by, laid-in, laid-down}
 use Rattle.promises.proofs.Alike.{in-room, Going, Known, Alike}
 use Rattle.promises.proofs.AlikeTurns.{turn-alike}
@@ -253,20 +252,3 @@ same-otherwise text len r ws e n =
     by-bool (ltb (len / 3) (laid-down text))
     (λ g. absurd (n (full-exactly text len r ws e .1 (ltb-true _ _ g))))
     (λ g. e ∙ same-with-room text len (ltb-false _ _ g))
-
--- for a text of n bytes a tape with room for 2n + 1 tokens is never refused for room
-pub room-enough : (text : List ℕ) (len : ℕ) (ws : List ℕ) → 3 * (2 * length text + 1) ≤ len → outcome (Refused Full) ws ≡ parse-of text len → ⊥
-room-enough text len ws h e =
-    let past : len / 3 < laid-down text = full-exactly text len (Refused Full) ws e .0 refl in
-    omega (arith, laid-most text)
-
--- ---- the same of the contract of `parse` itself: args .0 is the text, args .1 .0 the tape as it is lent
-pub parse-full-exactly : (κs : _) (args : _) (r : Parsed) (xs : _) → parse.Post κs args r xs
-    → (r ≡ Refused Full) ↔ (length (args .1 .0 .now) / 3 < laid-down (args .0 .now))
-parse-full-exactly κs args r xs p = full-exactly (args .0 .now) (length (args .1 .0 .now)) r (xs .1 .0 .now) p
-
-pub parse-never-full : (κs : _) (args : _) (r : Parsed) (xs : _) → parse.Post κs args r xs
-    → 3 * (2 * length (args .0 .now) + 1) ≤ length (args .1 .0 .now) → r ≡ Refused Full → ⊥
-parse-never-full κs args r xs p h e =
-    let past : length (args .1 .0 .now) / 3 < laid-down (args .0 .now) = parse-full-exactly κs args r xs p .0 e in
-    omega (arith, laid-most (args .0 .now))
