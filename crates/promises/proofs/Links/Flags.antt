@@ -2,7 +2,7 @@
 -- What each change of a tape does to this.
 -- Assumes nothing.
 use mathlib.Core.Path.{_≡_, sym, _∙_, ap}
-use mathlib.Core.Bool.{Bool, true}
+use mathlib.Core.Bool.{Bool, true, false}
 use mathlib.Core.Logic.{_⊎_, inl, inr}
 use mathlib.Core.List.{List, [], _∷_, _++_}
 use Prim.Native.Nat.{ℕ, suc, _+_, _-_, _<_}
@@ -13,7 +13,7 @@ use Rattle.operator.specs.declared.Operator.the-variants.{Equal}
 use Rattle.operator.specs.Operators.{number-of}
 use Rattle.tape.specs.declared.token.Token.{Token}
 use Rattle.tape.specs.declared.token.ContainerKind.{ContainerKind}
-use Rattle.tape.specs.declared.token.ContainerKind.the-variants.{Object}
+use Rattle.tape.specs.declared.token.ContainerKind.the-variants.{Array, Object}
 use Rattle.tape.specs.Token.{no-token, mixed-container-token, opener-of, operator-of}
 use Rattle.tape.specs.Tape.{before-last}
 use Rattle.sheet.specs.Sound.{nth}
@@ -41,6 +41,14 @@ Flags ts = (i c : ℕ) (mixed : Bool) → nth ts i ≡ equal-token → nth ts (i
 -- tokens of two codes differ
 pub codes-differ : {t u : Token} {P : Type 0} → (t .code ≡ u .code → ⊥) → t ≡ u → P
 codes-differ d e = absurd (d (ap (λ (x : Token). x .code) e))
+
+-- an Array is no Object
+pub array-no-object : {P : Type 0} → Array ≡ Object → P
+array-no-object e = let z : _≡_ {A = ℕ} 0 1 = cc in absurd (omega arith)
+
+-- a flag is not both on and off
+pub not-both : {flag : Bool} {P : Type 0} → flag ≡ true → flag ≡ false → P
+not-both on off = let z : _≡_ {A = ℕ} 0 1 = cc in absurd (omega arith)
 
 -- a scalar is no operator
 pub scalar-no-equal : {t : Token} {P : Type 0} → Scalar t → t ≡ equal-token → P

@@ -30,7 +30,7 @@ use Rattle.parse.specs.ParseOpen.{open-byte, settle, open-empty, open-parameter
 use Rattle.parse.proofs.Splits.{by-skipped, by-container, by-open-byte}
 use Rattle.promises.proofs.Links.Nest.{Parent, parent-below}
 use Rattle.promises.proofs.Links.Rows.{last, add-length, add-new, add-last, Scalar, Plain, Apart, apart-add}
-use Rattle.promises.proofs.Links.Flags.{equal-token, Stored, codes-differ}
+use Rattle.promises.proofs.Links.Flags.{equal-token, Stored, codes-differ, array-no-object, not-both}
 use Rattle.promises.proofs.Links.Kept.{Kept, link-at, link-container, opener-link, kept-opener, kept-close, kept-flag}
 use Rattle.promises.proofs.Links.Held.{Signed, unsettled, Held, Ready, All, all-and-then, all-lay-then, all-close-at, counted-add, Settled, settled-before, rest-add, all-scalar-then}
 use Rattle.promises.proofs.Links.Closing.{resumes, closed-length}
@@ -125,7 +125,7 @@ flag-held t m f =
       scalar = f .scalar;
     }))
     (λ c. rw (flag-parent, e, c) (unchanged (λ h. inl (none-open us (f .kept) (rw same at c))))))
-    (λ e. rw (flag-parent, e) (unchanged (λ h. let on = f .led h in let z : _≡_ {A = ℕ} 0 1 = cc in absurd (omega arith))))
+    (λ e. rw (flag-parent, e) (unchanged (λ h. not-both (f .led h) e)))
 
 open-as-held : (text : List ℕ) (t : Tape) (m : Machine) → Fresh (Remembers (m .parent)) (m .count) (m .parent) (t .tokens) → All Held (open-as text t m)
 unfolding open-as
@@ -157,7 +157,7 @@ module _ (text : List ℕ) (t : Tape) (m : Machine) (c : m .count ≡ length (t 
 
   -- an Array is no Object
   array-settled : Ready (m .count) (m .count - 1) (set (t .tokens) (m .count - 1) (opener-of Array (m .parent) false))
-  array-settled = settled Array (λ e. let z : _≡_ {A = ℕ} 0 1 = cc in absurd (omega arith))
+  array-settled = settled Array (λ e. array-no-object e)
 
   settled-apart : (kind : ContainerKind) → Apart (set (t .tokens) (m .count - 1) (opener-of kind (m .parent) false))
   settled-apart kind = rw (settled-tokens kind) (apart-add us (opener-of kind (m .parent) false) (k .row))
@@ -200,7 +200,7 @@ module _ (text : List ℕ) (t : Tape) (m : Machine) (c : m .count ≡ length (t 
   open-parameter-held =
       by-bool (m .mixed)
       (λ e. rw (open-parameter, e) tt)
-      (λ e. rw (open-parameter, e) (parameter-held text _ (within m (m .count - 1)) (settled Object (λ o h. let on = signed h in let z : _≡_ {A = ℕ} 0 1 = cc in absurd (omega arith)) .rest)))
+      (λ e. rw (open-parameter, e) (parameter-held text _ (within m (m .count - 1)) (settled Object (λ o h. not-both (signed h) e) .rest)))
 
   -- the opener and its End are those of a settled Array that is closed
   open-empty-held : All Held (open-empty t m)
@@ -212,7 +212,7 @@ module _ (text : List ℕ) (t : Tape) (m : Machine) (c : m .count ≡ length (t 
       let vs : List Token = us ++ (op ∷ []) in
       let l : length vs ≡ m .count = omega (arith, add-length us op, add-length us unsettled, ap length standing) in
       let x : Token = opener-of Array (m .count) false in
-      let r = kept-close vs (length us) (m .parent) Array false (kept-opener us Array (m .parent) k some (λ e′. let z : _≡_ {A = ℕ} 0 1 = cc in absurd (omega arith))) (ap link-of (add-new us op) ∙ opener-link Array (m .parent) false) (parent-below (k .links) some) in
+      let r = kept-close vs (length us) (m .parent) Array false (kept-opener us Array (m .parent) k some (λ o. array-no-object o)) (ap link-of (add-new us op) ∙ opener-link Array (m .parent) false) (parent-below (k .links) some) in
       let same : t′ .tokens ≡ set vs (length us) x ++ (end-of (length us) ∷ []) = e ∙ rw (standing, reset us unsettled x [] place, place, set-append-seam us op [] x) in
       let n : length (set vs (length us) x ++ (end-of (length us) ∷ [])) ≡ length vs + 1 = closed-length vs (length us) x (end-of (length us)) in
       record {

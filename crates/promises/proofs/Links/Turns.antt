@@ -5,6 +5,7 @@ use mathlib.Core.Bool.{true, false}
 use mathlib.Core.List.{List}
 use Prim.Native.Nat.{ℕ, _+_, _-_, _≤_, _<_}
 use native.Mathlib.Omega.{arith}
+use borrow.Author.Tests.{eqb-false}
 use lib.Dec.{eqb}
 use lib.ListN.{length, set, length-set, List·getD-eq-default}
 use lib.Seq.{getD-set-same}
@@ -35,7 +36,7 @@ use Rattle.parse.proofs.Splits.{by-skipped, by-sighted, by-standing, by-state, 
 use Rattle.parse.proofs.States.{in-key, in-separator, in-object-value, in-parse-open, in-array-value}
 use Rattle.promises.proofs.Links.Nest.{by-below}
 use Rattle.promises.proofs.Links.Rows.{last, insert-length, Scalar, plain-operator, Apart}
-use Rattle.promises.proofs.Links.Flags.{equal-token, codes-differ, scalar-no-equal}
+use Rattle.promises.proofs.Links.Flags.{equal-token, codes-differ, not-both, scalar-no-equal}
 use Rattle.promises.proofs.Links.Kept.{Kept, Resting, ScalarStands, standing-scalar, kept-insert, kept-header}
 use Rattle.promises.proofs.Links.Held.{Signed, unsettled, Held, Resting-at, Ready, All, all-lay-then, all-mix-then, counted-add, lay-plain, scalar-held}
 use Rattle.promises.proofs.Links.Closing.{in-container, close-held, end-held}
@@ -103,16 +104,19 @@ module _ (text : List ℕ) (t : Tape) (m : Machine) (r : Resting-at (m .count) (
       (λ e. rw (key-turn, e) (parameter-held text t m r))
       (λ e. rw (key-turn, e) (scalar-held t m r text KeyValueSeparator tt))
 
--- only `=` is the Equal
+-- only `=` has the Equal's number
+equal-numbered : (o : Operator) → is-equal o ≡ eqb (number-of o) (number-of Equal)
+equal-numbered LessThan = refl
+equal-numbered LessThanEqual = refl
+equal-numbered GreaterThan = refl
+equal-numbered GreaterThanEqual = refl
+equal-numbered NotEqual = refl
+equal-numbered Exact = refl
+equal-numbered Equal = refl
+equal-numbered Exists = refl
+
 no-equal : (o : Operator) → is-equal o ≡ false → operator-of (number-of o) ≡ equal-token → ⊥
-no-equal LessThan e f = let z : _≡_ {A = ℕ} 1 7 = ap (λ (x : Token). x .a) f in omega arith
-no-equal LessThanEqual e f = let z : _≡_ {A = ℕ} 2 7 = ap (λ (x : Token). x .a) f in omega arith
-no-equal GreaterThan e f = let z : _≡_ {A = ℕ} 3 7 = ap (λ (x : Token). x .a) f in omega arith
-no-equal GreaterThanEqual e f = let z : _≡_ {A = ℕ} 4 7 = ap (λ (x : Token). x .a) f in omega arith
-no-equal NotEqual e f = let z : _≡_ {A = ℕ} 5 7 = ap (λ (x : Token). x .a) f in omega arith
-no-equal Exact e f = let z : _≡_ {A = ℕ} 6 7 = ap (λ (x : Token). x .a) f in omega arith
-no-equal Equal e f = let z : _≡_ {A = ℕ} 0 1 = cc in omega arith
-no-equal Exists e f = let z : _≡_ {A = ℕ} 8 7 = ap (λ (x : Token). x .a) f in omega arith
+no-equal o e f = eqb-false _ _ (sym (equal-numbered o) ∙ e) (ap (λ (x : Token). x .a) f)
 
 -- ---- mixed: an operator is added
 operator-held : (text : List ℕ) (t : Tape) (m : Machine) → Ready (m .count) (m .parent) (t .tokens) → m .mixed ≡ true → All Held (operator-then text t m)
@@ -124,7 +128,7 @@ operator-held text t m g on =
 
 -- mixed on in ArrayValue
 pub on-held : (t : Tape) (m : Machine) (n : ℕ) → Ready n (m .parent) (t .tokens) → Held (mixed-on m n) (t .tokens)
-on-held t m n h = record { counted = h .rest .counted; shaped = (h .rest .resting, h .some, λ e. refl, λ e. let z : _≡_ {A = ℕ} 0 1 = cc in absurd (omega arith)) }
+on-held t m n h = record { counted = h .rest .counted; shaped = (h .rest .resting, h .some, λ e. refl, λ e. not-both refl e) }
 
 module _ (text : List ℕ) (t : Tape) (m : Machine) (g : Ready (m .count) (m .parent) (t .tokens)) where
   -- a MixedContainer put in before the last token, a scalar that has none before it
