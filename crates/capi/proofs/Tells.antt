@@ -11,7 +11,7 @@ use Rattle.parse.specs.Refusals.{number, place}
 use Rattle.parse.specs.Parse.{Outcome, outcome}
 use Rattle.sheet.specs.declared.views.Viewed.{Viewed}
 use Rattle.sheet.specs.declared.views.Viewed.the-variants.{At, NoScalar}
-use Rattle.capi.specs.Told.{bit, ReadTold, read-told, parse-told, tell-parse, view-told, tell-view}
+use Rattle.capi.specs.Told.{bit, read-told, parse-told, tell-parse, view-told, tell-view}
 
 -- the refusal and the value of a reading, told as they are
 pub reads : {Read Value : Type 0} (refusal : Read → ℕ) (value : Read → Value) {told said : ℕ} {v : Value} {read spec : Read} →

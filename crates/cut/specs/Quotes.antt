@@ -1,6 +1,6 @@
 -- A quoted run ends at the first `"` not skipped by a backslash (which skips one byte); none is no run.
 use Prim.Native.Nat.{ℕ, _+_}
-use mathlib.Core.Bool.{Bool, true, false}
+use mathlib.Core.Bool.{true, false}
 use mathlib.Core.List.{List, [], _∷_}
 use lib.Dec.{eqb}
 use Rattle.data.specs.Bytes.{quote, backslash}

@@ -1,6 +1,6 @@
 -- The thirteen boundary bytes, and the table of 256 classes that is 1 exactly there.
 use Prim.Native.Nat.{ℕ, zero, suc, _+_}
-use mathlib.Core.Bool.{Bool, true, false, _||_}
+use mathlib.Core.Bool.{Bool, true, false}
 use mathlib.Core.List.{List, [], _∷_}
 use lib.Dec.{eqb}
 use Rattle.data.specs.Bytes.{tab, line-feed, carriage-return, space, hash, semicolon, less-than, equals, greater-than, bracket-open, bracket-close, brace-open, brace-close}

@@ -1,7 +1,7 @@
 -- Each turn consumes a byte, or leaves KeyValueSeparator or ParseOpen for another state: what is left falls.
 -- Assumes nothing.
 use mathlib.Core.Path.{_≡_, refl, ap}
-use mathlib.Core.Bool.{Bool, true, false}
+use mathlib.Core.Bool.{Bool, false}
 use mathlib.Core.List.{List}
 use Prim.Native.Nat.{ℕ, _+_, _-_, _*_, _≤_, _<_}
 use native.Mathlib.Omega.{arith}
@@ -30,7 +30,7 @@ use Rattle.parse.specs.declared.machine.State.the-variants.{Key, KeyValu
 use Rattle.parse.specs.declared.machine.Machine.{Machine}
 use Rattle.parse.specs.Machine.{After, next, done, refused, and-then, byte-at, to, within, or-full, lay-then}
 use Rattle.parse.specs.Scalars.{scalar-then}
-use Rattle.parse.specs.Containers.{open-then, container-at, link-of, kind-of, state-in, close-at, close, nothing-open, key-end, is-key, text-end}
+use Rattle.parse.specs.Containers.{open-then, container-at, link-of, state-in, close-at, close, nothing-open, key-end, is-key, text-end}
 use Rattle.parse.specs.Parameter.{parameter-object, value-or-object, parameter-value, parameter-named, parameter-name, parameter}
 use Rattle.parse.specs.Key.{key-byte, key-close, open-header, key-header, key-brace, key-turn}
 use Rattle.parse.specs.KeyValueSeparator.{mixed-on, mix-then, separator-then, separator-turn}
@@ -38,7 +38,7 @@ use Rattle.parse.specs.ObjectValue.{object-value-turn}
 use Rattle.parse.specs.ParseOpen.{open-byte, settle, open-empty, open-parameter, open-brace, flag-parent, follows-key, open-as, open-scalar, parse-open-turn}
 use Rattle.parse.specs.ArrayValue.{value-byte, array-close, operator-then, after-end, unmixed-operator, array-operator, array-value-turn}
 use Rattle.parse.specs.Parse.{state-turn, turn}
-use Rattle.parse.proofs.Splits.{by-skipped, by-cut, by-sighted, by-standing, by-laying, by-state, by-key-byte, by-open-byte, by-value-byte}
+use Rattle.parse.proofs.Splits.{by-skipped, by-cut, by-sighted, by-standing, by-state, by-key-byte, by-open-byte, by-value-byte}
 use Rattle.parse.proofs.States.{in-key, in-separator, in-object-value, in-parse-open, in-array-value}
 
 -- a state that a turn may leave without consuming a byte counts one more

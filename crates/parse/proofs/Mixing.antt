@@ -1,13 +1,9 @@
 -- Putting a MixedContainer in, and then going on.
 -- Assumes nothing.
 use mathlib.Core.Path.{_≡_, refl}
-use mathlib.Core.List.{List}
-use Prim.Native.Nat.{ℕ}
-use native.Mathlib.Omega.{arith}
 use Rattle.tape.specs.Tape.{Tape, Laying, laid, full, lay-mixed}
 use Rattle.parse.specs.declared.machine.Machine.{Machine}
-use Rattle.parse.specs.declared.machine.Refusal.the-variants.{Full}
-use Rattle.parse.specs.Machine.{After, next, done, refused, and-then, or-full}
+use Rattle.parse.specs.Machine.{After, next, and-then, or-full}
 use Rattle.parse.specs.KeyValueSeparator.{mixed-on, mix-then}
 
 bind : (l : Laying) (m : Machine) (go : Tape → Machine → After)

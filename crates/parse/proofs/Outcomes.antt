@@ -1,14 +1,13 @@
 -- What a parse leaves on a tape depends on the tape's length alone.
 -- Assumes nothing.
-use mathlib.Core.Path.{_≡_, refl, ap}
+use mathlib.Core.Path.{_≡_}
 use mathlib.Core.List.{List}
 use Prim.Native.Nat.{ℕ, _≤_, _<_}
 use native.Mathlib.Nat.{sub-zero}
 use borrow.Author.Tests.{lt-ltb, le-ltb}
-use lib.Dec.{ltb}
 use lib.ListN.{length, replicate, length-replicate}
 use Rattle.tape.specs.Words.{room-of, tokens-in, words-of, padded, cleared}
-use Rattle.tape.specs.Tape.{Tape, view}
+use Rattle.tape.specs.Tape.{view}
 use Rattle.parse.specs.declared.machine.Refusal.the-variants.{TooLong}
 use Rattle.parse.specs.declared.Parsed.the-variants.{Refused}
 use Rattle.parse.specs.Machine.{next}

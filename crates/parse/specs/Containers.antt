@@ -1,5 +1,5 @@
 -- Opening a container, leaving one, and the text's end inside one.
-use Prim.Native.Nat.{ℕ, _+_, _-_}
+use Prim.Native.Nat.{ℕ, _+_}
 use mathlib.Core.Bool.{Bool, true, false, _&&_}
 use lib.Dec.{eqb}
 use Rattle.tape.specs.declared.token.ContainerKind.{ContainerKind}

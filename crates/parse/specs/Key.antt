@@ -1,7 +1,7 @@
 -- Key. `}` or `]`: nothing open, skip it; else close as Object. `{`: if `}` follows after blanks, drop both; else last token Unquoted
 -- becomes Header, an Array is added, ParseOpen; else 4. `[`: parameter. Otherwise a key, then KeyValueSeparator.
 use Prim.Native.Nat.{ℕ, _+_, _-_}
-use mathlib.Core.Bool.{Bool, true, false, _||_}
+use mathlib.Core.Bool.{true, false}
 use mathlib.Core.List.{List}
 use lib.Dec.{eqb}
 use Rattle.data.specs.Bytes.{bracket-open, bracket-close, brace-open, brace-close}

@@ -1,7 +1,7 @@
 -- KeyValueSeparator. `<=` `<` `>=` `>` `!=` `?=` `==` add an operator; `=` adds none; then ObjectValue. `{`: ObjectValue, not consumed.
 -- Else MixedContainer goes in before the key, mixed on, ArrayValue, not consumed.
 use Prim.Native.Nat.{ℕ, _+_}
-use mathlib.Core.Bool.{Bool, true, false}
+use mathlib.Core.Bool.{true, false}
 use mathlib.Core.List.{List}
 use lib.Dec.{eqb}
 use Rattle.data.specs.Bytes.{brace-open}

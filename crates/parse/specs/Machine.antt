@@ -1,6 +1,5 @@
 -- What a turn makes of a machine and a tape, and how a machine moves on.
 use Prim.Native.Nat.{ℕ}
-use mathlib.Core.Bool.{Bool}
 use mathlib.Core.List.{List}
 use lib.ListN.{getD}
 use Rattle.tape.specs.declared.token.Token.{Token}

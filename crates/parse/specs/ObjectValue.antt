@@ -1,6 +1,6 @@
 -- ObjectValue. `{`: Array added, ParseOpen. `}`: 5. Else a scalar, then Key.
 use Prim.Native.Nat.{ℕ}
-use mathlib.Core.Bool.{Bool, true, false}
+use mathlib.Core.Bool.{true, false}
 use mathlib.Core.List.{List}
 use lib.Dec.{eqb}
 use Rattle.data.specs.Bytes.{brace-open, brace-close}

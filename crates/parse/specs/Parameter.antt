@@ -1,7 +1,7 @@
 -- Parameter: `[[` or `[[!`, end is Eof; a run as name; then `]` or 10; token; blanks; a run; blanks.
 -- If `]` comes: the run is Unquoted, Key. Else an Object opens, the run is its first key, KeyValueSeparator.
 use Prim.Native.Nat.{ℕ, _+_, _-_}
-use mathlib.Core.Bool.{Bool, true, false}
+use mathlib.Core.Bool.{true, false}
 use mathlib.Core.List.{List}
 use lib.Dec.{eqb, ltb}
 use lib.ListN.{length}

@@ -8,7 +8,7 @@ use crate::machine::byte_at;
 use cut::Skipped;
 use tape::words;
 ghost use mathlib.Core.Path.{_≡_};
-ghost use Prim.Native.Nat.{_+_, _≤_, _<_};
+ghost use Prim.Native.Nat.{_≤_, _<_};
 ghost use lib.ListN.{length};
 ghost use Rattle.data.specs.Classes.{classes};
 ghost use Rattle.tape.specs.Tape.{view};

@@ -8,12 +8,12 @@ use cut::Cut;
 use tape::token;
 use tape::token::ScalarKind;
 ghost use mathlib.Core.Path.{_≡_};
-ghost use Prim.Native.Nat.{_-_, _≤_, _<_};
+ghost use Prim.Native.Nat.{_-_, _≤_};
 ghost use lib.ListN.{length};
 ghost use Rattle.data.specs.Classes.{classes};
 ghost use Rattle.tape.specs.Token.{scalar-of};
 ghost use Rattle.tape.specs.Tape.{view};
-ghost use Rattle.parse.specs.Machine.{after, lay-then};
+ghost use Rattle.parse.specs.Machine.{after};
 ghost use Rattle.parse.specs.Scalars.{scalar-then};
 ghost use Rattle.parse.specs.Parse.{text-limit};
 

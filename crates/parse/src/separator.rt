@@ -15,7 +15,7 @@ ghost use Prim.Native.Nat.{_≤_, _<_};
 ghost use lib.ListN.{length};
 ghost use Rattle.tape.specs.Tape.{view};
 ghost use Rattle.parse.specs.Machine.{after, next};
-ghost use Rattle.parse.specs.KeyValueSeparator.{mixed-on, mix-then, separator-then, separator-turn};
+ghost use Rattle.parse.specs.KeyValueSeparator.{mix-then, separator-then, separator-turn};
 ghost use Rattle.parse.specs.Parse.{text-limit};
 
 // Puts a MixedContainer in before the last token, and goes on in ArrayValue with mixed on.

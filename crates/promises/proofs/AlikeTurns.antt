@@ -26,7 +26,7 @@ use Rattle.tape.specs.declared.token.ScalarKind.the-variants.{Unquoted}
 use Rattle.tape.specs.declared.token.ContainerKind.{ContainerKind}
 use Rattle.tape.specs.declared.token.ContainerKind.the-variants.{Array, Object}
 use Rattle.tape.specs.Token.{container-of, opener-of, end-of, scalar-of, standing-of, no-token, mixed-container-token}
-use Rattle.tape.specs.Tape.{Tape, Room, holds, unbounded, laid, token-at, replace, add, before-last, add-before-last, lay, lay-mixed}
+use Rattle.tape.specs.Tape.{Tape, Room, holds, unbounded, token-at, replace, add, before-last, add-before-last, lay, lay-mixed}
 use Rattle.parse.specs.declared.machine.State.{State}
 use Rattle.parse.specs.declared.machine.State.the-variants.{Key, KeyValueSeparator, ObjectValue, ParseOpen, ArrayValue}
 use Rattle.parse.specs.declared.machine.Machine.{Machine}

@@ -25,7 +25,7 @@ use Rattle.promises.proofs.Rising.Spans.{spans, Upto}
 use Rattle.promises.proofs.Rising.Sheets.{Viewed, viewed}
 use Rattle.promises.proofs.Rising.Links.{stands-zero}
 use Rattle.promises.proofs.Rising.Laid.{Base}
-use Rattle.promises.proofs.Rising.Turns.{Kept, Finished, Leaves, run-leaves}
+use Rattle.promises.proofs.Rising.Turns.{Kept, Leaves, run-leaves}
 
 -- a run begins with no token
 start-kept : (text-length : ℕ) (bom : Bool) (t : Tape) → t .tokens ≡ [] → Kept text-length (start bom) t
@@ -37,13 +37,6 @@ start-kept L bom t e =
 -- what any run of turns over an empty tape leaves
 pub run-from-start : (text : List ℕ) (bom : Bool) (turns : ℕ) (t : Tape) → t .tokens ≡ [] → Leaves (length text) (run text turns (next (start bom) t))
 run-from-start text bom turns t e = run-leaves text turns (next (start bom) t) (start-kept (length text) bom t e)
-
--- of a run that is done, as many tokens as it counts, with views as a sheet owes them
-pub run-viewed : (text : List ℕ) (bom : Bool) (turns : ℕ) (t t′ : Tape) (count : ℕ) → t .tokens ≡ [] → run text turns (next (start bom) t) ≡ done count t′
-    → (count ≡ length (t′ .tokens)) × Viewed (length text) (t′ .tokens)
-run-viewed text bom turns t t′ count e d =
-    let f : Finished (length text) count (t′ .tokens) = rw d at (run-from-start text bom turns t e) in
-    (f .counted, viewed (length text) (t′ .tokens) (f .rising))
 
 -- ---- the parse
 -- what an outcome with tokens has to show

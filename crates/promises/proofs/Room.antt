@@ -20,7 +20,7 @@ use Rattle.parse.specs.declared.Parsed.the-variants.{Tokens, Refused}
 use Rattle.parse.specs.Refusals.{number}
 use Rattle.parse.specs.Machine.{After, next, done, refused}
 use Rattle.parse.specs.Parse.{turn, run, has-bom, start, enough, text-limit, Outcome, outcome, refuse, answer, parse-of}
-use Rattle.parse.proofs.Runs.{run-done, run-refused, Ended, run-ends, within-enough}
+use Rattle.parse.proofs.Runs.{run-done, run-refused}
 use Rattle.promises.specs.Room.{tape-of, run-in, unbounded-parse, turn-lays, and-one, laid-by, laid-in, laid-down}
 use Rattle.promises.proofs.Alike.{in-room, Going, Known, Alike}
 use Rattle.promises.proofs.AlikeTurns.{turn-alike}
@@ -106,11 +106,6 @@ module _ (text : List ℕ) where
   pub run-alike : (k : ℕ) → Alike text (2 * length text) k 0 laid-run (run-in (holds k) text) (run-in unbounded text)
   unfolding run-in
   run-alike k = turns-alike (enough text) k
-
-  -- and it ends
-  pub run-in-ends : (room : Room) → Ended (run-in room text)
-  unfolding run-in
-  run-in-ends room = run-ends text (enough text) (start (has-bom text)) (tape-of room []) (within-enough text (start (has-bom text)))
 
 -- how an answer is told does not depend on the room
 told-alike : (bom : Bool) (len k : ℕ) (x : After) → answer bom len (in-room k x) ≡ answer bom len x

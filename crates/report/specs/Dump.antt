@@ -8,7 +8,6 @@ use Rattle.data.specs.Bytes.{space, line-feed}
 use Rattle.tape.specs.declared.token.Token.{Token}
 use Rattle.tape.specs.Token.{array-code, object-code, mixed-container-code, unquoted-code, quoted-code, parameter-code, undefined-parameter-code, operator-code, end-code, header-code}
 use Rattle.tape.specs.Words.{token-in}
-use Rattle.parse.specs.declared.Parsed.{Parsed}
 use Rattle.parse.specs.declared.Parsed.the-variants.{Tokens, Refused}
 use Rattle.parse.specs.declared.machine.Refusal.{Refusal}
 use Rattle.parse.specs.Parse.{Outcome, outcome, parse-of}

@@ -7,7 +7,7 @@ use crate::whole::I64Read;
 use crate::whole::to_i64;
 ghost use mathlib.Core.Path.{_≡_};
 ghost use Rattle.scalar.specs.Float.{f64-read};
-ghost use Rattle.scalar.specs.Kind.{kind-of, kind-by-f64, kind-by-i64};
+ghost use Rattle.scalar.specs.Kind.{kind-of, kind-by-f64};
 
 // What an unquoted scalar is.
 pub enum ScalarKind {

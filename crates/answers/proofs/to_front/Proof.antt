@@ -1,8 +1,7 @@
 -- `answers::to_front` is safe and ends: what is read stands behind what is written, and both within the input.
 -- Assumes nothing.
-use mathlib.Core.Path.{_≡_, sym}
-use Prim.Native.Nat.{_+_, _≤_, _-_}
-use native.Mathlib.Omega.{arith}
+use mathlib.Core.Path.{_≡_}
+use Prim.Native.Nat.{_≤_, _-_}
 use borrow.Author.Needs.{needs}
 use lib.ListN.{length, length-set}
 use Rattle.answers.proofs.to_front.Statement.{statement}

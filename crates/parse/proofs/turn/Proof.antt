@@ -1,7 +1,6 @@
 -- `parse::turn` meets its contract, by where the blanks end.
 -- Assumes nothing.
 use borrow.Author.Needs.{needs}
-use native.Mathlib.Omega.{arith}
 use mathlib.Core.Path.{sym, _∙_}
 use Rattle.cut.proofs.Blanks.{skip-lands}
 use Rattle.parse.specs.Parse.{turn}

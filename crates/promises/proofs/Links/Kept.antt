@@ -22,7 +22,7 @@ use Rattle.tape.specs.Tape.{before-last}
 use Rattle.tape.proofs.Shapes.{scalar-shape, opens-link, end-link, link-made, unlinked-opens}
 use Rattle.sheet.specs.Sound.{nth, Form, container, mixed-container, scalar, operator, closing, Closed, Opened, Nested, Headed}
 use Rattle.promises.proofs.Links.Nest.{by-equal, by-below, Nest, opener-below, end-below, widen, nest-open, nest-close, all-closed}
-use Rattle.promises.proofs.Links.Flags.{equal-token, Flagged, Stored, Flags, codes-differ, flags-add, flags-set, flags-insert}
+use Rattle.promises.proofs.Links.Flags.{equal-token, Stored, Flags, codes-differ, flags-add, flags-set, flags-insert}
 use Rattle.promises.proofs.Links.Rows.{last, add-length, add-new, add-same, add-last, insert-length, insert-new, insert-last, insert-same, Scalar, Unmarked, unmarked, scalar-made, scalar-unlinked, Unheaded, unheaded, Plain, mixed-unlinked, Row, Apart, row-add, row-set, row-insert}
 
 -- the link at each index

@@ -1,7 +1,7 @@
 -- Every tape left by a successful parse is tied: its tokens have forms, its openers and Ends name each other and nest, token 0
 -- opens nothing, and a Header has a container next.
 -- Assumes nothing.
-use mathlib.Core.Path.{_≡_, refl, ap, subst}
+use mathlib.Core.Path.{_≡_, refl, ap}
 use mathlib.Core.Bool.{Bool}
 use mathlib.Core.List.{List, []}
 use Prim.Native.Nat.{ℕ, zero, suc}
@@ -49,10 +49,6 @@ start-held bom = record {
 
 pub run-from-start : (text : List ℕ) (n : ℕ) (bom : Bool) (t : Tape) → t .tokens ≡ [] → All Held (run text n (next (start bom) t))
 run-from-start text n bom t none = run-held text n (next (start bom) t) (rw none (start-held bom))
-
--- a run from the start that is done leaves tied tokens, as many as it answers
-pub done-tied : (text : List ℕ) (n : ℕ) (bom : Bool) (before after : Tape) (count : ℕ) → before .tokens ≡ [] → run text n (next (start bom) before) ≡ done count after → Finished count (after .tokens)
-done-tied text n bom before after count none e = subst (λ (x : After). All Held x) e (run-from-start text n bom before none)
 
 -- ---- the parse
 -- what an outcome with tokens has to show

@@ -4,7 +4,6 @@ use borrow.Author.Needs.{needs}
 use denote.Ref.{now}
 use Rattle.parse.proofs.Mixing.{mix-bind, mixed-place}
 use Rattle.tape.specs.Tape.{view}
-use Rattle.parse.specs.KeyValueSeparator.{mix-then}
 use Rattle.parse.proofs.array_value.mixed_operator.Statement.{statement}
 use Rattle.parse.proofs.array_value.mixed_operator.Tie as tie
 

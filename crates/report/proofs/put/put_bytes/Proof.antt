@@ -3,7 +3,6 @@
 use Rattle.report.proofs.Append.{left-on, left-none}
 use mathlib.Core.Path.{_≡_, sym, _∙_}
 use Prim.Native.Nat.{_≤_, _-_}
-use native.Mathlib.Omega.{arith}
 use borrow.Author.Needs.{needs}
 use lib.ListN.{length, drop}
 use Rattle.report.specs.Append.{append}

@@ -1,8 +1,7 @@
 -- `report::tokens::put_tokens` meets its contract: at each turn the lines that are left, put from where the buffer is, give what all of them give.
 -- Assumes nothing.
 use mathlib.Core.Path.{_≡_, refl, sym, ap, _∙_}
-use Prim.Native.Nat.{ℕ, _≤_, _-_}
-use native.Mathlib.Omega.{arith}
+use Prim.Native.Nat.{_≤_, _-_}
 use borrow.Author.Needs.{needs}
 use lib.ListN.{length}
 use Rattle.report.proofs.Append.{put-on, put-empty, same-bytes}
