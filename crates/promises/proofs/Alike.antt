@@ -18,6 +18,7 @@ use Rattle.parse.specs.declared.machine.Refusal.{Refusal}
 use Rattle.parse.specs.declared.machine.Refusal.the-variants.{Full}
 use Rattle.parse.specs.Refusals.{number}
 use Rattle.parse.specs.Machine.{After, next, done, refused, and-then, to, or-full, lay-then}
+use Rattle.promises.specs.Mixed.{Mixes}
 use Rattle.promises.specs.Room.{tape-of, laid-by}
 
 -- an answer on a tape with room for k tokens
@@ -40,14 +41,6 @@ spare-few KeyValueSeparator = omega arith
 spare-few ObjectValue = omega arith
 spare-few ParseOpen = omega arith
 spare-few ArrayValue = omega arith
-
--- mixed is on in ParseOpen and ArrayValue alone
-abbrev pub Mixes : State → Bool → Type 0
-Mixes Key mixed = mixed ≡ false
-Mixes KeyValueSeparator mixed = mixed ≡ false
-Mixes ObjectValue mixed = mixed ≡ false
-Mixes ParseOpen mixed = Unit {0}
-Mixes ArrayValue mixed = Unit {0}
 
 -- a machine on a tape with no bound: the count is that of the tokens, and with two tokens for each byte that is left it is within a budget
 pub record Going (text : List ℕ) (budget : ℕ) (m : Machine) (t : Tape) : Type 0 where

@@ -45,8 +45,9 @@ use Rattle.parse.specs.ArrayValue.{value-byte, array-close, operator-then, afte
 use Rattle.parse.specs.Parse.{state-turn, turn}
 use Rattle.parse.proofs.Splits.{by-skipped, by-cut, by-sighted, by-standing, by-container, by-state, by-key-byte, by-open-byte, by-value-byte}
 use Rattle.parse.proofs.States.{in-key, in-separator, in-object-value, in-parse-open, in-array-value}
+use Rattle.promises.specs.Mixed.{Mixes}
 use Rattle.promises.specs.Room.{tape-of, name-ended, parameter-lays, key-lays, is-cut, open-lays, is-scalar, value-lays, state-lays, turn-lays, and-one, laid-by}
-use Rattle.promises.proofs.Alike.{spare, spare-few, Mixes, Going, Alike, alike-next, alike-done, alike-refused, alike-lay, alike-mix, alike-lay-then, alike-lay-and, added-sized, mixed-sized}
+use Rattle.promises.proofs.Alike.{spare, spare-few, Going, Alike, alike-next, alike-done, alike-refused, alike-lay, alike-mix, alike-lay-then, alike-lay-and, added-sized, mixed-sized}
 
 -- the tokens of a closed container
 closed-sized : (i : ℕ) (x y : Token) (ts : List Token) (c : ℕ) → length ts ≡ c → length (set ts i x ++ (y ∷ [])) ≡ c + 1

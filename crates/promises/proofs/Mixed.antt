@@ -4,39 +4,32 @@
 use mathlib.Core.Path.{_≡_, refl, subst}
 use mathlib.Core.Bool.{Bool}
 use mathlib.Core.List.{List}
-use Prim.Native.Nat.{ℕ, _+_, _*_, _<_}
+use Prim.Native.Nat.{ℕ, _*_}
 use native.Mathlib.Omega.{arith}
 use borrow.Author.Tests.{ltb-true, ltb-false}
 use lib.Dec.{ltb}
 use lib.ListN.{length}
 use Rattle.data.proofs.Cases.{by-bool}
 use Rattle.tape.specs.declared.token.Token.{Token}
-use Rattle.tape.specs.declared.token.ContainerKind.the-variants.{Object}
-use Rattle.tape.specs.Token.{mixed-container-token, opener-of}
 use Rattle.tape.specs.Words.{tokens-in}
 use Rattle.tape.specs.Tape.{Tape, Room, holds, unbounded}
-use Rattle.sheet.specs.Sound.{nth}
 use Rattle.parse.specs.declared.Parsed.the-variants.{Tokens}
 use Rattle.parse.specs.declared.machine.State.{State}
 use Rattle.parse.specs.declared.machine.State.the-variants.{Key, KeyValueSeparator, ObjectValue, ParseOpen, ArrayValue}
 use Rattle.parse.specs.declared.machine.Machine.{Machine}
 use Rattle.parse.specs.Machine.{After, next, done, refused}
 use Rattle.parse.specs.Parse.{outcome, parse-of, has-bom}
-use Rattle.parse.proofs.Falls.{All}
-use Rattle.promises.proofs.Alike.{in-room, Mixes, Known}
-use Rattle.promises.proofs.Room.{after-turns, laid-in-turns, turns-alike}
-use Rattle.promises.proofs.Links.Rows.{Scalar}
-use Rattle.promises.proofs.Links.Flags.{equal-token, Stored, Flags, codes-differ, flags-add}
+use Rattle.promises.specs.Room.{after-turns}
+use Rattle.promises.specs.Mixed.{Mixing, Marked, Flags}
+use Rattle.promises.proofs.Alike.{in-room, Known}
+use Rattle.promises.proofs.Room.{laid-in-turns, turns-alike}
+use Rattle.promises.proofs.Links.Flags.{codes-differ, flags-add}
 use Rattle.promises.proofs.Links.Held as Held
 use Rattle.promises.proofs.Links.Held.{Held, Shaped, unsettled}
 use Rattle.promises.proofs.Links.Parse.{run-from-start, parse-tied}
 
 -- ---- mixed is on in ParseOpen and ArrayValue alone, on every tape and after any number of turns. So in KeyValueSeparator `=` never
 -- adds an operator: the Rust's arm for it there while mixed is on, which document 01 leaves out, is never taken
--- what goes on, on a tape of any room
-abbrev pub Mixing : After → Type 0
-Mixing x = All (λ m. Mixes (m .state) (m .mixed)) x
-
 mixing-free : (text : List ℕ) (budget : ℕ) (x : After) → Known text budget x → Mixing x
 mixing-free text budget (next m t) h = h .mixes
 mixing-free text budget (done n t) h = tt
@@ -61,7 +54,7 @@ module _ (text : List ℕ) (n : ℕ) where
 
 -- ---- a MixedContainer stands directly before a scalar, on every tape that a successful parse leaves
 pub mixed-before-scalar : (text : List ℕ) (len count : ℕ) (bom : Bool) (words : List ℕ) → parse-of text len ≡ outcome (Tokens count bom) words
-    → (i : ℕ) → nth (tokens-in words count) i ≡ mixed-container-token → Scalar (nth (tokens-in words count) (i + 1))
+    → Marked (tokens-in words count)
 mixed-before-scalar text len count bom words e = parse-tied text len count bom words e .tokens .marked
 
 -- ---- an Equal is laid down under mixed alone. Where an Object opens behind one, the container around it, if there is one, has
@@ -73,8 +66,7 @@ shaped-flags ObjectValue mixed p ts s = s .0 .kept .flags
 shaped-flags ParseOpen mixed p ts s = rw (s .1) (flags-add (s .0) unsettled (s .2 .flags) (λ c b e f. codes-differ (λ z. omega arith) e))
 shaped-flags ArrayValue mixed p ts s = s .0 .kept .flags
 
-pub flag-remembered : (text : List ℕ) (n : ℕ) (room : Room) (m : Machine) (t : Tape) → after-turns text n room ≡ next m t
-    → (i around : ℕ) (mixed : Bool) → nth (t .tokens) i ≡ equal-token → nth (t .tokens) (i + 1) ≡ opener-of Object around mixed → around < i + 1 → Stored (t .tokens) around
+pub flag-remembered : (text : List ℕ) (n : ℕ) (room : Room) (m : Machine) (t : Tape) → after-turns text n room ≡ next m t → Flags (t .tokens)
 flag-remembered text n room m t e =
     let h : Held m (t .tokens) = subst (λ (x : After). Held.All Held x) e (run-from-start text n (has-bom text) _ refl) in
     shaped-flags (m .state) (m .mixed) (m .parent) (t .tokens) (h .shaped)

@@ -11,7 +11,7 @@ use lib.Dec.{ltb}
 use lib.ListN.{length, replicate, length-replicate}
 use Rattle.data.proofs.Cases.{by-bool}
 use Rattle.tape.specs.Words.{room-of, tokens-in}
-use Rattle.tape.specs.Tape.{Tape, Room, holds, unbounded}
+use Rattle.tape.specs.Tape.{Tape, holds, unbounded}
 use Rattle.parse.specs.declared.machine.Machine.{Machine}
 use Rattle.parse.specs.declared.machine.Refusal.{Refusal}
 use Rattle.parse.specs.declared.machine.Refusal.the-variants.{TooLong, Full}
@@ -21,7 +21,7 @@ use Rattle.parse.specs.Refusals.{number}
 use Rattle.parse.specs.Machine.{After, next, done, refused}
 use Rattle.parse.specs.Parse.{turn, run, has-bom, start, enough, text-limit, Outcome, outcome, refuse, answer, parse-of}
 use Rattle.parse.proofs.Runs.{run-done, run-refused}
-use Rattle.promises.specs.Room.{tape-of, run-in, unbounded-parse, turn-lays, and-one, laid-by, laid-in, laid-down}
+use Rattle.promises.specs.Room.{tape-of, after-turns, run-in, unbounded-parse, turn-lays, and-one, laid-by, laid-in, laid-down}
 use Rattle.promises.proofs.Alike.{in-room, Going, Known, Alike}
 use Rattle.promises.proofs.AlikeTurns.{turn-alike}
 
@@ -83,10 +83,6 @@ module _ (text : List ℕ) (budget k : ℕ) where
       record { grows = omega arith; most = omega (arith, g .paid); fits = λ h. refl; full = λ h i. absurd (omega arith); told = refl; known = g }
   runs-alike (suc n) m t w g =
       rest-alike n (m .count) (and-one (m .count) (turn-lays text t m)) (turn text (tape-of (holds k) (t .tokens)) m) (turn text t m) (runs-alike n) (turn-alike text budget k m t g)
-
--- what so many turns of a text come to, from an empty tape of some room
-abbrev pub after-turns : List ℕ → ℕ → Room → After
-after-turns text n room = run text n (next (start (has-bom text)) (tape-of room []))
 
 module _ (text : List ℕ) where
   -- how many tokens so many turns with no bound lay down

@@ -141,22 +141,19 @@ same-row (m ∷ ms) (n ∷ ns) h =
     let b : ms ≡ ns = same-row ms ns (λ d. h (λ e. d cc)) in
     cc
 
--- one that says what was put where a claim holds, and what where it does not, allows one as well: which of the two need not be known
-module _ (P : Type 0) (x y : Wrote) (r s : ℕ) (o p : List ℕ)
-    (first : (P → wrote r o ≡ x) × ((P → ⊥) → wrote r o ≡ y)) (second : (P → wrote s p ≡ x) × ((P → ⊥) → wrote s p ≡ y)) where
-  either-place : r ≡ s
-  either-place =
-      same-number r s
-      (λ d.
-      let no : P → ⊥ = λ h. let a = first .0 h in let b = second .0 h in d cc in
-      let a = first .1 no in let b = second .1 no in d cc)
+same-written : (w v : Wrote) → ((w ≡ v → ⊥) → ⊥) → w ≡ v
+same-written (wrote r o) (wrote s p) h =
+    let a : r ≡ s = same-number r s (λ d. h (λ e. d cc)) in
+    let b : o ≡ p = same-row o p (λ d. h (λ e. d cc)) in
+    cc
 
-  either-buffer : o ≡ p
-  either-buffer =
-      same-row o p
-      (λ d.
-      let no : P → ⊥ = λ h. let a = first .0 h in let b = second .0 h in d cc in
-      let a = first .1 no in let b = second .1 no in d cc)
+-- one that says what was put where a claim holds, and what where it does not, allows one as well: which of the two need not be known
+either-way : (P : Type 0) (x y w v : Wrote) → (P → w ≡ x) × ((P → ⊥) → w ≡ y) → (P → v ≡ x) × ((P → ⊥) → v ≡ y) → w ≡ v
+either-way P x y w v first second =
+    same-written w v
+    (λ d.
+    let no : P → ⊥ = λ h. d (first .0 h ∙ sym (second .0 h)) in
+    d (first .1 no ∙ sym (second .1 no)))
 
 pub record Data : Type 0 where
   pub character-class : One-result character-class.Post
@@ -372,7 +369,7 @@ report-calls =
       put-hex-bytes = by-bytes _ _;
       put-view = by-bytes _ _;
       front = λ κs args r s xs ys p q. p ∙ sym q;
-      put-check = (λ κs args r s xs ys p q. either-place _ _ _ r s _ _ p q, λ κs args r s xs ys p q. either-buffer _ _ _ r s _ _ p q);
+      put-check = (λ κs args r s xs ys p q. let e = either-way _ _ _ _ _ p q in cc, λ κs args r s xs ys p q. let e = either-way _ _ _ _ _ p q in cc);
       put-dump-line = (λ κs args r s xs ys p q. cc, λ κs args r s xs ys p q. cc);
       put-dump-tape = λ κs args r s xs ys p q. cc;
       put-save-line = (λ κs args r s xs ys p q. cc, λ κs args r s xs ys p q. cc);

@@ -1,3 +1,4 @@
 pub mod Cases
+pub mod Mixed
 pub mod Room
 pub mod RustCuts

@@ -30,9 +30,13 @@ use Rattle.parse.specs.Parse.{turn, run, has-bom, start, enough, text-limit, Ou
 abbrev pub tape-of : Room → List Token → Tape
 tape-of room tokens = record { room = room; tokens = tokens }
 
--- the whole run of a text from an empty tape of some room
+-- what so many turns of a text come to, from an empty tape of some room
+abbrev pub after-turns : List ℕ → ℕ → Room → After
+after-turns text n room = run text n (next (start (has-bom text)) (tape-of room []))
+
+-- the whole run
 unfoldable pub run-in : Room → List ℕ → After
-run-in room text = run text (enough text) (next (start (has-bom text)) (tape-of room []))
+run-in room text = after-turns text (enough text) room
 
 -- the parse with no bound on tokens: the same turns on a tape that grows as the Rust's `Vec` does, its answer laid on so many words
 unfoldable pub unbounded-parse : List ℕ → ℕ → Outcome

@@ -3,39 +3,20 @@
 -- Assumes nothing.
 use mathlib.Core.Path.{_≡_, sym, _∙_, ap}
 use mathlib.Core.Bool.{Bool, true, false}
-use mathlib.Core.Logic.{_⊎_, inl, inr}
+use mathlib.Core.Logic.{inl, inr}
 use mathlib.Core.List.{List, [], _∷_, _++_}
 use Prim.Native.Nat.{ℕ, suc, _+_, _-_, _<_}
 use native.Mathlib.Omega.{arith}
 use lib.ListN.{length, set, List·getD-eq-default}
 use lib.Seq.{getD-set-same, getD-set-other}
-use Rattle.operator.specs.declared.Operator.the-variants.{Equal}
-use Rattle.operator.specs.Operators.{number-of}
 use Rattle.tape.specs.declared.token.Token.{Token}
-use Rattle.tape.specs.declared.token.ContainerKind.{ContainerKind}
 use Rattle.tape.specs.declared.token.ContainerKind.the-variants.{Array, Object}
-use Rattle.tape.specs.Token.{no-token, mixed-container-token, opener-of, operator-of}
+use Rattle.tape.specs.Token.{no-token, mixed-container-token, opener-of}
 use Rattle.tape.specs.Tape.{before-last}
 use Rattle.sheet.specs.Sound.{nth}
+use Rattle.promises.specs.Mixed.{Scalar, equal-token, Flagged, Stored, Flags}
 use Rattle.promises.proofs.Links.Nest.{by-equal, by-below}
-use Rattle.promises.proofs.Links.Rows.{last, add-length, add-new, add-same, insert-new, insert-last, insert-same, Scalar, scalar-coded}
-
--- the operator that only mixed lays down
-abbrev pub equal-token : Token
-equal-token = operator-of (number-of Equal)
-
--- an opener whose flag is set
-pub record Flagged (t : Token) : Type 0 where
-  pub kind : ContainerKind
-  pub link : ℕ
-  pub made : t ≡ opener-of kind link true
-
--- the flag of the container that an index names is set, or it names none
-abbrev pub Stored : List Token → ℕ → Type 0
-Stored ts c = (c ≡ 0) ⊎ Flagged (nth ts c)
-
-abbrev pub Flags : List Token → Type 0
-Flags ts = (i c : ℕ) (mixed : Bool) → nth ts i ≡ equal-token → nth ts (i + 1) ≡ opener-of Object c mixed → c < i + 1 → Stored ts c
+use Rattle.promises.proofs.Links.Rows.{last, add-length, add-new, add-same, insert-new, insert-last, insert-same, scalar-coded}
 
 -- ---- what tells tokens apart
 -- tokens of two codes differ

@@ -22,8 +22,9 @@ use Rattle.parse.specs.Scalars.{scalar-then}
 use Rattle.parse.specs.Containers.{close-at}
 use Rattle.parse.specs.KeyValueSeparator.{mixed-on, mix-then}
 use Rattle.parse.proofs.Splits.{by-cut}
-use Rattle.promises.proofs.Links.Rows.{last, add-length, add-last, Scalar, scalar-made, Plain, plain-scalar, Apart, apart-add}
-use Rattle.promises.proofs.Links.Flags.{equal-token, scalar-no-equal}
+use Rattle.promises.specs.Mixed.{Scalar, equal-token}
+use Rattle.promises.proofs.Links.Rows.{last, add-length, add-last, scalar-made, Plain, plain-scalar, Apart, apart-add}
+use Rattle.promises.proofs.Links.Flags.{scalar-no-equal}
 use Rattle.promises.proofs.Links.Kept.{Kept, Resting, kept-plain, Tied}
 
 -- the opener whose kind is not yet known

@@ -21,9 +21,10 @@ use Rattle.tape.specs.Shape.{linked, link-of, Opens}
 use Rattle.tape.specs.Tape.{before-last}
 use Rattle.tape.proofs.Shapes.{scalar-shape, opens-link, end-link, link-made, unlinked-opens}
 use Rattle.sheet.specs.Sound.{nth, Form, container, mixed-container, scalar, operator, closing, Closed, Opened, Nested, Headed}
+use Rattle.promises.specs.Mixed.{Flags, Marked, Scalar, Stored, equal-token}
 use Rattle.promises.proofs.Links.Nest.{by-equal, by-below, Nest, opener-below, end-below, widen, nest-open, nest-close, all-closed}
-use Rattle.promises.proofs.Links.Flags.{equal-token, Stored, Flags, codes-differ, flags-add, flags-set, flags-insert}
-use Rattle.promises.proofs.Links.Rows.{last, add-length, add-new, add-same, add-last, insert-length, insert-new, insert-last, insert-same, Scalar, Unmarked, unmarked, scalar-made, scalar-unlinked, Unheaded, unheaded, Plain, mixed-unlinked, Row, Apart, row-add, row-set, row-insert}
+use Rattle.promises.proofs.Links.Flags.{codes-differ, flags-add, flags-set, flags-insert}
+use Rattle.promises.proofs.Links.Rows.{last, add-length, add-new, add-same, add-last, insert-length, insert-new, insert-last, insert-same, Unmarked, unmarked, scalar-made, scalar-unlinked, Unheaded, unheaded, Plain, mixed-unlinked, Row, Apart, row-add, row-set, row-insert}
 
 -- the link at each index
 abbrev pub link-at : List Token → ℕ → Link
@@ -278,7 +279,7 @@ pub record Tied (ts : List Token) : Type 0 where
   pub nested : (i : ℕ) → Nested ts i
   pub top : (end : ℕ) → Opens (nth ts 0) end → ⊥
   pub headed : (i : ℕ) → Headed ts i
-  pub marked : (i : ℕ) → nth ts i ≡ mixed-container-token → Scalar (nth ts (i + 1))
+  pub marked : Marked ts
 
 pub tied : (ts : List Token) → Resting ts 0 → Tied ts
 tied ts r =

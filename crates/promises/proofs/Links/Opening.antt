@@ -28,9 +28,10 @@ use Rattle.parse.specs.Scalars.{scalar-then}
 use Rattle.parse.specs.Containers.{open-then, container-at}
 use Rattle.parse.specs.ParseOpen.{open-byte, settle, open-empty, open-parameter, open-brace, flag-parent, follows-key, open-as, open-scalar, parse-open-turn}
 use Rattle.parse.proofs.Splits.{by-skipped, by-container, by-open-byte}
+use Rattle.promises.specs.Mixed.{Scalar, Stored, equal-token}
 use Rattle.promises.proofs.Links.Nest.{Parent, parent-below}
-use Rattle.promises.proofs.Links.Rows.{last, add-length, add-new, add-last, Scalar, Plain, Apart, apart-add}
-use Rattle.promises.proofs.Links.Flags.{equal-token, Stored, codes-differ, array-no-object, not-both}
+use Rattle.promises.proofs.Links.Rows.{last, add-length, add-new, add-last, Plain, Apart, apart-add}
+use Rattle.promises.proofs.Links.Flags.{codes-differ, array-no-object, not-both}
 use Rattle.promises.proofs.Links.Kept.{Kept, link-at, link-container, opener-link, kept-opener, kept-close, kept-flag}
 use Rattle.promises.proofs.Links.Held.{Signed, unsettled, Held, Ready, All, all-and-then, all-lay-then, all-close-at, counted-add, Settled, settled-before, rest-add, all-scalar-then}
 use Rattle.promises.proofs.Links.Closing.{resumes, closed-length}

@@ -22,7 +22,8 @@ use Rattle.parse.specs.Machine.{byte-at, within, lay-then}
 use Rattle.parse.specs.Parameter.{parameter-object, value-or-object, parameter-value, parameter-named, parameter-name, parameter}
 use Rattle.parse.specs.Parse.{start}
 use Rattle.parse.proofs.Splits.{by-skipped}
-use Rattle.promises.proofs.Links.Rows.{last, add-length, add-last, Cut-kind, Scalar, scalar-made, plain-scalar}
+use Rattle.promises.specs.Mixed.{Scalar}
+use Rattle.promises.proofs.Links.Rows.{last, add-length, add-last, Cut-kind, scalar-made, plain-scalar}
 use Rattle.promises.proofs.Links.Flags.{scalar-no-equal}
 use Rattle.promises.proofs.Links.Kept.{kept-plain, kept-opener}
 use Rattle.promises.proofs.Links.Held.{Held, Resting-at, Ready, All, all-and-then, all-lay-then, counted-add, lay-plain}

@@ -21,6 +21,7 @@ use Rattle.tape.specs.Tape.{before-last}
 use Rattle.tape.proofs.Shapes.{scalar-shape, operator-shape, mixed-container-shape, unlinked-opens}
 use Rattle.tape.proofs.Views.{before-last-moved}
 use Rattle.sheet.specs.Sound.{nth, Form, mixed-container, scalar, operator}
+use Rattle.promises.specs.Mixed.{Scalar, Marked}
 use Rattle.promises.proofs.Links.Nest.{by-equal, by-below}
 
 -- ---- the token at an index after a change
@@ -66,12 +67,6 @@ module _ (ts : List Token) (x : Token) (k : ℕ) (counted : length ts ≡ suc k)
       (add-same ts (nth ts k) i (λ z. d′ (omega arith)))
 
 -- ---- scalars, and tokens that are no MixedContainer
-pub record Scalar (t : Token) : Type 0 where
-  pub kind : ScalarKind
-  pub offset : ℕ
-  pub size : ℕ
-  pub made : t ≡ scalar-of kind offset size
-
 abbrev pub Unmarked : Token → Type 0
 Unmarked t = t ≡ mixed-container-token → ⊥
 
@@ -169,7 +164,7 @@ Opener t = (end : ℕ) × Opens t end
 pub record Row (ts : List Token) : Type 0 where
   pub forms : (i : ℕ) → i < length ts → Form (nth ts i)
   pub headed : (i offset size : ℕ) → nth ts i ≡ scalar-of Header offset size → i + 1 < length ts → Opener (nth ts (i + 1))
-  pub marked : (i : ℕ) → nth ts i ≡ mixed-container-token → Scalar (nth ts (i + 1))
+  pub marked : Marked ts
 
 -- the last but one is no MixedContainer, so that one may go in before the last
 abbrev pub Apart : List Token → Type 0

@@ -34,9 +34,10 @@ use Rattle.parse.specs.ArrayValue.{value-byte, array-close, operator-then, afte
 use Rattle.parse.specs.Parse.{state-turn, turn}
 use Rattle.parse.proofs.Splits.{by-skipped, by-sighted, by-standing, by-state, by-key-byte, by-value-byte}
 use Rattle.parse.proofs.States.{in-key, in-separator, in-object-value, in-parse-open, in-array-value}
+use Rattle.promises.specs.Mixed.{Scalar, equal-token}
 use Rattle.promises.proofs.Links.Nest.{by-below}
-use Rattle.promises.proofs.Links.Rows.{last, insert-length, Scalar, plain-operator, Apart}
-use Rattle.promises.proofs.Links.Flags.{equal-token, codes-differ, not-both, scalar-no-equal}
+use Rattle.promises.proofs.Links.Rows.{last, insert-length, plain-operator, Apart}
+use Rattle.promises.proofs.Links.Flags.{codes-differ, not-both, scalar-no-equal}
 use Rattle.promises.proofs.Links.Kept.{Kept, Resting, ScalarStands, standing-scalar, kept-insert, kept-header}
 use Rattle.promises.proofs.Links.Held.{Signed, unsettled, Held, Resting-at, Ready, All, all-lay-then, all-mix-then, counted-add, lay-plain, scalar-held}
 use Rattle.promises.proofs.Links.Closing.{in-container, close-held, end-held}
