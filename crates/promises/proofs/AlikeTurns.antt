@@ -187,23 +187,23 @@ flagged-of ts m =
 
 -- which token the state lays down first
 module _ (text : List ℕ) (t : Tape) (m : Machine) where
-  lays-key : m .state ≡ Key → state-lays text t m ≡ key-lays text m
+  pub lays-key : m .state ≡ Key → state-lays text t m ≡ key-lays text m
   unfolding state-lays
   lays-key e = cc
 
-  lays-separator : m .state ≡ KeyValueSeparator → state-lays text t m ≡ false
+  pub lays-separator : m .state ≡ KeyValueSeparator → state-lays text t m ≡ false
   unfolding state-lays
   lays-separator e = cc
 
-  lays-value : m .state ≡ ObjectValue → state-lays text t m ≡ false
+  pub lays-value : m .state ≡ ObjectValue → state-lays text t m ≡ false
   unfolding state-lays
   lays-value e = cc
 
-  lays-open : m .state ≡ ParseOpen → state-lays text t m ≡ open-lays text m
+  pub lays-open : m .state ≡ ParseOpen → state-lays text t m ≡ open-lays text m
   unfolding state-lays
   lays-open e = cc
 
-  lays-array : m .state ≡ ArrayValue → state-lays text t m ≡ value-lays text t m
+  pub lays-array : m .state ≡ ArrayValue → state-lays text t m ≡ value-lays text t m
   unfolding state-lays
   lays-array e = cc
 

@@ -26,12 +26,12 @@ use Rattle.promises.proofs.Alike.{in-room, Going, Known, Alike}
 use Rattle.promises.proofs.AlikeTurns.{turn-alike}
 
 -- what has ended has laid down what it has
-laid-done : (text : List ℕ) (n w k : ℕ) (t : Tape) → laid-in text n w (done k t) ≡ k
+pub laid-done : (text : List ℕ) (n w k : ℕ) (t : Tape) → laid-in text n w (done k t) ≡ k
 unfolding laid-in
 laid-done text zero w k t = refl
 laid-done text (suc n) w k t = refl
 
-laid-refused : (text : List ℕ) (n w : ℕ) (r : Refusal) → laid-in text n w (refused r) ≡ w
+pub laid-refused : (text : List ℕ) (n w : ℕ) (r : Refusal) → laid-in text n w (refused r) ≡ w
 unfolding laid-in
 laid-refused text zero w r = refl
 laid-refused text (suc n) w r = refl

@@ -31,7 +31,7 @@ use Rattle.promises.proofs.Links.Kept.{link-at, Kept, Resting, containe
 use Rattle.promises.proofs.Links.Held.{Signed, Shaped, Held, Resting-at, Ready, All, all-close-at}
 
 -- what is read as an opener is one
-reads-opener : (ts : List Token) {p : ℕ} → Kept ts p → (i : ℕ) {kind : ContainerKind} {link : ℕ} {mixed : Bool} → container-of (nth ts i) ≡ Containers.the-variants.Opened kind link mixed → link-at ts i ≡ ToEnd link
+pub reads-opener : (ts : List Token) {p : ℕ} → Kept ts p → (i : ℕ) {kind : ContainerKind} {link : ℕ} {mixed : Bool} → container-of (nth ts i) ≡ Containers.the-variants.Opened kind link mixed → link-at ts i ≡ ToEnd link
 unfolding container-of
 reads-opener ts s i e =
     by-below i (length ts)
