@@ -5,8 +5,8 @@ use lib.Ieee.{Float, fin}
 use lib.IntN.{ℤ, pos}
 use Rattle.scalar.specs.declared.float.F64Read.the-variants as F64
 use Rattle.scalar.specs.declared.float.F64Read.{F64Read}
-use Rattle.scalar.specs.declared.kinds.ScalarKind.the-variants as Kind
-use Rattle.scalar.specs.declared.kinds.ScalarKind.{ScalarKind}
+use Rattle.scalar.specs.declared.kinds.ReadingKind.the-variants as Kind
+use Rattle.scalar.specs.declared.kinds.ReadingKind.{ReadingKind}
 use Rattle.scalar.specs.declared.truth.BoolRead.the-variants as Truth
 use Rattle.scalar.specs.declared.truth.BoolRead.{BoolRead}
 use Rattle.scalar.specs.declared.whole.I64Read.the-variants as I64
@@ -83,7 +83,7 @@ f64-value-of F64.Overflow = fin false 0 (pos 0)
 f64-value-of (F64.PrecisionLoss x) = x
 
 -- the number of a kind
-abbrev pub kind-number-of : ScalarKind → ℕ
+abbrev pub kind-number-of : ReadingKind → ℕ
 kind-number-of Kind.Bool = 1
 kind-number-of Kind.Whole = 2
 kind-number-of Kind.Decimal = 3

@@ -10,7 +10,7 @@ ghost use Rattle.scalar.specs.Float.{f64-read};
 ghost use Rattle.scalar.specs.Kind.{kind-of, kind-by-f64};
 
 // What an unquoted scalar is.
-pub enum ScalarKind {
+pub enum ReadingKind {
     Bool,
     Whole,
     Decimal,
@@ -18,13 +18,13 @@ pub enum ScalarKind {
 }
 
 // The kind of a scalar's bytes.
-pub fn kind(d: &[u8]) -> ScalarKind
+pub fn kind(d: &[u8]) -> ReadingKind
     ensures { λ r. ⌜ r ≡ kind-of (now (d .entry)) ⌝ }
 {
     match to_bool(d) {
-        BoolRead::Is(_) => ScalarKind::Bool,
+        BoolRead::Is(_) => ReadingKind::Bool,
         BoolRead::InvalidBool => match to_i64(d) {
-            I64Read::Is(_) => ScalarKind::Whole,
+            I64Read::Is(_) => ReadingKind::Whole,
             I64Read::AllDigits => decimal_or_name(d),
             I64Read::Overflow => decimal_or_name(d),
         },
@@ -32,13 +32,13 @@ pub fn kind(d: &[u8]) -> ScalarKind
 }
 
 // The kind of bytes that are no truth and no whole number.
-fn decimal_or_name(d: &[u8]) -> ScalarKind
+fn decimal_or_name(d: &[u8]) -> ReadingKind
     ensures { λ r. ⌜ r ≡ kind-by-f64 (f64-read (now (d .entry))) ⌝ }
 {
     match to_f64(d) {
-        F64Read::Is(_) => ScalarKind::Decimal,
-        F64Read::PrecisionLoss(_) => ScalarKind::Decimal,
-        F64Read::AllDigits => ScalarKind::Name,
-        F64Read::Overflow => ScalarKind::Name,
+        F64Read::Is(_) => ReadingKind::Decimal,
+        F64Read::PrecisionLoss(_) => ReadingKind::Decimal,
+        F64Read::AllDigits => ReadingKind::Name,
+        F64Read::Overflow => ReadingKind::Name,
     }
 }

@@ -10,7 +10,7 @@ mod whole;
 pub use float::F64Read;
 pub use float::pattern;
 pub use float::to_f64;
-pub use kinds::ScalarKind;
+pub use kinds::ReadingKind;
 pub use kinds::kind;
 pub use numbers::bool_refusal;
 pub use numbers::bool_value;

@@ -1,7 +1,7 @@
 // Document 01's numbers for what the readings answer: of each refusal, of each kind, and the value
 // of each answer.
 use crate::float::F64Read;
-use crate::kinds::ScalarKind;
+use crate::kinds::ReadingKind;
 use crate::truth::BoolRead;
 use crate::whole::I64Read;
 use crate::whole::U64Read;
@@ -97,13 +97,13 @@ pub fn f64_value(r: F64Read) -> f64
 }
 
 // The number of a kind.
-pub fn kind_number(k: ScalarKind) -> u8
+pub fn kind_number(k: ReadingKind) -> u8
     ensures { λ n. ⌜ n ≡ kind-number-of k ⌝ }
 {
     match k {
-        ScalarKind::Bool => 1,
-        ScalarKind::Whole => 2,
-        ScalarKind::Decimal => 3,
-        ScalarKind::Name => 4,
+        ReadingKind::Bool => 1,
+        ReadingKind::Whole => 2,
+        ReadingKind::Decimal => 3,
+        ReadingKind::Name => 4,
     }
 }
