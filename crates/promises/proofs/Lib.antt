@@ -9,4 +9,14 @@ pub mod Links
 pub mod Mixed
 pub mod Rising
 pub mod Room
+pub mod RustCases
+pub mod RustOracle
+pub mod RustParameter
+pub mod RustParse
+pub mod RustParts
+pub mod RustPlain
+pub mod RustReads
+pub mod RustSafe
+pub mod RustStates
+pub mod RustTurns
 pub mod Uniqueness
