@@ -9,6 +9,7 @@ mod ours;
 mod save;
 mod theirs;
 
+use compare::numbers::{WORDS, is_scalar, room_for};
 use jomini::TextTape;
 use std::hint::black_box;
 use std::time::{Duration, Instant};
@@ -39,11 +40,8 @@ fn show(what: &str, bytes: usize, (ours, theirs): (Duration, Duration)) {
 
 /// The parts of the text that the tape's scalars view.
 fn scalars<'a>(text: &'a [u8], words: &[u32]) -> Vec<&'a [u8]> {
-    let of = |t: &[u32]| match t[0] {
-        4..=7 | 10 => Some(&text[t[1] as usize..][..t[2] as usize]),
-        _ => None,
-    };
-    words.chunks_exact(3).filter_map(of).collect()
+    let scalars = words.chunks_exact(WORDS).filter(|token| is_scalar(token[0]));
+    scalars.map(|token| &text[token[1] as usize..][..token[2] as usize]).collect()
 }
 
 /// One reading of all scalars, with what it answers folded into a number.
@@ -75,7 +73,7 @@ fn main() {
     let parsed = compare::oracle::parse(text);
     assert_eq!(parsed.refusal, None, "the Rust refuses the save");
     let tokens = parsed.words;
-    let count = tokens.len() / 3;
+    let count = tokens.len() / WORDS;
     println!("save: {} bytes, seed {seed}, {count} tokens", text.len());
     println!(
         "each parse: the Rust's Vec is emptied and keeps its memory; our tape holds old tokens, and"
@@ -98,7 +96,7 @@ fn main() {
         show(what, text.len(), times);
     };
     parse("parse, a word for each byte", &mut small);
-    let mut large = vec![1u32; 3 * (2 * text.len() + 1)];
+    let mut large = vec![1u32; room_for(text.len())];
     parse("parse, room for 2n + 1 tokens", &mut large);
     drop(large);
 

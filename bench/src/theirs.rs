@@ -1,5 +1,6 @@
 //! The Rust's parser and readings, and its readings' answers in document 01's numbers.
 
+use compare::oracle::scalar_number;
 use jomini::{Scalar, ScalarError, TextTape};
 
 /// The count of a parsed text.
@@ -8,13 +9,18 @@ pub fn parse<'a>(text: &'a [u8], tape: &mut TextTape<'a>) -> Option<usize> {
     Some(tape.tokens().len())
 }
 
+/// The bits of the float that a lost precision carries.
+fn lost_bits(error: &ScalarError) -> u64 {
+    match error {
+        ScalarError::PrecisionLoss(value) => value.to_bits(),
+        _ => 0,
+    }
+}
+
 fn told<T>(read: Result<T, ScalarError>, bits: impl Fn(T) -> u64) -> (u32, u64) {
     match read {
         Ok(value) => (0, bits(value)),
-        Err(ScalarError::AllDigits) => (21, 0),
-        Err(ScalarError::Overflow) => (22, 0),
-        Err(ScalarError::InvalidBool) => (23, 0),
-        Err(ScalarError::PrecisionLoss(value)) => (24, value.to_bits()),
+        Err(error) => (scalar_number(&error).into(), lost_bits(&error)),
     }
 }
 

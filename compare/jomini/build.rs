@@ -1,7 +1,8 @@
 //! Writes the five `mod` lines of the Rust under comparison, with the place where its files lie.
-//! `JOMINI` names the folder; without it, `shared/` stands beside the repository.
+//! `JOMINI` names the folder; without it, `shared/` stands beside the repository. A file that is not
+//! there ends the build with a sentence.
 
-use std::{env, fs, path::Path};
+use std::{env, fs, path::Path, process};
 
 const FILES: [(&str, &str); 5] = [
     ("data", "data.rs"),
@@ -18,8 +19,13 @@ fn main() {
     let folder = env::var("JOMINI").unwrap_or(beside);
     let mut modules = String::new();
     for (name, file) in FILES {
-        let path = Path::new(&folder).join(file);
-        let path = fs::canonicalize(&path).unwrap_or_else(|e| panic!("{}: {e}", path.display()));
+        let Ok(path) = fs::canonicalize(Path::new(&folder).join(file)) else {
+            println!(
+                "cargo::error=the Rust's {file} is not in {folder}; JOMINI can name the folder that \
+                 holds the Rust's five files"
+            );
+            process::exit(2);
+        };
         println!("cargo:rerun-if-changed={}", path.display());
         modules += &format!("#[path = {path:?}]\nmod {name};\n");
     }

@@ -5,6 +5,7 @@
 //! Rust's, and every run on either way is looked at, also those that lead to a refusal.
 
 use crate::model::{self, Cut, boundary};
+use crate::numbers::room_for;
 
 /// The bytes on which the Rust's fallback table disagrees with the thirteen.
 pub fn disputed(byte: u8) -> bool {
@@ -21,7 +22,7 @@ pub fn rust_cut(rest: &[u8]) -> usize {
 }
 
 fn clean(text: &[u8], cut: Cut) -> bool {
-    let mut tape = vec![0; 3 * (2 * text.len() + 1)];
+    let mut tape = vec![0; room_for(text.len())];
     let runs = model::parse(text, &mut tape, cut).runs;
     runs.iter()
         .all(|&(at, length)| length < 2 || !text[at..at + length].iter().any(|&b| disputed(b)))
@@ -35,7 +36,7 @@ pub fn inside(text: &[u8]) -> bool {
 #[cfg(test)]
 mod tests {
     use super::*;
-    use crate::{oracle, rng::Rng, texts};
+    use crate::{numbers::WORDS, oracle, rng::Rng, texts};
 
     #[test]
     fn three_bytes_are_disputed() {
@@ -91,11 +92,11 @@ mod tests {
     }
 
     fn same(text: &[u8], cut: Cut) -> bool {
-        let mut tape = vec![0; 3 * (2 * text.len() + 1)];
+        let mut tape = vec![0; room_for(text.len())];
         let ours = model::parse(text, &mut tape, cut).answer;
         let rust = oracle::parse(text);
         match (ours, rust.refusal) {
-            (Ok((count, bom)), None) => tape[..3 * count] == rust.words && bom == rust.bom,
+            (Ok((count, bom)), None) => tape[..WORDS * count] == rust.words && bom == rust.bom,
             (Err(refusal), Some((number, place))) => refusal == model::Refusal(number, place),
             _ => false,
         }

@@ -1,6 +1,7 @@
 //! Document 01's own cases, 'Both sides of each edge', and both sides of its other sentences: every
 //! run and the sample begin with them.
 
+use crate::numbers::*;
 use crate::record::Record;
 
 const TEXTS: [&[u8]; 37] = [
@@ -120,63 +121,63 @@ const SCALARS: [&str; 26] = [
 ];
 
 /// Both sides of each sentence of 'When a sheet is sound': a text length and the tokens.
-const SHEETS: [(u32, &[[u32; 3]]); 33] = [
+const SHEETS: [(u32, &[[u32; WORDS]]); 33] = [
     (0, &[]),
     // a=rgb{1}, whole, over a text just long enough and one too short
-    (8, &[[4, 0, 1], [10, 2, 3], [1, 4, 0], [4, 6, 1], [9, 2, 0]]),
-    (7, &[[4, 0, 1], [10, 2, 3], [1, 4, 0], [4, 6, 1], [9, 2, 0]]),
-    (6, &[[4, 0, 1], [10, 2, 3], [1, 4, 0], [4, 6, 1], [9, 2, 0]]),
+    (8, &[[UNQUOTED, 0, 1], [HEADER, 2, 3], [ARRAY, 4, 0], [UNQUOTED, 6, 1], [END, 2, 0]]),
+    (7, &[[UNQUOTED, 0, 1], [HEADER, 2, 3], [ARRAY, 4, 0], [UNQUOTED, 6, 1], [END, 2, 0]]),
+    (6, &[[UNQUOTED, 0, 1], [HEADER, 2, 3], [ARRAY, 4, 0], [UNQUOTED, 6, 1], [END, 2, 0]]),
     // the forms
-    (8, &[[4, 0, 1], [10, 2, 3], [2, 4, 1], [4, 6, 1], [9, 2, 0]]),
-    (8, &[[4, 0, 1], [10, 2, 3], [1, 4, 2], [4, 6, 1], [9, 2, 0]]),
-    (8, &[[4, 0, 1], [10, 2, 3], [1, 4, 0], [4, 6, 1], [9, 2, 1]]),
+    (8, &[[UNQUOTED, 0, 1], [HEADER, 2, 3], [OBJECT, 4, 1], [UNQUOTED, 6, 1], [END, 2, 0]]),
+    (8, &[[UNQUOTED, 0, 1], [HEADER, 2, 3], [ARRAY, 4, 2], [UNQUOTED, 6, 1], [END, 2, 0]]),
+    (8, &[[UNQUOTED, 0, 1], [HEADER, 2, 3], [ARRAY, 4, 0], [UNQUOTED, 6, 1], [END, 2, 1]]),
     (1, &[[0, 0, 0]]),
-    (1, &[[11, 0, 1]]),
-    (1, &[[3, 0, 0], [8, 1, 0], [8, 8, 0]]),
-    (1, &[[8, 0, 0]]),
-    (1, &[[8, 9, 0]]),
-    (1, &[[8, 1, 1]]),
-    (1, &[[3, 0, 1]]),
-    (1, &[[3, 1, 0]]),
+    (1, &[[LAST_CODE + 1, 0, 1]]),
+    (1, &[[MIXED_CONTAINER, 0, 0], [OPERATOR, LESS_THAN, 0], [OPERATOR, EXISTS, 0]]),
+    (1, &[[OPERATOR, 0, 0]]),
+    (1, &[[OPERATOR, EXISTS + 1, 0]]),
+    (1, &[[OPERATOR, LESS_THAN, 1]]),
+    (1, &[[MIXED_CONTAINER, 0, 1]]),
+    (1, &[[MIXED_CONTAINER, 1, 0]]),
     // a Header without its container
-    (5, &[[4, 0, 1], [10, 2, 3]]),
-    (8, &[[4, 0, 1], [10, 2, 3], [4, 6, 1]]),
-    (8, &[[10, 0, 1], [3, 0, 0], [1, 3, 0], [9, 2, 0]]),
+    (5, &[[UNQUOTED, 0, 1], [HEADER, 2, 3]]),
+    (8, &[[UNQUOTED, 0, 1], [HEADER, 2, 3], [UNQUOTED, 6, 1]]),
+    (8, &[[HEADER, 0, 1], [MIXED_CONTAINER, 0, 0], [ARRAY, 3, 0], [END, 2, 0]]),
     // links: an opener past the count, one that names itself, an End that names no opener
-    (1, &[[4, 0, 1], [1, 2, 0], [9, 1, 0]]),
-    (1, &[[4, 0, 1], [1, 2, 0]]),
-    (1, &[[4, 0, 1], [1, 1, 0]]),
-    (1, &[[4, 0, 1], [9, 0, 0]]),
-    (1, &[[4, 0, 1], [9, 1, 0]]),
-    (1, &[[1, 1, 0], [9, 0, 0]]),
+    (1, &[[UNQUOTED, 0, 1], [ARRAY, 2, 0], [END, 1, 0]]),
+    (1, &[[UNQUOTED, 0, 1], [ARRAY, 2, 0]]),
+    (1, &[[UNQUOTED, 0, 1], [ARRAY, 1, 0]]),
+    (1, &[[UNQUOTED, 0, 1], [END, 0, 0]]),
+    (1, &[[UNQUOTED, 0, 1], [END, 1, 0]]),
+    (1, &[[ARRAY, 1, 0], [END, 0, 0]]),
     // nested, and crossed
-    (1, &[[4, 0, 1], [1, 4, 0], [1, 3, 0], [9, 2, 0], [9, 1, 0]]),
-    (1, &[[4, 0, 1], [1, 3, 0], [1, 4, 0], [9, 1, 0], [9, 2, 0]]),
+    (1, &[[UNQUOTED, 0, 1], [ARRAY, 4, 0], [ARRAY, 3, 0], [END, 2, 0], [END, 1, 0]]),
+    (1, &[[UNQUOTED, 0, 1], [ARRAY, 3, 0], [ARRAY, 4, 0], [END, 1, 0], [END, 2, 0]]),
     // views: touching, overlapping, starting together, empty
-    (4, &[[4, 0, 2], [4, 2, 2]]),
-    (4, &[[4, 0, 3], [4, 2, 2]]),
-    (4, &[[5, 2, 0], [4, 2, 2]]),
-    (4, &[[5, 2, 0], [3, 0, 0], [5, 4, 0]]),
-    (4, &[[4, 2, 0]]),
-    (4, &[[10, 2, 0], [1, 2, 0], [9, 1, 0]]),
-    (4, &[[4, 4_294_967_295, 1]]),
+    (4, &[[UNQUOTED, 0, 2], [UNQUOTED, 2, 2]]),
+    (4, &[[UNQUOTED, 0, 3], [UNQUOTED, 2, 2]]),
+    (4, &[[QUOTED, 2, 0], [UNQUOTED, 2, 2]]),
+    (4, &[[QUOTED, 2, 0], [MIXED_CONTAINER, 0, 0], [QUOTED, 4, 0]]),
+    (4, &[[UNQUOTED, 2, 0]]),
+    (4, &[[HEADER, 2, 0], [ARRAY, 2, 0], [END, 1, 0]]),
+    (4, &[[UNQUOTED, u32::MAX, 1]]),
 ];
 
 /// Views over the two bytes `ab`: an index and a count beside two tokens.
 const VIEWS: [(u32, u32); 8] =
-    [(0, 2), (1, 2), (2, 2), (1, 1), (0, 0), (2, 3), (0, 3), (0, 1_431_655_766)];
+    [(0, 2), (1, 2), (2, 2), (1, 1), (0, 0), (2, 3), (0, 3), (0, u32::MAX / WORDS as u32 + 1)];
 
 pub fn records() -> Vec<Record> {
     let mut records: Vec<Record> = Vec::new();
-    records.extend(TEXTS.map(|text| Record::text(text.to_vec(), 5_000)));
+    records.extend(TEXTS.map(|text| Record::text(text.to_vec(), MOST_TOKENS)));
     records.extend(TIGHT.map(|(text, capacity)| Record::text(text.to_vec(), capacity)));
     records.extend(SCALARS.map(|scalar| Record::scalar(scalar.as_bytes().to_vec())));
     for (length, tokens) in SHEETS {
         records.push(Record::check(length, tokens.len() as u32, &tokens.concat()));
     }
     for (index, count) in VIEWS {
-        records.push(Record::view(index, count, &[5, 1, 1, 9, 0, 0], b"ab"));
-        records.push(Record::view(index, count, &[4, 2, 0, 4, 0, 3], b"ab"));
+        records.push(Record::view(index, count, &[QUOTED, 1, 1, END, 0, 0], b"ab"));
+        records.push(Record::view(index, count, &[UNQUOTED, 2, 0, UNQUOTED, 0, 3], b"ab"));
     }
     records
 }

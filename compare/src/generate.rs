@@ -1,7 +1,8 @@
 //! Cases by seed: document 01's own at the head of a run, then the short ones in order and among
 //! them a mix.
 
-use crate::record::{LONGEST, MOST_TOKENS, Record};
+use crate::numbers::{LONGEST, MOST_TOKENS, UNQUOTED};
+use crate::record::Record;
 use crate::rng::Rng;
 use crate::{domain, edges, oracle, scalars, sheets, texts};
 
@@ -117,15 +118,19 @@ pub fn bad(rng: &mut Rng) -> Vec<u8> {
             return bytes;
         }
         2 => Record { kind: *rng.pick(b"AUtsv\0\n"), ..good.clone() }.bytes(),
-        3 => Record { capacity: rng.between(5_001, 65_535) as u16, ..good.clone() }.bytes(),
-        4 => Record { body: vec![b' '; rng.between(32_769, 65_535)], ..good.clone() }.bytes(),
+        3 => Record {
+            capacity: rng.between(usize::from(MOST_TOKENS) + 1, 65_535) as u16,
+            ..good.clone()
+        }
+        .bytes(),
+        4 => Record { body: vec![b' '; rng.between(LONGEST + 1, 65_535)], ..good.clone() }.bytes(),
         5 => {
             let length = *rng.pick(&[0, 1, 7, 9, 10, 11, 13, 21]);
             Record { kind: b'C', capacity: 0, body: vec![0; length] }.bytes()
         }
         6 => Record { kind: b'V', capacity: 0, body: vec![0; rng.below(10)] }.bytes(),
         _ => {
-            let mut record = Record::view(0, 1, &[4, 0, 1], b"");
+            let mut record = Record::view(0, 1, &[UNQUOTED, 0, 1], b"");
             record.body.pop();
             record.bytes()
         }

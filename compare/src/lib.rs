@@ -4,6 +4,7 @@ pub mod domain;
 pub mod edges;
 pub mod generate;
 pub mod model;
+pub mod numbers;
 pub mod oracle;
 pub mod pipe;
 pub mod record;

@@ -1,44 +1,14 @@
 //! Document 01 read as a plain program: the lent tape of three words a token, the five states, the
 //! refusals, the readings, the check and the views. It is written from the paper, not from the
 //! Rust, and stands on the other side of the comparison when the comparison itself is tested. The
-//! test of the domain uses it too, because it can tell every run that was cut.
+//! test of the domain uses it too, because it can tell every run that was cut. Of ours it has nothing,
+//! and of the rest of this crate the paper's numbers alone.
+
+use crate::numbers::*;
 
 /// A refusal's number and place.
 #[derive(Clone, Copy, Debug, PartialEq, Eq)]
 pub struct Refusal(pub u8, pub usize);
-
-pub const TOO_LONG: u8 = 1;
-pub const EOF: u8 = 2;
-pub const STACK_EMPTY: u8 = 3;
-pub const NO_HEADER: u8 = 4;
-pub const NO_VALUE: u8 = 5;
-pub const PARAMETER_IN_MIXED: u8 = 6;
-pub const NOTHING_BEFORE_OPERATOR: u8 = 7;
-pub const UNKNOWN_OPERATOR: u8 = 8;
-pub const NO_PARAMETER: u8 = 9;
-pub const OPEN_PARAMETER_NAME: u8 = 10;
-pub const FULL: u8 = 11;
-pub const NO_SCALAR: u8 = 12;
-pub const ALL_DIGITS: u8 = 21;
-pub const OVERFLOW: u8 = 22;
-pub const INVALID_BOOL: u8 = 23;
-
-pub const ARRAY: u32 = 1;
-pub const OBJECT: u32 = 2;
-pub const MIXED_CONTAINER: u32 = 3;
-pub const UNQUOTED: u32 = 4;
-pub const QUOTED: u32 = 5;
-pub const PARAMETER: u32 = 6;
-pub const UNDEFINED_PARAMETER: u32 = 7;
-pub const OPERATOR: u32 = 8;
-pub const END: u32 = 9;
-pub const HEADER: u32 = 10;
-
-const LIMIT: usize = 16_777_215;
-
-fn is_scalar(code: u32) -> bool {
-    [UNQUOTED, QUOTED, PARAMETER, UNDEFINED_PARAMETER, HEADER].contains(&code)
-}
 
 // ---- How bytes are cut ----
 
@@ -112,7 +82,7 @@ pub struct Outcome {
 /// Parses into a lent tape. After success the words past the tokens are 0, after a refusal all are.
 pub fn parse(text: &[u8], tape: &mut [u32], cut: Cut) -> Outcome {
     tape.fill(0);
-    if text.len() > LIMIT {
+    if text.len() > TEXT_LIMIT {
         return Outcome { answer: Err(Refusal(TOO_LONG, 0)), runs: Vec::new() };
     }
     let bom = text.starts_with(&[0xef, 0xbb, 0xbf]);
@@ -139,25 +109,25 @@ impl Parser<'_> {
     // -- the words of a token --
 
     fn code(&self, i: usize) -> u32 {
-        self.tape[3 * i]
+        self.tape[WORDS * i]
     }
 
     fn a(&self, i: usize) -> u32 {
-        self.tape[3 * i + 1]
+        self.tape[WORDS * i + 1]
     }
 
     fn b(&self, i: usize) -> u32 {
-        self.tape[3 * i + 2]
+        self.tape[WORDS * i + 2]
     }
 
     fn put(&mut self, i: usize, code: u32, a: usize, b: usize) {
-        self.tape[3 * i] = code;
-        self.tape[3 * i + 1] = a as u32;
-        self.tape[3 * i + 2] = b as u32;
+        self.tape[WORDS * i] = code;
+        self.tape[WORDS * i + 1] = a as u32;
+        self.tape[WORDS * i + 2] = b as u32;
     }
 
     fn add(&mut self, code: u32, a: usize, b: usize) -> Result<(), Refusal> {
-        if self.count >= self.tape.len() / 3 {
+        if self.count >= self.tape.len() / WORDS {
             return Err(Refusal(FULL, 0));
         }
         self.put(self.count, code, a, b);
@@ -308,7 +278,7 @@ impl Parser<'_> {
                     if self.count == 0 || self.code(self.count - 1) != UNQUOTED {
                         return Err(Refusal(NO_HEADER, self.at));
                     }
-                    self.tape[3 * (self.count - 1)] = HEADER;
+                    self.tape[WORDS * (self.count - 1)] = HEADER;
                     self.add(ARRAY, 0, 0)?;
                     self.state = State::ParseOpen;
                 }
@@ -325,17 +295,17 @@ impl Parser<'_> {
     fn separator(&mut self) -> Result<(), Refusal> {
         debug_assert!(!self.mixed, "the Rust's branch for `=` under mixed would be reached");
         let sign = match (self.byte(), self.next_is(b'=')) {
-            (b'<', true) => Some((2, 2)),
-            (b'<', false) => Some((1, 1)),
-            (b'>', true) => Some((4, 2)),
-            (b'>', false) => Some((3, 1)),
-            (b'!', true) => Some((5, 2)),
-            (b'?', true) => Some((8, 2)),
-            (b'=', true) => Some((6, 2)),
+            (b'<', true) => Some((LESS_THAN_EQUAL, 2)),
+            (b'<', false) => Some((LESS_THAN, 1)),
+            (b'>', true) => Some((GREATER_THAN_EQUAL, 2)),
+            (b'>', false) => Some((GREATER_THAN, 1)),
+            (b'!', true) => Some((NOT_EQUAL, 2)),
+            (b'?', true) => Some((EXISTS, 2)),
+            (b'=', true) => Some((EXACT, 2)),
             _ => None,
         };
         if let Some((kind, bytes)) = sign {
-            self.add(OPERATOR, kind, 0)?;
+            self.add(OPERATOR, kind as usize, 0)?;
             self.at += bytes;
             self.state = State::ObjectValue;
         } else if self.byte() == b'=' {
@@ -387,7 +357,7 @@ impl Parser<'_> {
             _ => self.scalar()?,
         }
         if self.mixed && self.parent != 0 {
-            self.tape[3 * self.parent + 2] = 1;
+            self.tape[WORDS * self.parent + 2] = 1;
         }
         self.mixed = false;
         self.skip()?;
@@ -424,16 +394,16 @@ impl Parser<'_> {
             self.mixed = true;
         }
         let (kind, bytes) = match (self.byte(), self.next_is(b'=')) {
-            (b'<', true) => (2, 2),
-            (b'<', false) => (1, 1),
-            (b'>', true) => (4, 2),
-            (b'>', false) => (3, 1),
-            (b'!', true) => (5, 2),
-            (b'=', true) => (6, 2),
-            (b'=', false) => (7, 1),
+            (b'<', true) => (LESS_THAN_EQUAL, 2),
+            (b'<', false) => (LESS_THAN, 1),
+            (b'>', true) => (GREATER_THAN_EQUAL, 2),
+            (b'>', false) => (GREATER_THAN, 1),
+            (b'!', true) => (NOT_EQUAL, 2),
+            (b'=', true) => (EXACT, 2),
+            (b'=', false) => (EQUAL, 1),
             _ => return Err(Refusal(UNKNOWN_OPERATOR, self.at - 1)),
         };
-        self.add(OPERATOR, kind, 0)?;
+        self.add(OPERATOR, kind as usize, 0)?;
         self.at += bytes;
         Ok(())
     }
@@ -579,13 +549,13 @@ fn carried_past(start: u64, digits: &[u8]) -> bool {
 
 pub fn kind(bytes: &[u8]) -> u8 {
     if to_bool(bytes).is_ok() {
-        1
+        BOOL
     } else if to_i64(bytes).is_ok() {
-        2
+        WHOLE
     } else if !matches!(to_f64(bytes), Err(F64Refusal::Number(_))) {
-        3
+        DECIMAL
     } else {
-        4
+        NAME
     }
 }
 
@@ -594,15 +564,15 @@ pub fn kind(bytes: &[u8]) -> u8 {
 /// When a sheet is sound, in one walk with the open containers on a stack.
 pub fn check(length: u32, words: &[u32], count: u32) -> bool {
     let count = count as usize;
-    if words.len() / 3 < count {
+    if words.len() / WORDS < count {
         return false;
     }
     let mut open: Vec<(usize, usize)> = Vec::new();
     let mut before: Option<(u64, u64)> = None;
     let mut header = false;
     for i in 0..count {
-        let (code, a, b) = (words[3 * i], words[3 * i + 1], words[3 * i + 2]);
-        let opens = code == ARRAY || code == OBJECT;
+        let (code, a, b) = (words[WORDS * i], words[WORDS * i + 1], words[WORDS * i + 2]);
+        let opens = is_opener(code);
         if header && !opens {
             return false;
         }
@@ -620,7 +590,7 @@ pub fn check(length: u32, words: &[u32], count: u32) -> bool {
             before = Some((start, end));
             rises && end <= u64::from(length) && (b > 0 || code == QUOTED)
         } else if code == OPERATOR {
-            (1..=8).contains(&a) && b == 0
+            (LESS_THAN..=EXISTS).contains(&a) && b == 0
         } else {
             code == MIXED_CONTAINER && a == 0 && b == 0
         };
@@ -634,9 +604,9 @@ pub fn check(length: u32, words: &[u32], count: u32) -> bool {
 /// A token's view, or refusal 12.
 pub fn view<'t>(text: &'t [u8], words: &[u32], count: u32, index: u32) -> Result<&'t [u8], u8> {
     let (index, count) = (index as usize, count as usize);
-    if index >= count || 3 * count > words.len() || !is_scalar(words[3 * index]) {
+    if index >= count || WORDS * count > words.len() || !is_scalar(words[WORDS * index]) {
         return Err(NO_SCALAR);
     }
-    let (offset, length) = (words[3 * index + 1] as usize, words[3 * index + 2] as usize);
+    let (offset, length) = (words[WORDS * index + 1] as usize, words[WORDS * index + 2] as usize);
     text.get(offset..offset + length).ok_or(NO_SCALAR)
 }

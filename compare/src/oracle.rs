@@ -1,11 +1,10 @@
 //! The Rust's answers, in document 01's words and numbers.
 
+use crate::numbers::*;
 use crate::record::{self, Question, bits, reading};
 use crate::sheet;
 use jomini::text::Operator;
 use jomini::{ErrorKind, Scalar, ScalarError, TextTape, TextToken};
-
-const LIMIT: usize = 16_777_215;
 
 /// What the Rust makes of a text: its tokens, also those that it laid before it refused.
 pub struct Parsed {
@@ -18,19 +17,19 @@ impl Parsed {
     /// How many tokens the Rust lays before its end or its refusal. It takes none up again: its
     /// tape grows by `push` and `insert` alone.
     pub fn need(&self) -> usize {
-        self.words.len() / 3
+        self.words.len() / WORDS
     }
 
     /// The refusal with room for `capacity` tokens. Full is its own when the Rust would lay one
     /// token more; a refusal that comes before that token is the Rust's.
     pub fn refusal_within(&self, capacity: usize) -> Option<(u8, usize)> {
-        if self.need() > capacity { Some((11, 0)) } else { self.refusal }
+        if self.need() > capacity { Some((FULL, 0)) } else { self.refusal }
     }
 }
 
 pub fn parse(text: &[u8]) -> Parsed {
-    if text.len() > LIMIT {
-        return Parsed { words: Vec::new(), bom: false, refusal: Some((1, 0)) };
+    if text.len() > TEXT_LIMIT {
+        return Parsed { words: Vec::new(), bom: false, refusal: Some((TOO_LONG, 0)) };
     }
     let mut tape = TextTape::new();
     let outcome = TextTape::parser().parse_slice_into_tape(text, &mut tape);
@@ -39,53 +38,53 @@ pub fn parse(text: &[u8]) -> Parsed {
     Parsed { words, bom: tape.utf8_bom(), refusal }
 }
 
-fn token_words(text: &[u8], token: &TextToken<'_>) -> [u32; 3] {
+fn token_words(text: &[u8], token: &TextToken<'_>) -> [u32; WORDS] {
     let scalar = |code, scalar: &Scalar<'_>| {
         let bytes = scalar.as_bytes();
         let offset = bytes.as_ptr() as usize - text.as_ptr() as usize;
         [code, offset as u32, bytes.len() as u32]
     };
     match token {
-        TextToken::Array { end, mixed } => [1, *end as u32, u32::from(*mixed)],
-        TextToken::Object { end, mixed } => [2, *end as u32, u32::from(*mixed)],
-        TextToken::MixedContainer => [3, 0, 0],
-        TextToken::Unquoted(s) => scalar(4, s),
-        TextToken::Quoted(s) => scalar(5, s),
-        TextToken::Parameter(s) => scalar(6, s),
-        TextToken::UndefinedParameter(s) => scalar(7, s),
-        TextToken::Operator(operator) => [8, operator_number(*operator), 0],
-        TextToken::End(opener) => [9, *opener as u32, 0],
-        TextToken::Header(s) => scalar(10, s),
+        TextToken::Array { end, mixed } => [ARRAY, *end as u32, u32::from(*mixed)],
+        TextToken::Object { end, mixed } => [OBJECT, *end as u32, u32::from(*mixed)],
+        TextToken::MixedContainer => [MIXED_CONTAINER, 0, 0],
+        TextToken::Unquoted(s) => scalar(UNQUOTED, s),
+        TextToken::Quoted(s) => scalar(QUOTED, s),
+        TextToken::Parameter(s) => scalar(PARAMETER, s),
+        TextToken::UndefinedParameter(s) => scalar(UNDEFINED_PARAMETER, s),
+        TextToken::Operator(operator) => [OPERATOR, operator_number(*operator), 0],
+        TextToken::End(opener) => [END, *opener as u32, 0],
+        TextToken::Header(s) => scalar(HEADER, s),
     }
 }
 
 fn operator_number(operator: Operator) -> u32 {
     match operator {
-        Operator::LessThan => 1,
-        Operator::LessThanEqual => 2,
-        Operator::GreaterThan => 3,
-        Operator::GreaterThanEqual => 4,
-        Operator::NotEqual => 5,
-        Operator::Exact => 6,
-        Operator::Equal => 7,
-        Operator::Exists => 8,
+        Operator::LessThan => LESS_THAN,
+        Operator::LessThanEqual => LESS_THAN_EQUAL,
+        Operator::GreaterThan => GREATER_THAN,
+        Operator::GreaterThanEqual => GREATER_THAN_EQUAL,
+        Operator::NotEqual => NOT_EQUAL,
+        Operator::Exact => EXACT,
+        Operator::Equal => EQUAL,
+        Operator::Exists => EXISTS,
     }
 }
 
 /// A refusal's number is known by the Rust's message.
-fn refusal(kind: &ErrorKind) -> (u8, usize) {
+pub fn refusal(kind: &ErrorKind) -> (u8, usize) {
     match kind {
-        ErrorKind::Eof => (2, 0),
-        ErrorKind::StackEmpty { offset } => (3, *offset),
+        ErrorKind::Eof => (EOF, 0),
+        ErrorKind::StackEmpty { offset } => (STACK_EMPTY, *offset),
         ErrorKind::InvalidSyntax { msg, offset } => {
             let number = match msg.as_str() {
-                "invalid syntax for token headers" => 4,
-                "encountered '}' for object value" => 5,
-                "mixed object and array container not expected" => 6,
-                "expected a scalar to precede an operator" => 7,
-                "unrecognized operator" => 8,
-                "expected start of parameter definition" => 9,
-                "expected end of parameter name" => 10,
+                "invalid syntax for token headers" => NO_HEADER,
+                "encountered '}' for object value" => NO_VALUE,
+                "mixed object and array container not expected" => PARAMETER_IN_MIXED,
+                "expected a scalar to precede an operator" => NOTHING_BEFORE_OPERATOR,
+                "unrecognized operator" => UNKNOWN_OPERATOR,
+                "expected start of parameter definition" => NO_PARAMETER,
+                "expected end of parameter name" => OPEN_PARAMETER_NAME,
                 other => panic!("a message without a number: {other}"),
             };
             (number, *offset)
@@ -93,25 +92,25 @@ fn refusal(kind: &ErrorKind) -> (u8, usize) {
     }
 }
 
-fn scalar_number(error: &ScalarError) -> u8 {
+pub fn scalar_number(error: &ScalarError) -> u8 {
     match error {
-        ScalarError::AllDigits => 21,
-        ScalarError::Overflow => 22,
-        ScalarError::InvalidBool => 23,
-        ScalarError::PrecisionLoss(_) => 24,
+        ScalarError::AllDigits => ALL_DIGITS,
+        ScalarError::Overflow => OVERFLOW,
+        ScalarError::InvalidBool => INVALID_BOOL,
+        ScalarError::PrecisionLoss(_) => PRECISION_LOSS,
     }
 }
 
 /// 'Reading kind, added', over the Rust's own readings.
-fn kind(scalar: Scalar<'_>) -> u8 {
+pub fn kind(scalar: Scalar<'_>) -> u8 {
     if scalar.to_bool().is_ok() {
-        1
+        BOOL
     } else if scalar.to_i64().is_ok() {
-        2
+        WHOLE
     } else if matches!(scalar.to_f64(), Ok(_) | Err(ScalarError::PrecisionLoss(_))) {
-        3
+        DECIMAL
     } else {
-        4
+        NAME
     }
 }
 
@@ -119,7 +118,7 @@ fn readings(bytes: &[u8]) -> String {
     let scalar = Scalar::new(bytes);
     let float = match scalar.to_f64() {
         Ok(float) => format!("={}", bits(float)),
-        Err(ScalarError::PrecisionLoss(float)) => format!("24:{}", bits(float)),
+        Err(ScalarError::PrecisionLoss(float)) => format!("{PRECISION_LOSS}:{}", bits(float)),
         Err(error) => scalar_number(&error).to_string(),
     };
     let number = |error| scalar_number(&error);

@@ -11,7 +11,8 @@ pub fn ask(command: &[String], input: &[u8]) -> io::Result<(Vec<u8>, Option<Stri
         .args(&command[1..])
         .stdin(Stdio::piped())
         .stdout(Stdio::piped())
-        .spawn()?;
+        .spawn()
+        .map_err(|error| io::Error::new(error.kind(), format!("{}: {error}", command[0])))?;
     let mut to = child.stdin.take().unwrap();
     let mut from = child.stdout.take().unwrap();
     let mut output = Vec::new();

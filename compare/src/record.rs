@@ -1,10 +1,9 @@
 //! The records: a kind, a capacity, a length, and that many bytes. Whoever answers them fills in
 //! one function a kind; what a record is, and where the answering stops, is said here once.
 
+use crate::numbers::{LONGEST, MOST_TOKENS, NO_SCALAR, WORDS, name};
+use std::fmt::Write as _;
 use std::io::{self, Read, Write};
-
-pub const LONGEST: usize = 32_768;
-pub const MOST_TOKENS: u16 = 5_000;
 
 #[derive(Clone, Debug, PartialEq, Eq)]
 pub struct Record {
@@ -128,28 +127,11 @@ pub fn serve(
 
 // ---- What the answers look like ----
 
-pub const NAMES: [&str; 11] = [
-    "",
-    "Array",
-    "Object",
-    "MixedContainer",
-    "Unquoted",
-    "Quoted",
-    "Parameter",
-    "UndefinedParameter",
-    "Operator",
-    "End",
-    "Header",
-];
-
-use std::fmt::Write as _;
-
 /// The dump's lines for a tape.
 pub fn write_tape(out: &mut String, words: &[u32], bom: bool) {
-    writeln!(out, "tokens {} bom {}", words.len() / 3, u8::from(bom)).unwrap();
-    for (i, token) in words.chunks_exact(3).enumerate() {
-        let name = NAMES[token[0] as usize];
-        writeln!(out, "{i} {name} {} {}", token[1], token[2]).unwrap();
+    writeln!(out, "tokens {} bom {}", words.len() / WORDS, u8::from(bom)).unwrap();
+    for (i, token) in words.chunks_exact(WORDS).enumerate() {
+        writeln!(out, "{i} {} {} {}", name(token[0]), token[1], token[2]).unwrap();
     }
 }
 
@@ -169,7 +151,7 @@ pub fn bits(float: f64) -> String {
 /// One line for a view; the empty view is `view` and a space, with nothing after it.
 pub fn write_view<E>(out: &mut String, view: Result<&[u8], E>) {
     match view {
-        Err(_) => out.push_str("refused 12\n"),
+        Err(_) => writeln!(out, "refused {NO_SCALAR}").unwrap(),
         Ok(bytes) => {
             out.push_str("view ");
             bytes.iter().for_each(|b| write!(out, "{b:02x}").unwrap());

@@ -1,6 +1,8 @@
 //! 'When a sheet is sound' and refusal 12, read from document 01 sentence by sentence: each
 //! sentence is one test over all tokens, as slow as its quantifiers. It shares nothing with any
-//! other program.
+//! other program but the paper's numbers.
+
+use crate::numbers::*;
 
 /// A sentence that a sheet can fail.
 #[derive(Clone, Copy, Debug, PartialEq, Eq, PartialOrd, Ord, Hash)]
@@ -40,31 +42,36 @@ struct Token {
 
 impl Token {
     fn opens(&self) -> bool {
-        self.code == 1 || self.code == 2
+        is_opener(self.code)
     }
 
     fn is_end(&self) -> bool {
-        self.code == 9
+        self.code == END
     }
 
     fn is_scalar(&self) -> bool {
-        matches!(self.code, 4 | 5 | 6 | 7 | 10)
+        is_scalar(self.code)
     }
 
     fn has_form(&self) -> bool {
         match self.code {
-            1 | 2 => self.b == 0 || self.b == 1,
-            3 => self.a == 0 && self.b == 0,
-            4 | 5 | 6 | 7 | 10 => true,
-            8 => 1 <= self.a && self.a <= 8 && self.b == 0,
-            9 => self.b == 0,
-            _ => false,
+            MIXED_CONTAINER => self.a == 0 && self.b == 0,
+            OPERATOR => (LESS_THAN.into()..=EXISTS.into()).contains(&self.a) && self.b == 0,
+            END => self.b == 0,
+            code if is_opener(code) => self.b == 0 || self.b == 1,
+            code => is_scalar(code),
         }
     }
 }
 
 fn token(words: &[u32], i: usize) -> Token {
-    Token { code: words[3 * i], a: u64::from(words[3 * i + 1]), b: u64::from(words[3 * i + 2]) }
+    let words = &words[WORDS * i..][..WORDS];
+    Token { code: words[0], a: u64::from(words[1]), b: u64::from(words[2]) }
+}
+
+/// Whether so many tokens have more words than there are.
+fn count_over(words: &[u32], count: u32) -> bool {
+    WORDS as u64 * u64::from(count) > words.len() as u64
 }
 
 /// A sheet is sound when it fails no sentence.
@@ -80,7 +87,7 @@ pub fn faults(length: u32, words: &[u32], count: u32) -> Vec<Fault> {
 /// Whether the sheet fails this sentence. Where the count is over the words there are no tokens to
 /// ask after, so that sentence fails alone.
 pub fn fails(fault: Fault, length: u32, words: &[u32], count: u32) -> bool {
-    let over = 3 * u64::from(count) > words.len() as u64;
+    let over = count_over(words, count);
     if fault == Fault::CountOverWords || over {
         return fault == Fault::CountOverWords && over;
     }
@@ -135,7 +142,7 @@ pub fn fails(fault: Fault, length: u32, words: &[u32], count: u32) -> bool {
 
         // only Quoted may have length 0
         Fault::EmptyScalar => {
-            all(&|i| !sheet[i].is_scalar() || sheet[i].b > 0 || sheet[i].code == 5)
+            all(&|i| !sheet[i].is_scalar() || sheet[i].b > 0 || sheet[i].code == QUOTED)
         }
 
         // token 0 opens nothing
@@ -143,7 +150,7 @@ pub fn fails(fault: Fault, length: u32, words: &[u32], count: u32) -> bool {
 
         // a Header has a container next
         Fault::HeaderAlone => {
-            all(&|i| sheet[i].code != 10 || sheet.get(i + 1).is_some_and(Token::opens))
+            all(&|i| sheet[i].code != HEADER || sheet.get(i + 1).is_some_and(Token::opens))
         }
     };
     !holds
@@ -168,7 +175,7 @@ pub fn view<'t>(
     if index >= count {
         return Err(NoScalar::IndexNotBelowCount);
     }
-    if 3 * u64::from(count) > words.len() as u64 {
+    if count_over(words, count) {
         return Err(NoScalar::CountOverWords);
     }
     let token = token(words, index as usize);

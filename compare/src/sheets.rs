@@ -1,5 +1,6 @@
 //! Sheets to check and views to ask for: made by parsing, whole and with something changed.
 
+use crate::numbers::*;
 use crate::oracle;
 use crate::record::Record;
 use crate::rng::Rng;
@@ -16,17 +17,19 @@ fn parsed(rng: &mut Rng) -> Sheet {
     loop {
         let text = texts::any(rng);
         let parsed = oracle::parse(&text);
-        if parsed.words.len() <= 600 && (parsed.refusal.is_none() || rng.chance(4)) {
-            let count = (parsed.words.len() / 3) as u32;
+        if parsed.words.len() <= 200 * WORDS && (parsed.refusal.is_none() || rng.chance(4)) {
+            let count = (parsed.words.len() / WORDS) as u32;
             return Sheet { text, words: parsed.words, count };
         }
     }
 }
 
-/// The small sheets in order: every lone token with small words, over texts of up to two bytes.
+/// The small sheets in order: every lone token with small words, over texts of up to two bytes. Codes
+/// and operators go from none to past the last.
 pub fn short(number: usize) -> Option<Record> {
-    let (code, a, b) = (number % 13, number / 13 % 10, number / 130 % 4);
-    let length = number / 520;
+    let (codes, links) = (LAST_CODE as usize + 3, EXISTS as usize + 2);
+    let (code, a, b) = (number % codes, number / codes % links, number / (codes * links) % 4);
+    let length = number / (codes * links * 4);
     (length < 3).then(|| Record::check(length as u32, 1, &[code as u32, a as u32, b as u32]))
 }
 
@@ -87,17 +90,24 @@ fn near(rng: &mut Rng, number: u32) -> u32 {
         3 => number.saturating_add(rng.below(4) as u32),
         4 => rng.below(number as usize + 1) as u32,
         5 => {
-            *rng.pick(&[0x5555_5555, 0x5555_5556, 0xaaaa_aaab, 0x5555_5557, 0x8000_0000, u32::MAX])
+            // counts whose words are about as many as 32 bits tell
+            let most = u32::MAX / WORDS as u32;
+            *rng.pick(&[most, most + 1, 2 * most + 1, most + 2, 0x8000_0000, u32::MAX])
         }
         6 => rng.word() as u32,
         _ => number,
     }
 }
 
+/// A code, none, or the number past the last.
+fn small(rng: &mut Rng) -> u32 {
+    rng.below(LAST_CODE as usize + 2) as u32
+}
+
 /// One word becomes another: beside it, out of the sheet, or out of all bounds.
 fn change(rng: &mut Rng, sheet: &mut Sheet) {
     if sheet.words.is_empty() {
-        sheet.words.extend([rng.below(12) as u32, rng.below(3) as u32, rng.below(3) as u32]);
+        sheet.words.extend([small(rng), rng.below(3) as u32, rng.below(3) as u32]);
         sheet.count = 1;
         return;
     }
@@ -105,7 +115,7 @@ fn change(rng: &mut Rng, sheet: &mut Sheet) {
     sheet.words[at] = match rng.below(8) {
         0 | 1 => sheet.words[at].wrapping_add(1),
         2 | 3 => sheet.words[at].wrapping_sub(1),
-        4 => rng.below(12) as u32,
+        4 => small(rng),
         5 => *rng.pick(&sheet.words),
         6 => sheet.text.len() as u32 - rng.below(2).min(sheet.text.len()) as u32,
         _ => *rng.pick(&[0, 1, 2, 2, u32::MAX, 0x8000_0000, 0x7fff_ffff]),
@@ -117,29 +127,37 @@ fn bend(rng: &mut Rng, sheet: &mut Sheet) {
     if sheet.words.is_empty() {
         return;
     }
-    let token = 3 * rng.below(sheet.words.len() / 3);
+    let token = WORDS * rng.below(sheet.words.len() / WORDS);
     let one_off = if rng.chance(50) { 1 } else { u32::MAX };
     let (code, a) = (sheet.words[token], sheet.words[token + 1]);
     let (word, value) = match (code, rng.below(4)) {
-        (1 | 2, 0) => (0, 3 - code),
-        (1 | 2, 1) => (2, 2),
-        (3, i @ 0..2) => (1 + i, 1),
-        (4..=7 | 10, 0) => (0, *rng.pick(&[4, 5, 6, 7, 10, 10, 10])),
-        (4..=7 | 10, 1) => (2, 0),
-        (4..=7 | 10, 2) => (2, (sheet.text.len() as u32 + rng.below(2) as u32).wrapping_sub(a)),
-        (8, 0) => (1, *rng.pick(&[0, 9])),
-        (8, 1) => (1, rng.between(1, 8) as u32),
-        (8 | 9, 2) => (2, 1),
+        (ARRAY | OBJECT, 0) => (0, ARRAY + OBJECT - code),
+        (ARRAY | OBJECT, 1) => (2, 2),
+        (MIXED_CONTAINER, i @ 0..2) => (1 + i, 1),
+        (code, 0) if is_scalar(code) => (0, scalar_or_header(rng)),
+        (code, 1) if is_scalar(code) => (2, 0),
+        (code, 2) if is_scalar(code) => {
+            (2, (sheet.text.len() as u32 + rng.below(2) as u32).wrapping_sub(a))
+        }
+        (OPERATOR, 0) => (1, *rng.pick(&[0, EXISTS + 1])),
+        (OPERATOR, 1) => (1, rng.between(LESS_THAN as usize, EXISTS as usize) as u32),
+        (OPERATOR | END, 2) => (2, 1),
         _ => (1, a.wrapping_add(one_off)),
     };
     sheet.words[token + word] = value;
-    if sheet.words[token] == 10 && rng.chance(30) {
-        sheet.count = token as u32 / 3 + 1;
+    if sheet.words[token] == HEADER && rng.chance(30) {
+        sheet.count = (token / WORDS) as u32 + 1;
     }
 }
 
+/// A scalar's code, three times as often a Header's as one of the others.
+fn scalar_or_header(rng: &mut Rng) -> u32 {
+    let number = rng.below(SCALAR_CODES.len() + 2);
+    SCALAR_CODES.get(number).copied().unwrap_or(HEADER)
+}
+
 fn shorter(rng: &mut Rng, sheet: &Sheet) -> u32 {
-    let scalars = sheet.words.chunks_exact(3).filter(|token| matches!(token[0], 4..=7 | 10));
+    let scalars = sheet.words.chunks_exact(WORDS).filter(|token| is_scalar(token[0]));
     let end = scalars.map(|token| token[1] + token[2]).max().unwrap_or(0);
     match rng.below(4) {
         0 => end.saturating_sub(1),
@@ -151,18 +169,18 @@ fn shorter(rng: &mut Rng, sheet: &Sheet) -> u32 {
 
 /// Two containers, one in the other, exchange their Ends, and all four links say so.
 fn cross(rng: &mut Rng, sheet: &mut Sheet) {
-    let opens = |words: &[u32], i: u32| matches!(words[3 * i as usize], 1 | 2);
+    let opens = |words: &[u32], i: u32| is_opener(words[WORDS * i as usize]);
     let openers: Vec<u32> = (0..sheet.count).filter(|&i| opens(&sheet.words, i)).collect();
     if openers.len() < 2 {
         return;
     }
     let (i, j) = (*rng.pick(&openers) as usize, *rng.pick(&openers) as usize);
-    let (end_i, end_j) = (sheet.words[3 * i + 1], sheet.words[3 * j + 1]);
+    let (end_i, end_j) = (sheet.words[WORDS * i + 1], sheet.words[WORDS * j + 1]);
     if end_i < sheet.count && end_j < sheet.count {
-        sheet.words[3 * i + 1] = end_j;
-        sheet.words[3 * j + 1] = end_i;
-        sheet.words[3 * end_j as usize + 1] = i as u32;
-        sheet.words[3 * end_i as usize + 1] = j as u32;
+        sheet.words[WORDS * i + 1] = end_j;
+        sheet.words[WORDS * j + 1] = end_i;
+        sheet.words[WORDS * end_j as usize + 1] = i as u32;
+        sheet.words[WORDS * end_i as usize + 1] = j as u32;
     }
 }
 
@@ -171,16 +189,16 @@ fn move_tokens(rng: &mut Rng, sheet: &mut Sheet) {
     if sheet.count == 0 {
         return;
     }
-    let (i, j) = (3 * rng.below(sheet.count as usize), 3 * rng.below(sheet.count as usize));
+    let (i, j) = (WORDS * rng.below(sheet.count as usize), WORDS * rng.below(sheet.count as usize));
     match rng.below(3) {
-        0 => (0..3).for_each(|word| sheet.words.swap(i + word, j + word)),
+        0 => (0..WORDS).for_each(|word| sheet.words.swap(i + word, j + word)),
         1 => {
-            let token = sheet.words[i..i + 3].to_vec();
+            let token = sheet.words[i..i + WORDS].to_vec();
             sheet.words.splice(i..i, token);
             sheet.count += 1;
         }
         _ => {
-            sheet.words.drain(i..i + 3);
+            sheet.words.drain(i..i + WORDS);
             sheet.count -= 1;
         }
     }
@@ -188,39 +206,53 @@ fn move_tokens(rng: &mut Rng, sheet: &mut Sheet) {
 
 /// The tokens before the first opener go, and all links move with them.
 fn behead(sheet: &mut Sheet) {
-    let tokens = sheet.words.chunks_exact(3);
-    let Some(first) = tokens.clone().position(|token| matches!(token[0], 1 | 2)) else { return };
-    let links = |token: &[u32]| matches!(token[0], 1 | 2 | 9);
+    let tokens = sheet.words.chunks_exact(WORDS);
+    let Some(first) = tokens.clone().position(|token| is_opener(token[0])) else { return };
+    let links = |token: &[u32]| is_opener(token[0]) || token[0] == END;
     let moved =
         |token: &[u32]| if links(token) { token[1].saturating_sub(first as u32) } else { token[1] };
     sheet.words = tokens.skip(first).flat_map(|token| [token[0], moved(token), token[2]]).collect();
     sheet.count -= first as u32;
 }
 
+/// Mostly scalars, and among them most that may be empty.
+const CLOSE_TOGETHER: [u32; 10] = [
+    UNQUOTED,
+    QUOTED,
+    QUOTED,
+    QUOTED,
+    PARAMETER,
+    UNDEFINED_PARAMETER,
+    MIXED_CONTAINER,
+    OPERATOR,
+    UNQUOTED,
+    HEADER,
+];
+
 /// A sheet of scalars alone, close together, whose views touch, overlap or are empty.
 fn scalars_only(rng: &mut Rng, sheet: &mut Sheet) {
     sheet.words.clear();
     let mut at = 0;
     for _ in 0..rng.between(1, 6) {
-        let code = *rng.pick(&[4, 5, 5, 5, 6, 7, 3, 8, 4, 10]);
-        let length = if code == 5 && rng.chance(50) { 0 } else { rng.below(3) as u32 };
+        let code = *rng.pick(&CLOSE_TOGETHER);
+        let length = if code == QUOTED && rng.chance(50) { 0 } else { rng.below(3) as u32 };
         match code {
-            3 => sheet.words.extend([3, 0, 0]),
-            8 => sheet.words.extend([8, rng.below(10) as u32, 0]),
+            MIXED_CONTAINER => sheet.words.extend([code, 0, 0]),
+            OPERATOR => sheet.words.extend([code, rng.below(EXISTS as usize + 2) as u32, 0]),
             _ => {
                 sheet.words.extend([code, at, length]);
                 at = (at + length + rng.below(3) as u32).saturating_sub(rng.below(2) as u32);
             }
         }
     }
-    sheet.count = (sheet.words.len() / 3) as u32;
+    sheet.count = (sheet.words.len() / WORDS) as u32;
     sheet.text.resize(at as usize + rng.below(3), b'a');
 }
 
 /// A scalar whose view ends just at the text's end, just past it, or past every number.
 fn edge_view(rng: &mut Rng, sheet: &mut Sheet) {
     let length = sheet.text.len() as u32;
-    let code = *rng.pick(&[4, 5, 6, 7, 10]);
+    let code = *rng.pick(&SCALAR_CODES);
     let (a, b) = match rng.below(6) {
         0 => (0, length),
         1 => (length, 0),

@@ -1,6 +1,7 @@
 //! What a run reached: cases by kind, refusals, token codes, operators, readings, faults of sheets.
 
-use crate::record::{NAMES, Question, Record};
+use crate::numbers::*;
+use crate::record::{Question, Record};
 use crate::sheet::{self, FAULTS, NoScalar};
 use std::collections::BTreeMap;
 use std::fmt;
@@ -46,12 +47,13 @@ impl fmt::Display for Tally {
 
 type Feature = (&'static str, String);
 
-const READINGS: [(&str, &[&str]); 5] = [
-    ("yes/no", &["=1", "=0", "23"]),
-    ("u64", &["=", "21", "22"]),
-    ("i64", &["=", "=-", "21", "22"]),
-    ("f64", &["=", "21", "22", "24"]),
-    ("kind", &["1", "2", "3", "4"]),
+/// The readings, with the values that are told apart and the numbers that each can answer.
+const READINGS: [(&str, &[&str], &[u8]); 5] = [
+    ("yes/no", &["=1", "=0"], &[INVALID_BOOL]),
+    ("u64", &["="], &[ALL_DIGITS, OVERFLOW]),
+    ("i64", &["=", "=-"], &[ALL_DIGITS, OVERFLOW]),
+    ("f64", &["="], &[ALL_DIGITS, OVERFLOW, PRECISION_LOSS]),
+    ("kind", &[], &[BOOL, WHOLE, DECIMAL, NAME]),
 ];
 
 const CAUSES: [NoScalar; 4] = [
@@ -65,20 +67,21 @@ const CAUSES: [NoScalar; 4] = [
 fn expected() -> Vec<Feature> {
     let mut all: Vec<Feature> = Vec::new();
     all.extend(["T", "S", "C", "V"].map(|kind| ("cases", kind.to_string())));
-    all.extend((2..=11).map(|number| ("refusals", number.to_string())));
-    all.extend(NAMES[1..].iter().map(|name| ("tokens", name.to_string())));
-    all.extend((1..=8).map(|kind| ("operators", kind.to_string())));
-    all.extend(
-        ["Array 0", "Array 1", "Object 0", "Object 1"].map(|name| ("flags", name.to_string())),
-    );
+    all.extend((EOF..=FULL).map(|number| ("refusals", number.to_string())));
+    all.extend(NAMES.map(|(_, name)| ("tokens", name.to_string())));
+    all.extend((LESS_THAN..=EXISTS).map(|kind| ("operators", kind.to_string())));
+    for opener in OPENER_CODES.map(name) {
+        all.extend([0, 1].map(|flag| ("flags", format!("{opener} {flag}"))));
+    }
     all.extend(["0", "1"].map(|bom| ("bom", bom.to_string())));
-    for (reading, answers) in READINGS {
-        all.extend(answers.iter().map(|answer| (reading, answer.to_string())));
+    for (reading, values, numbers) in READINGS {
+        all.extend(values.iter().map(|value| (reading, value.to_string())));
+        all.extend(numbers.iter().map(|number| (reading, number.to_string())));
     }
     all.extend(["sound", "unsound"].map(|word| ("sheets", word.to_string())));
     all.extend(FAULTS.map(|fault| ("failing this alone", format!("{fault:?}"))));
     all.extend(["empty", "bytes"].map(|view| ("views", view.to_string())));
-    all.extend(CAUSES.map(|cause| ("refused 12 for", format!("{cause:?}"))));
+    all.extend(CAUSES.map(|cause| ("no view for", format!("{cause:?}"))));
     all
 }
 
@@ -89,7 +92,7 @@ pub fn features(record: &Record, answer: &str) -> Vec<Feature> {
         None => {}
         Some(Question::Text { .. }) => text_features(answer, &mut found),
         Some(Question::Scalar { .. }) => {
-            for (answer, (reading, _)) in answer.split_whitespace().zip(READINGS) {
+            for (answer, (reading, ..)) in answer.split_whitespace().zip(READINGS) {
                 found.push((reading, reading_name(reading, answer).to_string()));
             }
         }
@@ -103,7 +106,7 @@ pub fn features(record: &Record, answer: &str) -> Vec<Feature> {
             found.push(match sheet::view(text, &words, count, index) {
                 Ok([]) => ("views", "empty".to_string()),
                 Ok(_) => ("views", "bytes".to_string()),
-                Err(cause) => ("refused 12 for", format!("{cause:?}")),
+                Err(cause) => ("no view for", format!("{cause:?}")),
             });
         }
     }
@@ -119,17 +122,12 @@ fn text_features(answer: &str, found: &mut Vec<Feature>) {
         _ => {}
     }
     for token in lines {
-        match token[..] {
-            [_, name @ ("Array" | "Object"), _, flag] => {
-                found.push(("tokens", name.to_string()));
-                found.push(("flags", format!("{name} {flag}")));
-            }
-            [_, "Operator", kind, _] => {
-                found.push(("tokens", "Operator".to_string()));
-                found.push(("operators", kind.to_string()));
-            }
-            [_, name, ..] => found.push(("tokens", name.to_string())),
-            _ => {}
+        let [_, token, a, b] = token[..] else { continue };
+        found.push(("tokens", token.to_string()));
+        if OPENER_CODES.map(name).contains(&token) {
+            found.push(("flags", format!("{token} {b}")));
+        } else if token == name(OPERATOR) {
+            found.push(("operators", a.to_string()));
         }
     }
 }
@@ -140,7 +138,7 @@ fn reading_name<'a>(reading: &str, answer: &'a str) -> &'a str {
         ("yes/no" | "kind", _) => answer,
         ("i64", [b'=', b'-', ..]) => "=-",
         (_, [b'=', ..]) => "=",
-        (_, [b'2', b'4', ..]) => "24",
-        _ => answer,
+        // behind the number 24 stands the float
+        _ => answer.split(':').next().unwrap_or(answer),
     }
 }

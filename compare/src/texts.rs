@@ -1,5 +1,6 @@
 //! Texts to parse: every short one, shapes of the grammar, soups, and damaged copies of good ones.
 
+use crate::numbers::{LONGEST, MOST_TOKENS};
 use crate::rng::Rng;
 
 /// The bytes that decide something, and a letter and a digit for all that do not.
@@ -379,28 +380,29 @@ fn parameter(rng: &mut Rng, text: &mut Vec<u8>, depth: usize) {
 /// A text of thousands of tokens, or one that fills a record.
 pub fn large(rng: &mut Rng) -> Vec<u8> {
     let mut text = Vec::new();
+    let tokens = usize::from(MOST_TOKENS);
     match rng.below(4) {
-        // about 5,000 tokens
+        // about as many tokens as there is room for
         0 => {
             let unit = *rng.pick(&["a=b ", "a=\"\" ", "a<b "]);
-            let most = if unit == "a<b " { 1667 } else { 2500 };
+            let most = tokens.div_ceil(if unit == "a<b " { 3 } else { 2 });
             (0..rng.between(most - 1, most + 1)).for_each(|_| text.extend(unit.bytes()));
             text.extend(rng.pick(&["", "a={}", "a={b", "a={b=c"]).bytes());
         }
         1 => {
             text.extend(b"a={");
-            (0..rng.between(4993, 4999)).for_each(|_| text.extend(b"1 "));
+            (0..rng.between(tokens - 7, tokens - 1)).for_each(|_| text.extend(b"1 "));
             text.extend(b"}");
         }
         // nested as deep as there is room
         2 => {
-            let depth = rng.between(1, 2600);
+            let depth = rng.between(1, tokens / 2 + 100);
             (0..depth).for_each(|_| text.extend(b"a={"));
             text.extend(b"b=c");
             (0..depth.saturating_sub(rng.below(3))).for_each(|_| text.push(b'}'));
         }
         _ => {
-            let length = rng.between(20_000, 32_000);
+            let length = rng.between(20_000, LONGEST - 768);
             while text.len() < length {
                 text.append(&mut good(rng));
                 text.push(b'\n');
@@ -409,8 +411,8 @@ pub fn large(rng: &mut Rng) -> Vec<u8> {
     }
     if rng.chance(30) {
         let blank = *rng.pick(b" \n;");
-        text.resize(32_768, blank);
+        text.resize(LONGEST, blank);
     }
-    text.truncate(32_768);
+    text.truncate(LONGEST);
     text
 }

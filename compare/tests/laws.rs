@@ -1,20 +1,21 @@
 //! What holds of every tape that the Rust lays, over many texts: the sentences that the port proves,
 //! tried on the Rust itself.
 
+use compare::numbers::*;
 use compare::{oracle, rng::Rng, sheet, texts};
 
 fn opens(token: &[u32]) -> bool {
-    matches!(token[0], 1 | 2)
+    is_opener(token[0])
 }
 
 fn try_text(text: &[u8]) {
     let shown = String::from_utf8_lossy(text);
     let parsed = oracle::parse(text);
-    let tokens: Vec<&[u32]> = parsed.words.chunks_exact(3).collect();
+    let tokens: Vec<&[u32]> = parsed.words.chunks_exact(WORDS).collect();
     let count = tokens.len() as u32;
     assert!(tokens.len() <= 2 * text.len() + 1, "more tokens than 2n + 1: {shown:?}");
     assert!(!tokens.first().is_some_and(|token| opens(token)), "token 0 opens: {shown:?}");
-    let ends = tokens.iter().filter(|token| token[0] == 9);
+    let ends = tokens.iter().filter(|token| token[0] == END);
     assert!(ends.into_iter().all(|end| opens(tokens[end[1] as usize])), "a loose End: {shown:?}");
     if parsed.refusal.is_none() {
         assert!(sheet::sound(text.len() as u32, &parsed.words, count), "not sound: {shown:?}");
@@ -28,7 +29,7 @@ fn try_text(text: &[u8]) {
 fn holds_mixed(tokens: &[&[u32]], i: usize) -> bool {
     let mut at = i + 1;
     while at < tokens[i][1] as usize {
-        if tokens[at][0] == 3 {
+        if tokens[at][0] == MIXED_CONTAINER {
             return true;
         }
         at = if opens(tokens[at]) { tokens[at][1] as usize + 1 } else { at + 1 };

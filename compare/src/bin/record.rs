@@ -5,6 +5,7 @@
 //! of an unknown kind is the last that is answered.
 
 use compare::generate::Generator;
+use compare::numbers::{LONGEST, MOST_TOKENS};
 use compare::record::{Record, serve};
 use compare::rng::Rng;
 use compare::tally::{Tally, features};
@@ -14,7 +15,7 @@ use std::path::Path;
 use std::{env, fs, io};
 
 const LOOKED_AT: usize = 400_000;
-const LONGEST: usize = 160;
+const LONGEST_CHOSEN: usize = 160;
 const ENOUGH: usize = 20;
 const ENOUGH_OF_A_FORM: usize = 3;
 
@@ -29,7 +30,7 @@ fn main() -> io::Result<()> {
         choose(&record, &mut seen, &mut tally);
     }
     for record in Generator::new(1).take(LOOKED_AT) {
-        if record.body.len() > LONGEST || sample.contains(&record) {
+        if record.body.len() > LONGEST_CHOSEN || sample.contains(&record) {
             continue;
         }
         if shows_more(&record, &seen) || chance.below(400) == 0 {
@@ -50,10 +51,10 @@ fn main() -> io::Result<()> {
 
 /// Texts at the limits of a record: as many bytes and as many tokens as it may have.
 fn limits() -> Vec<Record> {
-    let longest = [b"a=".as_slice(), &[b'b'; 32_766]].concat();
-    let just_room = b"a=b ".repeat(2_500);
+    let longest = [b"a=".as_slice(), &[b'b'; LONGEST - 2]].concat();
+    let just_room = b"a=b ".repeat(usize::from(MOST_TOKENS) / 2);
     let one_over = [just_room.as_slice(), b"a"].concat();
-    [longest, just_room, one_over].map(|text| Record::text(text, 5_000)).into()
+    [longest, just_room, one_over].map(|text| Record::text(text, MOST_TOKENS)).into()
 }
 
 fn answer(record: &Record) -> String {

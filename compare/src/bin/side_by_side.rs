@@ -13,19 +13,30 @@ use std::{env, io, process};
 /// How many cases go through the pipes at once.
 const BATCH: usize = 4_000;
 
-fn main() -> io::Result<()> {
+fn main() {
+    let status = match run() {
+        Ok(good) => i32::from(!good),
+        Err(error) => {
+            eprintln!("compare/run: {error}");
+            2
+        }
+    };
+    process::exit(status);
+}
+
+/// Does what the arguments ask, and says whether nothing was found.
+fn run() -> io::Result<bool> {
     let arguments: Vec<String> = env::args().skip(1).collect();
     let number = |i: usize, default: u64| match arguments.get(i) {
         Some(word) => word.parse().unwrap_or_else(|_| usage()),
         None => default,
     };
-    let good = match arguments.first().map(String::as_str) {
-        Some("--case") => replay(arguments.get(1).unwrap_or_else(|| usage()))?,
-        Some("--probe") => probe(),
-        Some("--self-test") => self_test(number(1, 1), number(2, 1_000_000) as usize)?,
-        _ => compare(&ours(), number(0, 1), number(1, 1_000_000) as usize)?,
-    };
-    process::exit(if good { 0 } else { 1 });
+    match arguments.first().map(String::as_str) {
+        Some("--case") => replay(arguments.get(1).unwrap_or_else(|| usage())),
+        Some("--probe") => Ok(probe()),
+        Some("--self-test") => self_test(number(1, 1), number(2, 1_000_000) as usize),
+        _ => compare(&ours(), number(0, 1), number(1, 1_000_000) as usize),
+    }
 }
 
 fn usage() -> ! {

@@ -1,0 +1,108 @@
+//! Document 01's numbers, typed from its tables, each once: whoever makes, reads or judges an answer
+//! here names them, and a request that changes one changes it in this file. Nothing is taken from our
+//! programs.
+
+// ---- Sizes ----
+
+/// The most bytes that a text may have.
+pub const TEXT_LIMIT: usize = 16_777_215;
+
+/// How many words a token takes: its code, a and b.
+pub const WORDS: usize = 3;
+
+/// The most bytes that the dump reads, and that a record holds.
+pub const LONGEST: usize = 32_768;
+
+/// The dump's room in tokens, and the most that a record asks for.
+pub const MOST_TOKENS: u16 = 5_000;
+
+/// Words that are room for every text of so many bytes: 2n + 1 tokens.
+pub fn room_for(bytes: usize) -> usize {
+    WORDS * (2 * bytes + 1)
+}
+
+// ---- Token codes ----
+
+pub const ARRAY: u32 = 1;
+pub const OBJECT: u32 = 2;
+pub const MIXED_CONTAINER: u32 = 3;
+pub const UNQUOTED: u32 = 4;
+pub const QUOTED: u32 = 5;
+pub const PARAMETER: u32 = 6;
+pub const UNDEFINED_PARAMETER: u32 = 7;
+pub const OPERATOR: u32 = 8;
+pub const END: u32 = 9;
+pub const HEADER: u32 = 10;
+
+/// Every code with its name in the dump; the last one has the largest number.
+pub const NAMES: [(u32, &str); 10] = [
+    (ARRAY, "Array"),
+    (OBJECT, "Object"),
+    (MIXED_CONTAINER, "MixedContainer"),
+    (UNQUOTED, "Unquoted"),
+    (QUOTED, "Quoted"),
+    (PARAMETER, "Parameter"),
+    (UNDEFINED_PARAMETER, "UndefinedParameter"),
+    (OPERATOR, "Operator"),
+    (END, "End"),
+    (HEADER, "Header"),
+];
+
+/// The largest code.
+pub const LAST_CODE: u32 = NAMES[NAMES.len() - 1].0;
+
+/// The codes whose a and b are an offset and a length.
+pub const SCALAR_CODES: [u32; 5] = [UNQUOTED, QUOTED, PARAMETER, UNDEFINED_PARAMETER, HEADER];
+
+/// The codes of the openers.
+pub const OPENER_CODES: [u32; 2] = [ARRAY, OBJECT];
+
+pub fn is_scalar(code: u32) -> bool {
+    SCALAR_CODES.contains(&code)
+}
+
+pub fn is_opener(code: u32) -> bool {
+    OPENER_CODES.contains(&code)
+}
+
+/// A code's name, which every code of the table has.
+pub fn name(code: u32) -> &'static str {
+    NAMES.iter().find(|named| named.0 == code).expect("a code of the table").1
+}
+
+// ---- Operators: an Operator's a ----
+
+pub const LESS_THAN: u32 = 1;
+pub const LESS_THAN_EQUAL: u32 = 2;
+pub const GREATER_THAN: u32 = 3;
+pub const GREATER_THAN_EQUAL: u32 = 4;
+pub const NOT_EQUAL: u32 = 5;
+pub const EXACT: u32 = 6;
+pub const EQUAL: u32 = 7;
+pub const EXISTS: u32 = 8;
+
+// ---- Refusals ----
+
+pub const TOO_LONG: u8 = 1;
+pub const EOF: u8 = 2;
+pub const STACK_EMPTY: u8 = 3;
+pub const NO_HEADER: u8 = 4;
+pub const NO_VALUE: u8 = 5;
+pub const PARAMETER_IN_MIXED: u8 = 6;
+pub const NOTHING_BEFORE_OPERATOR: u8 = 7;
+pub const UNKNOWN_OPERATOR: u8 = 8;
+pub const NO_PARAMETER: u8 = 9;
+pub const OPEN_PARAMETER_NAME: u8 = 10;
+pub const FULL: u8 = 11;
+pub const NO_SCALAR: u8 = 12;
+pub const ALL_DIGITS: u8 = 21;
+pub const OVERFLOW: u8 = 22;
+pub const INVALID_BOOL: u8 = 23;
+pub const PRECISION_LOSS: u8 = 24;
+
+// ---- Reading kinds ----
+
+pub const BOOL: u8 = 1;
+pub const WHOLE: u8 = 2;
+pub const DECIMAL: u8 = 3;
+pub const NAME: u8 = 4;
