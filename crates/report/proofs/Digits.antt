@@ -3,7 +3,7 @@
 use mathlib.Core.Path.{_≡_, refl, sym, ap, _∙_}
 use mathlib.Core.Bool.{true, false, false≢true}
 use mathlib.Core.List.{List, [], _∷_, _++_}
-use Prim.Native.Nat.{ℕ, zero, suc, _+_, _-_, _/_, _%_, _≤_, _<_}
+use Prim.Native.Nat.{ℕ, zero, suc, _+_, _-_, _/_, _%_, _≤_, _<_, min}
 use native.Mathlib.Nat.{div-lt-self}
 use native.Mathlib.Omega.{arith}
 use borrow.Author.Tests.{lt-ltb, le-ltb, ltb-false}
@@ -16,7 +16,7 @@ use mir.ValLaws.{toZ-ofZ}
 use Rattle.data.proofs.Cases.{by-bool}
 use Rattle.data.specs.Bytes.{minus}
 use Rattle.scalar.proofs.Signs.{back, negative-form}
-use Rattle.report.specs.Digits.{glyph, decimal-by, decimal, hex}
+use Rattle.report.specs.Digits.{glyph, decimal-by, decimal, hex-by, most-hex, hex}
 use Rattle.report.specs.Readings.{integer}
 
 -- the quotient of a number that has two digits or more falls
@@ -48,15 +48,24 @@ decimal-more n h =
     (ap (λ (l : List ℕ). l ++ (glyph (n % 10) ∷ [])) (fuelled n (suc (n / 10)) (n / 10) (quotient-falls n h) (omega arith)))
 
 -- no hexadecimal digits of a number, and one more behind those of its quotient
-pub hex-none : (k n : ℕ) → k ≡ 0 → hex k n ≡ []
-unfolding hex
-hex-none zero n e = refl
-hex-none (suc k) n e = absurd (omega arith)
+pub hex-by-none : (k n : ℕ) → k ≡ 0 → hex-by k n ≡ []
+unfolding hex-by
+hex-by-none zero n e = refl
+hex-by-none (suc k) n e = absurd (omega arith)
 
-pub hex-more : (k n : ℕ) → (k ≡ 0 → ⊥) → hex k n ≡ hex (k - 1) (n / 16) ++ (glyph (n % 16) ∷ [])
+pub hex-by-more : (k n : ℕ) → (k ≡ 0 → ⊥) → hex-by k n ≡ hex-by (k - 1) (n / 16) ++ (glyph (n % 16) ∷ [])
+unfolding hex-by
+hex-by-more zero n h = absurd (h refl)
+hex-by-more (suc k) n h = ap (λ (j : ℕ). hex-by j (n / 16) ++ (glyph (n % 16) ∷ [])) {x = k} {y = suc k - 1} (omega arith)
+
+-- as many as are asked for, and no more than a u64 has
+pub hex-few : (k n : ℕ) → k ≤ most-hex → hex-by k n ≡ hex k n
 unfolding hex
-hex-more zero n h = absurd (h refl)
-hex-more (suc k) n h = ap (λ (j : ℕ). hex j (n / 16) ++ (glyph (n % 16) ∷ [])) {x = k} {y = suc k - 1} (omega arith)
+hex-few k n h = ap (λ (j : ℕ). hex-by j n) {x = k} {y = min k most-hex} (omega arith)
+
+pub hex-many : (k n : ℕ) → most-hex ≤ k → hex-by most-hex n ≡ hex k n
+unfolding hex
+hex-many k n h = ap (λ (j : ℕ). hex-by j n) {x = most-hex} {y = min k most-hex} (omega arith)
 
 -- a number below zero is a minus and its magnitude
 pub integer-negative : (n : ℤ) (m : ℕ) → SFits w64 n → ltZ (back n) (pos 0) ≡ true → m ≡ natAbs (back n) → minus ∷ [] ++ decimal m ≡ integer n

@@ -1,5 +1,5 @@
 -- Numbers as text, most significant digit first.
-use Prim.Native.Nat.{ℕ, zero, suc, _+_, _-_, _/_, _%_}
+use Prim.Native.Nat.{ℕ, zero, suc, _+_, _-_, _/_, _%_, min}
 use mathlib.Core.Bool.{true, false}
 use mathlib.Core.List.{List, [], _∷_, _++_}
 use lib.Dec.{ltb}
@@ -22,7 +22,15 @@ unfolding decimal-by
 decimal n = decimal-by (suc n) n
 
 -- the last so many hexadecimal digits of a number, zeros in front among them
-unfoldable pub hex : ℕ → ℕ → List ℕ
+unfoldable pub hex-by : ℕ → ℕ → List ℕ
 unfolding glyph
-hex zero n = []
-hex (suc k) n = hex k (n / 16) ++ (glyph (n % 16) ∷ [])
+hex-by zero n = []
+hex-by (suc k) n = hex-by k (n / 16) ++ (glyph (n % 16) ∷ [])
+
+-- a u64 has sixteen of them, and no more are written
+abbrev pub most-hex : ℕ
+most-hex = 16
+
+unfoldable pub hex : ℕ → ℕ → List ℕ
+unfolding hex-by
+hex digits n = hex-by (min digits most-hex) n
