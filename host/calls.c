@@ -40,35 +40,86 @@ static void readings(void) {
                         && tackacorn_kind(bytes("1444.11.11"), 10) == TACKACORN_NAME);
 }
 
+/* Where the readings answer as the Rust does and a caller may not expect it: each is told in the header. */
+static void surprises(void) {
+    uint64_t whole = 7;
+    int64_t signed_whole = 7;
+    double decimal = 7;
+    expect("a whole part of 2^64", tackacorn_to_f64(bytes("18446744073709551616.5"), 22, &decimal) == TACKACORN_OK && decimal == 0.5
+                                       && tackacorn_to_u64(bytes("18446744073709551616"), 20, &whole) == TACKACORN_OVERFLOW
+                                       && tackacorn_kind(bytes("18446744073709551616.5"), 22) == TACKACORN_DECIMAL);
+    expect("a lone sign", tackacorn_to_i64(bytes("-"), 1, &signed_whole) == TACKACORN_OK && signed_whole == 0
+                              && tackacorn_to_u64(bytes("+"), 1, &whole) == TACKACORN_OK && whole == 0
+                              && tackacorn_to_u64(bytes("-"), 1, &whole) == TACKACORN_ALL_DIGITS
+                              && tackacorn_to_f64(bytes("+"), 1, &decimal) == TACKACORN_OK && decimal == 0.0
+                              && tackacorn_kind(bytes("-"), 1) == TACKACORN_WHOLE);
+    expect("a lone point", tackacorn_to_f64(bytes("."), 1, &decimal) == TACKACORN_OK && decimal == 0.0
+                               && tackacorn_kind(bytes("."), 1) == TACKACORN_DECIMAL);
+    expect("a lone f", tackacorn_to_f64(bytes("f"), 1, &decimal) == TACKACORN_ALL_DIGITS
+                           && tackacorn_kind(bytes("f"), 1) == TACKACORN_NAME);
+    expect("109f", tackacorn_to_f64(bytes("109f"), 4, &decimal) == TACKACORN_OK && decimal == 109.0
+                       && tackacorn_kind(bytes("109f"), 4) == TACKACORN_DECIMAL);
+    expect("-2^63", tackacorn_to_i64(bytes("-9223372036854775808"), 20, &signed_whole) == TACKACORN_OVERFLOW && signed_whole == 0
+                        && tackacorn_to_f64(bytes("-9223372036854775808"), 20, &decimal) == TACKACORN_OVERFLOW && decimal == 0.0);
+}
+
+enum { ROOM = 10 * TACKACORN_WORDS_PER_TOKEN };
+
 static void tokens(void) {
     const char *text = "a=\"b c\" }";
-    const size_t length = strlen(text);
-    uint32_t tape[32], count = 7, bom = 7, code = 7, a = 7, b = 7;
+    const size_t length = strlen(text), two = 2 * TACKACORN_WORDS_PER_TOKEN;
+    uint32_t tape[ROOM], count = 7, bom = 7, code = 7, a = 7, b = 7;
     size_t place = 7, offset = 7, size = 7;
     memset(tape, 255, sizeof tape);
-    expect("parse", tackacorn_parse(bytes(text), length, tape, 32, &count, &bom, &place) == TACKACORN_OK && count == 2
-                        && bom == 0 && place == 0 && tape[5] == 3 && tape[6] == 0 && tape[31] == 0);
-    expect("check", tackacorn_check(length, tape, 32, count) && !tackacorn_check(length, tape, 32, 3)
-                        && !tackacorn_check(5, tape, 32, count) && !tackacorn_check(length, tape, 5, count));
-    tackacorn_token(tape, 32, count, 1, &code, &a, &b);
+    expect("parse", tackacorn_parse(bytes(text), length, tape, ROOM, &count, &bom, &place) == TACKACORN_OK && count == 2
+                        && bom == 0 && place == 0 && tape[two] == 0 && tape[ROOM - 1] == 0);
+    expect("check", tackacorn_check(length, tape, ROOM, count) && !tackacorn_check(length, tape, ROOM, 3)
+                        && !tackacorn_check(5, tape, ROOM, count) && !tackacorn_check(length, tape, two - 1, count));
+    tackacorn_token(tape, ROOM, count, 1, &code, &a, &b);
     expect("token 1", code == TACKACORN_QUOTED && a == 3 && b == 3);
-    tackacorn_token(tape, 32, count, 2, &code, &a, &b);
+    tackacorn_token(tape, ROOM, count, 2, &code, &a, &b);
     expect("token 2", code == TACKACORN_NOTHING && a == 0 && b == 0);
-    expect("view 1", tackacorn_view(bytes(text), length, tape, 32, count, 1, &offset, &size) == TACKACORN_OK && size == 3
+    expect("view 1", tackacorn_view(bytes(text), length, tape, ROOM, count, 1, &offset, &size) == TACKACORN_OK && size == 3
                          && memcmp(text + offset, "b c", size) == 0);
-    expect("view 2", tackacorn_view(bytes(text), length, tape, 32, count, 2, &offset, &size) == TACKACORN_NO_SCALAR
+    expect("view 2", tackacorn_view(bytes(text), length, tape, ROOM, count, 2, &offset, &size) == TACKACORN_NO_SCALAR
                          && offset == 0 && size == 0);
-    expect("full", tackacorn_parse(bytes(text), length, tape, 5, &count, &bom, &place) == TACKACORN_FULL && count == 0
-                       && tape[0] == 0 && tape[4] == 0);
-    expect("refused at a place", tackacorn_parse(bytes("\xef\xbb\xbf[x"), 5, tape, 32, &count, &bom, &place) == TACKACORN_NO_PARAMETER
-                                     && place == 3 && bom == 0);
-    expect("a BOM", tackacorn_parse(bytes("\xef\xbb\xbf"), 3, tape, 32, &count, &bom, &place) == TACKACORN_OK && bom == 1);
-    expect("words for a text", TACKACORN_WORDS_FOR(TACKACORN_TEXT_LIMIT) == 100663293);
+    expect("cut short", tackacorn_parse(bytes("GER={ fighter=19"), 16, tape, ROOM, &count, &bom, &place) == TACKACORN_OK && count == 5);
+}
+
+static void refused(void) {
+    const char *text = "a=\"b c\" }";
+    uint32_t tape[ROOM], count = 7, bom = 7;
+    size_t place = 7;
+    memset(tape, 255, sizeof tape);
+    expect("full", tackacorn_parse(bytes(text), strlen(text), tape, 2 * TACKACORN_WORDS_PER_TOKEN - 1, &count, &bom, &place) == TACKACORN_FULL
+                       && count == 0 && tape[0] == 0 && tape[2 * TACKACORN_WORDS_PER_TOKEN - 2] == 0);
+    expect("refused at a place", tackacorn_parse(bytes("\xef\xbb\xbf[x"), 5, tape, ROOM, &count, &bom, &place) == TACKACORN_NO_PARAMETER
+                                     && place == 3 && bom == 0 && tape[ROOM - 1] == 0);
+    expect("a BOM", tackacorn_parse(bytes("\xef\xbb\xbf"), 3, tape, ROOM, &count, &bom, &place) == TACKACORN_OK && bom == 1);
+    expect("words for a text", TACKACORN_WORDS_FOR(TACKACORN_TEXT_LIMIT) / TACKACORN_WORDS_PER_TOKEN == 2 * (uint64_t)TACKACORN_TEXT_LIMIT + 1);
+}
+
+/* Each refusal has words of its own, and a number that is none is told so. */
+static void words(void) {
+    const uint32_t numbers[] = {0, 1, 2, 3, 4, 5, 6, 7, 8, 9, 10, 11, 12, 21, 22, 23, 24};
+    const size_t count = sizeof numbers / sizeof numbers[0];
+    expect("the version", strcmp(tackacorn_version(), TACKACORN_VERSION) == 0);
+    expect("words", strcmp(tackacorn_refusal_text(TACKACORN_NO_VALUE), "a '}' where a value is due") == 0);
+    for (size_t i = 0; i < count; i++) {
+        expect("no words for a refusal", strcmp(tackacorn_refusal_text(numbers[i]), tackacorn_refusal_text(13)) != 0);
+        for (size_t j = 0; j < i; j++) {
+            expect("two refusals in the same words", strcmp(tackacorn_refusal_text(numbers[i]), tackacorn_refusal_text(numbers[j])) != 0);
+        }
+    }
+    expect("no such refusal", strcmp(tackacorn_refusal_text(UINT32_MAX), "no such refusal") == 0);
 }
 
 int main(void) {
     readings();
+    surprises();
     tokens();
+    refused();
+    words();
     if (!wrong) {
         puts("every call answers as it should");
     }

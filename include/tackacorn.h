@@ -1,8 +1,26 @@
 /* Tackacorn: the text of a save as a tape of tokens, and the readings of its scalars.
  *
- * Every function here is proved to meet its contract for every argument that its types allow: it reads
- * and writes only what is described, it ends, and its answer is the one that the format's definition
- * gives. What C's types cannot say, and nothing checks, is the caller's part:
+ * BEFORE YOU BOOK FROM A SAVE
+ *
+ *  - A save that was cut short may parse. Where the text ends inside an object at the top level, the
+ *    object counts as closed there: "GER={ fighter=19" is 5 tokens and no refusal, though the file may
+ *    have said 190. The Rust does the same. Of all places where a save can be cut, about one in forty
+ *    is such. Hold the length or a checksum of the file against what was sent; parsing does not tell.
+ *  - tackacorn_to_f64 takes "18446744073709551616.5" for 0.5. See there for why, and for what to do.
+ *  - A text save of the game begins with a line like "HOI4txt", which is no part of the format: the
+ *    parser takes it for a key, and what follows for something else than it is. Before you parse, write
+ *    spaces over that line, so that every offset stays the file's; or pass the text behind the line and
+ *    add the line's length to every offset and place. (The command `tackacorn` does the former.)
+ *  - A call that refuses still writes: tackacorn_parse zeroes the whole tape and every number, the
+ *    readings their value. What stood there before is gone, and a 0 that is left is no number that was
+ *    read. Look at the answer of every call.
+ *
+ * WHAT IS PROMISED, AND WHAT YOU PROMISE
+ *
+ * Every function here but tackacorn_version and tackacorn_refusal_text is proved to meet its contract for
+ * every argument that its types allow: it reads and writes only what is described, it ends, and its answer
+ * is the one that the format's definition gives (docs/FORMAT.md in the sources). What C's types cannot
+ * say, and nothing checks, is the caller's part:
  *
  *  - A text, a scalar, a tape or words are a pointer and how many elements (bytes, or 32-bit words, not
  *    bytes of words) stand there. All of them must be there to read, and for a tape to write. The
@@ -12,7 +30,7 @@
  *    other thread reads or writes it during the call. What a call only reads may be shared.
  *
  * Nothing is kept and nothing is allocated: all memory is the caller's, before, during and after a call.
- * A call takes less than 2 KB of stack.
+ * A call takes less than 2 KB of stack. The library needs nothing but memset.
  *
  * Refusals are numbers, 0 for none, and every number that a call writes is written on a refusal too.
  */
@@ -27,16 +45,22 @@
 extern "C" {
 #endif
 
+/* The version of this header, as words and as a number that rises: 10000 * first + 100 * second + third.
+ * The first part rises where a program that was built with an older header would read a tape wrongly, and
+ * with it the name of the shared library; the second where something is added; the third else. */
+#define TACKACORN_VERSION "1.0.0"
+#define TACKACORN_VERSION_NUMBER 10000
+
 /* The most bytes that a text may have. */
-#define TACKACORN_TEXT_LIMIT 16777215u
+#define TACKACORN_TEXT_LIMIT 16777215
 
 /* How many words a token takes on a tape. */
-#define TACKACORN_WORDS_PER_TOKEN 3u
+#define TACKACORN_WORDS_PER_TOKEN 3
 
 /* Words that are room enough for any text of so many bytes: 2 * bytes + 1 tokens. */
 #define TACKACORN_WORDS_FOR(bytes) (TACKACORN_WORDS_PER_TOKEN * (2 * (size_t)(bytes) + 1))
 
-/* Why a text, a view or a reading is refused. */
+/* Why a text, a view or a reading is refused. tackacorn_refusal_text has these in words. */
 enum tackacorn_refusal {
     TACKACORN_OK = 0,
     TACKACORN_TOO_LONG = 1,          /* the text has more than TACKACORN_TEXT_LIMIT bytes */
@@ -72,6 +96,8 @@ enum tackacorn_code {
     TACKACORN_HEADER = 10               /* as Unquoted; a container is next */
 };
 
+/* A key and its value with '=' between them have no operator on the tape, except in an array that holds
+ * both entries and pairs (behind a MixedContainer), where '=' is TACKACORN_EQUAL. */
 enum tackacorn_operator {
     TACKACORN_LESS_THAN = 1,
     TACKACORN_LESS_THAN_EQUAL = 2,
@@ -90,6 +116,14 @@ enum tackacorn_scalar_kind {
     TACKACORN_NAME = 4
 };
 
+/* TACKACORN_VERSION of the library that the program runs with, which for a shared library may be another
+ * than that of the header. And a refusal in a person's words, without a full stop: "a '}' where a value is
+ * due"; for 0 "no refusal", and for a number that is none "no such refusal". Both answer words that stay,
+ * that nobody frees or changes, and that a zero ends. They are plain C (host/library/words.c), compiled
+ * into the static and the shared library beside what is proved. */
+const char *tackacorn_version(void);
+const char *tackacorn_refusal_text(uint32_t number);
+
 /* Parses a text onto a tape.
  *
  * Reads the text. Writes every word of the tape, whatever stood there: on success the tokens, three
@@ -97,11 +131,14 @@ enum tackacorn_scalar_kind {
  *
  * Answers TACKACORN_OK: *count is how many tokens were laid, *bom is 1 if the text began with the bytes
  * ef bb bf and else 0, *place is 0. Or answers a refusal from 1 to 11: *count and *bom are 0, and *place
- * is the offset in the text where the refusal stands, 0 for TOO_LONG, EOF and FULL, which have none.
+ * is the offset in the text where the refusal stands, 0 for TOO_LONG, EOF and FULL, which have none. For
+ * NOTHING_PRECEDES and UNKNOWN_OPERATOR it is one before the operator, as in the Rust.
+ *
+ * TACKACORN_OK does not say that the text is whole: see the first lines above.
  *
  * Offsets count from the first byte of the text, the BOM included. The tape has room for tape_length / 3
- * tokens. TACKACORN_WORDS_FOR(text_length) words are enough for any text; a word for each byte is enough
- * for most saves, and FULL says when it was not. */
+ * tokens. TACKACORN_WORDS_FOR(text_length) words are enough for any text (24 bytes for each byte of text);
+ * a word for each byte is enough for most saves (5 bytes with the text), and FULL says when it was not. */
 uint32_t tackacorn_parse(const uint8_t *text, size_t text_length, uint32_t *tape, size_t tape_length,
                          uint32_t *count, uint32_t *bom, size_t *place);
 
@@ -128,7 +165,15 @@ uint32_t tackacorn_view(const uint8_t *text, size_t text_length, const uint32_t 
                         size_t count, size_t index, size_t *offset, size_t *size);
 
 /* The readings of a scalar's bytes. Each reads the bytes and writes *value: what it reads, or 0 on a
- * refusal, but for PRECISION_LOSS. */
+ * refusal, but for PRECISION_LOSS. They answer as the Rust does, also where that surprises:
+ *
+ *  - A lone sign is a number: "-" is 0 to to_i64 and to_f64, "+" is 0 to to_u64 as well. So are ".", "-."
+ *    and ".f" to to_f64 (0, -0 and 0), and "+f" and "-f". "f" alone is none. If a number must have a digit,
+ *    look for one.
+ *  - -2^63, "-9223372036854775808", is OVERFLOW to to_i64, and to to_f64 where it has no point: the digits
+ *    are read before the minus.
+ *  - No letter is an exponent: "109E4" is ALL_DIGITS to every reading. A closing 'f' is part of a decimal:
+ *    to_f64 reads "109f" as 109. */
 
 /* 'yes' is 1 and 'no' is 0; all else is INVALID_BOOL. */
 uint32_t tackacorn_to_bool(const uint8_t *scalar, size_t length, uint32_t *value);
@@ -143,11 +188,19 @@ uint32_t tackacorn_to_i64(const uint8_t *scalar, size_t length, int64_t *value);
 
 /* A sign, digits, a point, digits and a closing 'f', each as it may be left out. ALL_DIGITS for any other
  * form, OVERFLOW for a number too large or over 22 digits behind the point. A number without a point
- * that is over 2^53 - 1 is PRECISION_LOSS, and *value is the nearest double. */
+ * that is over 2^53 - 1 is PRECISION_LOSS, and *value is the nearest double.
+ *
+ * With a point, a whole part over 2^64 - 1 is taken modulo 2^64 and NOT refused: "18446744073709551616.5"
+ * answers TACKACORN_OK and 0.5. The Rust gathers the digits before the point without a look at their
+ * size, and begins to look behind it; this library answers as the Rust. It takes 20 digits before the
+ * point at the least. So, before you trust a scalar of more than 20 bytes that tackacorn_kind calls a
+ * Decimal, ask tackacorn_to_u64 of the digits between the sign and the point: where that answers OVERFLOW,
+ * the value is not what was written. */
 uint32_t tackacorn_to_f64(const uint8_t *scalar, size_t length, double *value);
 
 /* What an unquoted scalar is, a tackacorn_scalar_kind: a Bool if to_bool answers, else Whole if to_i64
- * answers, else Decimal if to_f64 answers or loses precision, else a Name. */
+ * answers, else Decimal if to_f64 answers or loses precision, else a Name. So "109E4" is a Name, and
+ * "109f" a Decimal, "-" a Whole and "." a Decimal, by the readings above. */
 uint32_t tackacorn_kind(const uint8_t *scalar, size_t length);
 
 #ifdef __cplusplus

@@ -8,6 +8,7 @@ size_t fread(void *into, size_t size, size_t count, FILE *file);
 int ferror(FILE *file);
 int fflush(FILE *file);
 int fputs(const char *words, FILE *file);
+int putc(int byte, FILE *file);
 int puts(const char *words);
 int printf(const char *form, ...);
 int fprintf(FILE *file, const char *form, ...);

@@ -1,0 +1,87 @@
+/* What the parts of the command `tackacorn` share. Each subcommand is one function in a file of its own and
+ * one line of the table in main.c. */
+#ifndef COMMAND_H
+#define COMMAND_H
+
+#include "tackacorn.h"
+
+#include <stdio.h>
+
+/* How the command ends. Of several files the greatest counts. */
+enum status {
+    STATUS_WELL = 0,      /* all was well */
+    STATUS_REFUSED = 1,   /* a save is refused */
+    STATUS_CALL = 2,      /* the command was called wrongly */
+    STATUS_SYSTEM = 3,    /* the system refused: a missing file, no memory, a full disk */
+    STATUS_NOT_FOUND = 4  /* get: the save is well, and has no such value */
+};
+
+/* A call of a subcommand: its options, and the words behind them. */
+struct call {
+    bool numbers;
+    bool raw;
+    char **words;
+    size_t count;
+};
+
+/* A line of the table of subcommands. */
+struct subcommand {
+    const char *name;
+    const char *usage; /* the words behind the name */
+    const char *about; /* what it does, in a line */
+    const char *help;  /* the rest that a person wants to know */
+    size_t least;      /* how many words it takes */
+    size_t most;
+    enum status (*run)(const struct call *call);
+};
+
+/* main.c: the table, how many lines it has, and the line of a name or NULL. */
+extern const struct subcommand subcommands[];
+extern const size_t subcommand_count;
+const struct subcommand *named(const char *name);
+enum status wrong_call(const char *word, const char *what);
+
+/* help.c */
+void print_overview(void);
+void print_subcommand(const struct subcommand *subcommand);
+
+/* A save: its bytes, the tape that is lent to the parser, and what the parser answered. */
+struct save {
+    const char *name;
+    uint8_t *text;
+    size_t length;
+    uint32_t *words;
+    size_t word_count;
+    uint32_t count;
+    uint32_t bom;
+    uint32_t refusal;
+    size_t place;
+};
+
+/* A token's words. */
+struct token {
+    uint32_t code;
+    uint32_t a;
+    uint32_t b;
+};
+
+/* save.c */
+enum status load(struct save *save, const char *file, const struct call *call);
+void drop(struct save *save);
+struct token token_at(const struct save *save, size_t index);
+
+/* say.c */
+enum status complain(const char *name, const char *what);
+enum status finish(enum status status);
+void show(FILE *out, const uint8_t *bytes, size_t length);
+void show_name(FILE *out, const char *name);
+void tell_refusal(const struct save *save, const struct call *call);
+enum status worse(enum status one, enum status other);
+
+/* The subcommands. */
+enum status look(const struct call *call);
+enum status check(const struct call *call);
+enum status get(const struct call *call);
+enum status help(const struct call *call);
+
+#endif

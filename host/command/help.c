@@ -1,0 +1,63 @@
+/* tackacorn help: what the command does, and each of its subcommands. */
+#include "command.h"
+
+/* What every help begins with: the one thing that an owner of saves must know. */
+static void print_warning(void) {
+    fputs("A save that was cut short may parse: where it ends inside an object at the top level, the object\n"
+          "counts as closed there, and nothing is refused. Hold its length or a checksum against what was sent.\n\n",
+          stdout);
+}
+
+static void print_usage(const struct subcommand *subcommand) {
+    printf("usage: tackacorn %s %s\n", subcommand->name, subcommand->usage);
+}
+
+/* What holds of every subcommand that reads saves. */
+static void print_common(void) {
+    printf("FILE is read whole, '-' or none is standard input. A first line of letters and digits that ends in\n"
+           "'txt', as HOI4txt, is no part of the save and is passed over. Lines, columns and offsets are the\n"
+           "file's: lines and columns count from 1, a column is a byte, and a BOM has none. A file may have %d\n"
+           "bytes. Options come before the file, and '--' ends them:\n"
+           "  --raw      leave the first line to the parser\n"
+           "  --numbers  print a refusal as 'refused NUMBER PLACE' on standard output, not in words\n\n"
+           "A refusal is one line of standard error: FILE:LINE:COLUMN: refusal NUMBER: WORDS\n\n"
+           "Status: 0 all was well; 1 a save is refused; 2 a wrong call; 3 the system refused (a file is missing\n"
+           "or unreadable, no memory, the output cannot be written); 4 get found nothing.\n",
+           TACKACORN_TEXT_LIMIT);
+}
+
+/* Prints what the command does. */
+void print_overview(void) {
+    fputs("tackacorn looks at text saves, checks them, and gets values out of them.\n\n", stdout);
+    print_warning();
+    for (size_t i = 0; i < subcommand_count; i++) {
+        printf("  tackacorn %s %s\n      %s\n", subcommands[i].name, subcommands[i].usage, subcommands[i].about);
+    }
+    fputs("  tackacorn --version\n\n", stdout);
+    print_common();
+}
+
+/* Prints what one subcommand does. */
+void print_subcommand(const struct subcommand *subcommand) {
+    print_usage(subcommand);
+    printf("tackacorn %s: %s.\n\n", subcommand->name, subcommand->about);
+    if (subcommand->run != help) {
+        print_warning();
+        printf("%s\n", subcommand->help);
+        print_common();
+    }
+}
+
+/* Prints the help, whole or of one subcommand. */
+enum status help(const struct call *call) {
+    if (call->count == 0) {
+        print_overview();
+        return STATUS_WELL;
+    }
+    const struct subcommand *subcommand = named(call->words[0]);
+    if (subcommand == NULL) {
+        return wrong_call(call->words[0], "no such subcommand");
+    }
+    print_subcommand(subcommand);
+    return STATUS_WELL;
+}

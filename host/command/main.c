@@ -1,0 +1,118 @@
+/* tackacorn: looks at saves, checks them, and gets values out of them.
+ *
+ * A call is 'tackacorn SUBCOMMAND [OPTION..] [WORD..]'. The table below has a line for each subcommand. */
+#include "command.h"
+
+#include <string.h>
+
+#define OPTIONS "[--numbers] [--raw]"
+#define ANY_NUMBER ((size_t)-1)
+
+const struct subcommand subcommands[] = {
+    {"look", OPTIONS " [FILE]", "print the tokens of a save",
+     "Prints 'tokens COUNT bom BIT', then for each token its index, name and two numbers: for a scalar its\n"
+     "offset and length in the file, for a container the index of its End and whether it is mixed, for an\n"
+     "End the index of its opener, for an operator its number. The save may have any size up to the limit.\n",
+     0, 1, look},
+    {"check", OPTIONS " [FILE..]", "say of each save whether it parses",
+     "Prints a line for each file: 'FILE: sound, COUNT tokens', or on standard error why it is refused. The\n"
+     "status is that of the worst file. With --numbers each line is 'refused NUMBER PLACE FILE', with 0 and 0\n"
+     "where the save is well.\n",
+     0, ANY_NUMBER, check},
+    {"get", OPTIONS " FILE KEY..", "print the values that stand at a path of keys",
+     "The keys are a path: 'get save.txt GER equipment amount' looks in every GER, there in every equipment,\n"
+     "and prints every amount, one a line: its kind (Bool, Whole, Decimal, Name, Quoted), the operator where\n"
+     "it is no '=', and its bytes as they stand in the save, a quoted one in its quotes. A container is told\n"
+     "by what it is and how many entries it has: 'Array 3 entries', 'Header rgb Array 3 entries'. A key is\n"
+     "compared byte for byte, without the quotes if it has some. A control byte is printed as \\x0a.\n"
+     "Status 4 says that the save is well and nothing stands there.\n",
+     2, ANY_NUMBER, get},
+    {"help", "[SUBCOMMAND]", "print this, or more about a subcommand", "", 0, 1, help},
+};
+const size_t subcommand_count = sizeof subcommands / sizeof subcommands[0];
+
+/* The line of the table with this name, or NULL. */
+const struct subcommand *named(const char *name) {
+    for (size_t i = 0; i < subcommand_count; i++) {
+        if (strcmp(subcommands[i].name, name) == 0) {
+            return &subcommands[i];
+        }
+    }
+    return NULL;
+}
+
+/* Says that a call is wrong, and where to read how it is right. */
+enum status wrong_call(const char *word, const char *what) {
+    fputs("tackacorn: ", stderr);
+    show_name(stderr, word);
+    fprintf(stderr, ": %s; see 'tackacorn help'\n", what);
+    return STATUS_CALL;
+}
+
+/* Takes an option in; false where there is none of that name. */
+static bool take_option(struct call *call, const char *word) {
+    if (strcmp(word, "--numbers") == 0) {
+        call->numbers = true;
+        return true;
+    }
+    if (strcmp(word, "--raw") == 0) {
+        call->raw = true;
+        return true;
+    }
+    return false;
+}
+
+static bool asks_for_help(const char *word) {
+    return strcmp(word, "--help") == 0 || strcmp(word, "-h") == 0;
+}
+
+/* Takes the options of a subcommand in, counts the words behind them, and runs it. */
+static enum status run(const struct subcommand *subcommand, char **words, size_t count) {
+    struct call call = {false, false, words, count};
+    while (call.count > 0 && call.words[0][0] == '-' && call.words[0][1] != '\0') {
+        const char *word = call.words[0];
+        if (asks_for_help(word)) {
+            print_subcommand(subcommand);
+            return STATUS_WELL;
+        }
+        const bool last = strcmp(word, "--") == 0;
+        if (!last && (subcommand->run == help || !take_option(&call, word))) {
+            return wrong_call(word, "no such option");
+        }
+        call.words++;
+        call.count--;
+        if (last) {
+            break;
+        }
+    }
+    if (call.count < subcommand->least || call.count > subcommand->most) {
+        fprintf(stderr, "tackacorn: %s: too %s words; usage: tackacorn %s %s\n", subcommand->name,
+                call.count < subcommand->least ? "few" : "many", subcommand->name, subcommand->usage);
+        return STATUS_CALL;
+    }
+    return subcommand->run(&call);
+}
+
+/* Finds the subcommand that is called. */
+static enum status dispatch(char **words, size_t count) {
+    if (count == 0) {
+        return wrong_call("no subcommand", "look, check, get or help is wanted");
+    }
+    if (asks_for_help(words[0])) {
+        print_overview();
+        return STATUS_WELL;
+    }
+    if (strcmp(words[0], "--version") == 0) {
+        printf("tackacorn %s\n", tackacorn_version());
+        return STATUS_WELL;
+    }
+    const struct subcommand *subcommand = named(words[0]);
+    if (subcommand == NULL) {
+        return wrong_call(words[0], words[0][0] == '-' ? "no such option" : "no such subcommand");
+    }
+    return run(subcommand, words + 1, count - 1);
+}
+
+int main(int argc, char **argv) {
+    return (int)finish(dispatch(argv + 1, argc > 0 ? (size_t)argc - 1 : 0));
+}

@@ -1,0 +1,126 @@
+/* Reads a save and parses it. */
+#include "command.h"
+
+#include <errno.h>
+#include <stdlib.h>
+#include <string.h>
+
+/* Makes room for more of the text: twice as much, up to one byte over the limit. */
+static bool grow(struct save *save, size_t *room) {
+    const size_t most = (size_t)TACKACORN_TEXT_LIMIT + 1;
+    const size_t wanted = *room == 0 ? 65536 : *room > most / 2 ? most : 2 * *room;
+    uint8_t *moved = realloc(save->text, wanted);
+    if (moved == NULL) {
+        return false;
+    }
+    save->text = moved;
+    *room = wanted;
+    return true;
+}
+
+/* Reads the input to its end, or to one byte over the limit. */
+static enum status read_whole(FILE *input, struct save *save) {
+    size_t room = 0;
+    while (save->length <= TACKACORN_TEXT_LIMIT) {
+        if (save->length == room && !grow(save, &room)) {
+            return complain(save->name, "no memory for the text");
+        }
+        size_t got = fread(save->text + save->length, 1, room - save->length, input);
+        save->length += got;
+        if (got == 0) {
+            return ferror(input) ? complain(save->name, strerror(errno)) : STATUS_WELL;
+        }
+    }
+    return STATUS_WELL;
+}
+
+/* Reads a file, or standard input for '-'. */
+static enum status read_file(struct save *save, const char *file) {
+    if (strcmp(file, "-") == 0) {
+        save->name = "standard input";
+        return read_whole(stdin, save);
+    }
+    FILE *input = fopen(file, "rb");
+    if (input == NULL) {
+        return complain(file, strerror(errno));
+    }
+    enum status status = read_whole(input, save);
+    fclose(input);
+    return status;
+}
+
+static bool letter_or_digit(uint8_t byte) {
+    return (byte >= '0' && byte <= '9') || (byte >= 'A' && byte <= 'Z') || (byte >= 'a' && byte <= 'z');
+}
+
+/* Writes spaces over a first line of letters and digits that ends in 'txt', behind a BOM if there is one. The
+ * parser passes over spaces, and every line, column and offset stays the file's. */
+static void skip_first_line(struct save *save) {
+    const size_t begin = save->length >= 3 && memcmp(save->text, "\xef\xbb\xbf", 3) == 0 ? 3 : 0;
+    size_t end = begin;
+    while (end < save->length && letter_or_digit(save->text[end])) {
+        end++;
+    }
+    if (end - begin < 3 || memcmp(save->text + end - 3, "txt", 3) != 0) {
+        return;
+    }
+    const size_t feed = end < save->length && save->text[end] == '\r' ? end + 1 : end;
+    if (feed < save->length && save->text[feed] == '\n') {
+        memset(save->text + begin, ' ', end - begin);
+    }
+}
+
+/* Parses onto a tape of so many words, which takes the place of the last one. */
+static enum status parse_onto(struct save *save, size_t words) {
+    free(save->words);
+    save->words = words > SIZE_MAX / sizeof *save->words ? NULL : malloc(words * sizeof *save->words);
+    if (save->words == NULL) {
+        return complain(save->name, "no memory for the tape");
+    }
+    save->word_count = words;
+    save->refusal = tackacorn_parse(save->text, save->length, save->words, save->word_count, &save->count,
+                                    &save->bom, &save->place);
+    return save->refusal == TACKACORN_OK ? STATUS_WELL : STATUS_REFUSED;
+}
+
+/* Parses a text. A word for each byte is room enough for most saves; where it is not, there is room for any. */
+static enum status parse(struct save *save) {
+    enum status status = parse_onto(save, save->length + TACKACORN_WORDS_PER_TOKEN);
+    if (status == STATUS_REFUSED && save->refusal == TACKACORN_FULL) {
+        if (save->length > (SIZE_MAX / TACKACORN_WORDS_PER_TOKEN - 1) / 2) {
+            return complain(save->name, "no memory for the tape");
+        }
+        status = parse_onto(save, TACKACORN_WORDS_FOR(save->length));
+    }
+    return status;
+}
+
+/* Reads a save and parses it. STATUS_SYSTEM was said; STATUS_REFUSED is for the caller to say. */
+enum status load(struct save *save, const char *file, const struct call *call) {
+    *save = (struct save){.name = file};
+    enum status status = read_file(save, file);
+    if (status != STATUS_WELL) {
+        return status;
+    }
+    if (save->length > TACKACORN_TEXT_LIMIT) {
+        save->refusal = TACKACORN_TOO_LONG;
+        return STATUS_REFUSED;
+    }
+    if (!call->raw) {
+        skip_first_line(save);
+    }
+    return parse(save);
+}
+
+/* Gives a save's memory back. */
+void drop(struct save *save) {
+    free(save->words);
+    free(save->text);
+}
+
+/* The words of a token, zeros where there is none. */
+struct token token_at(const struct save *save, size_t index) {
+    struct token token;
+    tackacorn_token(save->words, save->word_count, save->count, index, &token.code, &token.a, &token.b);
+    return token;
+}
