@@ -3,7 +3,7 @@
 use mathlib.Core.Path.{_≡_, refl, sym, _∙_, ap}
 use mathlib.Core.Bool.{true, false}
 use mathlib.Core.List.{List, _++_, append-nil}
-use Prim.Native.Nat.{ℕ, zero, suc, _+_, _-_, _*_, _/_, _^_, _≤_, _<_}
+use Prim.Native.Nat.{ℕ, zero, suc, _+_, _-_, _^_, _≤_, _<_}
 use native.Mathlib.Omega.{arith}
 use borrow.Author.Tests.{lt-ltb, le-ltb, ltb-true, ltb-false}
 use lib.Dec.{ltb}
@@ -15,20 +15,20 @@ use Rattle.tape.specs.declared.token.Token.{Token}
 use Rattle.tape.specs.declared.words.Pushed.{Pushed}
 use Rattle.tape.specs.declared.words.Pushed.the-variants.{Laid, Full}
 use Rattle.tape.specs.Token.{mixed-container-token}
-use Rattle.tape.specs.Words.{room-of, tokens-in, token-in, put-words, put-in, Written, written, push-words, insert-words, padded, cleared}
+use Rattle.tape.specs.Words.{words-for, capacity, last-word, greatest-word, room-of, tokens-in, token-in, put-words, put-in, Written, written, push-words, insert-words, padded, cleared}
 use Rattle.tape.specs.Tape.{Tape, holds, view, replace, add, before-last, add-before-last, Laying, laid, full, lay, lay-mixed, after-push}
 use Rattle.tape.proofs.Views.{tokens-length, put-changed, put-added, put-room, before-last-moved, tokens-whole, cleared-taken}
 
 -- the test of the code for room, while a word can number one token more, is the room's
-pub room-test : (ws : List ℕ) (n : ℕ) → n < 4294967295 → ltb (n * 3 + 2) (length ws) ≡ ltb n (room-of ws)
+pub room-test : (ws : List ℕ) (n : ℕ) → n < greatest-word → ltb (last-word n) (length ws) ≡ ltb n (room-of ws)
 unfolding room-of
 room-test ws n h =
-    by-bool (ltb (n * 3 + 2) (length ws))
+    by-bool (ltb (last-word n) (length ws))
     (λ e.
-    let fits : n * 3 + 2 < length ws = ltb-true _ _ e in
+    let fits : last-word n < length ws = ltb-true _ _ e in
     e ∙ sym (lt-ltb n (room-of ws) (omega arith)))
     (λ e.
-    let none : length ws ≤ n * 3 + 2 = ltb-false _ _ e in
+    let none : length ws ≤ last-word n = ltb-false _ _ e in
     e ∙ sym (le-ltb n (room-of ws) (omega arith)))
 
 -- where there is room, a word can number one token more
@@ -39,18 +39,18 @@ one-more ws n e =
     omega arith
 
 -- zeros laid over all words from token n on clear them
-pub zeros-over : (ws zs : List ℕ) (n : ℕ) → n * 3 ≤ length ws → zs ≡ replicate (length (midOf (n * 3) (length ws - n * 3) ws)) 0
-    → putMid (n * 3) (length ws - n * 3) ws zs ≡ cleared ws n
+pub zeros-over : (ws zs : List ℕ) (n : ℕ) → words-for n ≤ length ws → zs ≡ replicate (length (midOf (words-for n) (length ws - words-for n) ws)) 0
+    → putMid (words-for n) (length ws - words-for n) ws zs ≡ cleared ws n
 zeros-over ws zs n h e =
-    rw (cleared-taken ws n h, e, mid-len (n * 3) (length ws) ws (omega arith), post-is (n * 3) (length ws) ws h, drop-length ws)
-    (ap (λ (us : List ℕ). take (n * 3) ws ++ us) (append-nil _))
+    rw (cleared-taken ws n h, e, mid-len (words-for n) (length ws) ws (omega arith), post-is (words-for n) (length ws) ws h, drop-length ws)
+    (ap (λ (us : List ℕ). take (words-for n) ws ++ us) (append-nil _))
 
 -- and from the last whole token on, where more are asked for
-pub zeros-over-whole : (ws zs : List ℕ) (n : ℕ) → length ws / 3 ≤ n → zs ≡ replicate (length (midOf (length ws / 3 * 3) (length ws - length ws / 3 * 3) ws)) 0
-    → putMid (length ws / 3 * 3) (length ws - length ws / 3 * 3) ws zs ≡ cleared ws n
+pub zeros-over-whole : (ws zs : List ℕ) (n : ℕ) → capacity (length ws) ≤ n → zs ≡ replicate (length (midOf (words-for (capacity (length ws))) (length ws - words-for (capacity (length ws))) ws)) 0
+    → putMid (words-for (capacity (length ws))) (length ws - words-for (capacity (length ws))) ws zs ≡ cleared ws n
 unfolding cleared
 zeros-over-whole ws zs n h e =
-    zeros-over ws zs (length ws / 3) (omega arith) e ∙ sym (ap (λ (ts : List Token). padded (length ws) ts) (tokens-whole ws n h))
+    zeros-over ws zs (capacity (length ws)) (omega arith) e ∙ sym (ap (λ (ts : List Token). padded (length ws) ts) (tokens-whole ws n h))
 
 -- two tapes are equal by their room and their tokens
 same-tape : {k l : ℕ} {ts us : List Token} → k ≡ l → ts ≡ us → _≡_ {A = Tape} (record { room = holds k; tokens = ts }) (record { room = holds l; tokens = us })

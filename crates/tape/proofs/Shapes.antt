@@ -21,7 +21,7 @@ use Rattle.tape.specs.declared.shape.Link.{Link}
 use Rattle.tape.specs.declared.shape.Link.the-variants.{ToEnd, ToOpener}
 use Rattle.tape.specs.declared.shape.ScalarNamed.{ScalarNamed}
 use Rattle.tape.specs.declared.shape.ScalarNamed.the-variants.{Kind}
-use Rattle.tape.specs.Token.{array-code, object-code, mixed-container-code, unquoted-code, quoted-code, parameter-code, undefined-parameter-code, operator-code, end-code, header-code, container-code, scalar-code, flag-of, stores-flag, opener-of, end-of, scalar-of, operator-of, mixed-container-token, no-token, container-of}
+use Rattle.tape.specs.Token.{array-code, object-code, mixed-container-code, unquoted-code, quoted-code, parameter-code, undefined-parameter-code, operator-code, end-code, header-code, least-operator, greatest-operator, container-code, scalar-code, flag-of, stores-flag, opener-of, end-of, scalar-of, operator-of, mixed-container-token, no-token, container-of}
 use Rattle.tape.specs.Shape.{scalar-named, bare-shape, shape-of, linked, link-of, Opens}
 
 -- ---- the shape, by the tests that lead to it
@@ -65,9 +65,9 @@ scalar-shape Parameter offset size = refl
 scalar-shape UndefinedParameter offset size = refl
 scalar-shape Header offset size = refl
 
-pub operator-shape : (number : ℕ) → 1 ≤ number → number ≤ 8 → shape-of (operator-of number) ≡ Operator number
+pub operator-shape : (number : ℕ) → least-operator ≤ number → number ≤ greatest-operator → shape-of (operator-of number) ≡ Operator number
 unfolding shape-of container-of scalar-named bare-shape
-operator-shape number low high = rw (shape-of, bare-shape, le-ltb number 1 low, le-ltb 8 number high)
+operator-shape number low high = rw (shape-of, bare-shape, le-ltb number least-operator low, le-ltb greatest-operator number high)
 
 pub end-shape : (opener : ℕ) → shape-of (end-of opener) ≡ End opener
 unfolding shape-of container-of scalar-named bare-shape
@@ -87,7 +87,7 @@ abbrev pub Made : Token → Shape → Type 0
 Made t (Opener end) = Opens t end
 Made t MixedContainer = t ≡ mixed-container-token
 Made t (Scalar kind offset size) = t ≡ scalar-of kind offset size
-Made t (Operator number) = (1 ≤ number) × (number ≤ 8) × (t ≡ operator-of number)
+Made t (Operator number) = (least-operator ≤ number) × (number ≤ greatest-operator) × (t ≡ operator-of number)
 Made t (End opener) = t ≡ end-of opener
 Made t Shape.Nothing = Unit
 
@@ -100,9 +100,9 @@ bare-made t z =
     by-bool (eqb (t .code) end-code)
     (λ e. rw (bare-shape, e) (same-token t (eqb-true _ _ e) refl z))
     (λ e. by-bool (eqb (t .code) operator-code)
-    (λ f. by-bool (ltb (t .a) 1)
+    (λ f. by-bool (ltb (t .a) least-operator)
     (λ g. rw (bare-shape, e, f, g) tt)
-    (λ g. by-bool (ltb 8 (t .a))
+    (λ g. by-bool (ltb greatest-operator (t .a))
     (λ h. rw (bare-shape, e, f, g, h) tt)
     (λ h. rw (bare-shape, e, f, g, h) (ltb-false _ _ g, ltb-false _ _ h, same-token t (eqb-true _ _ f) refl z))))
     (λ f. by-bool (eqb (t .code) mixed-container-code)

@@ -2,7 +2,7 @@
 -- Assumes nothing.
 use mathlib.Core.Path.{_≡_, refl, sym, _∙_, ap}
 use mathlib.Core.List.{List, [], _∷_, _++_}
-use Prim.Native.Nat.{ℕ, zero, suc, _+_, _-_, _*_, _/_, _≤_, _<_, min}
+use Prim.Native.Nat.{ℕ, zero, suc, _+_, _-_, _≤_, _<_, min}
 use native.Mathlib.Omega.{arith}
 use borrow.Author.Tests.{lt-ltb, le-ltb, ltb-true, ltb-false, le-leb, lt-leb, leb-true, leb-false}
 use native.Mathlib.Numerals.{add-one}
@@ -12,34 +12,34 @@ use lib.Seq.{set-out, ext-getD, getD-append-add, length-take-le}
 use Rattle.data.proofs.Cases.{by-bool}
 use Rattle.tape.specs.declared.token.Token.{Token}
 use Rattle.tape.specs.Token.{no-token}
-use Rattle.tape.specs.Words.{words-for, room-of, tokens-in, words-of, put-words, padded, cleared}
+use Rattle.tape.specs.Words.{words-for, capacity, code-word, a-word, b-word, last-word, room-of, tokens-in, words-of, put-words, padded, cleared}
 use Rattle.tape.specs.Tape.{before-last}
 
 -- ---- the words of a token, one token further on
-next : (i : ℕ) → suc i * 3 ≡ suc (suc (suc (i * 3)))
+next : (i : ℕ) → words-for (suc i) ≡ suc (suc (suc (words-for i)))
 next i = omega arith
 
-next-with : (i k : ℕ) → suc i * 3 + k ≡ suc (suc (suc (i * 3 + k)))
+next-with : (i k : ℕ) → words-for (suc i) + k ≡ suc (suc (suc (words-for i + k)))
 next-with i k = omega arith
 
--- the token whose words start at a place
+-- the token that the words at an index spell
 abbrev pub token-from : List ℕ → ℕ → Token
-token-from ws at = record { code = getD ws at 0; a = getD ws (at + 1) 0; b = getD ws (at + 2) 0 }
+token-from ws i = record { code = getD ws (code-word i) 0; a = getD ws (a-word i) 0; b = getD ws (b-word i) 0 }
 
 -- ---- reading
--- the words of n tokens are all there where n is at most a third of them
-pub held : (n : ℕ) (ws : List ℕ) → leb n (length ws / 3) ≡ leb (words-for n) (length ws)
+-- the words of n tokens are all there where n is at most the capacity
+pub held : (n : ℕ) (ws : List ℕ) → leb n (capacity (length ws)) ≡ leb (words-for n) (length ws)
 held n ws =
-    by-bool (leb n (length ws / 3))
+    by-bool (leb n (capacity (length ws)))
     (λ e.
-    let within : n ≤ length ws / 3 = leb-true _ _ e in
+    let within : n ≤ capacity (length ws) = leb-true _ _ e in
     e ∙ sym (le-leb (words-for n) (length ws) (omega arith)))
     (λ e.
-    let over : length ws / 3 < n = leb-false _ _ e in
+    let over : capacity (length ws) < n = leb-false _ _ e in
     e ∙ sym (lt-leb (words-for n) (length ws) (omega arith)))
 
 -- as many tokens as are asked for, or as stand there whole
-pub tokens-length : (ws : List ℕ) (n : ℕ) → length (tokens-in ws n) ≡ min n (length ws / 3)
+pub tokens-length : (ws : List ℕ) (n : ℕ) → length (tokens-in ws n) ≡ min n (capacity (length ws))
 unfolding tokens-in
 tokens-length ws zero = omega arith
 tokens-length [] (suc n) = omega arith
@@ -51,8 +51,8 @@ tokens-length (c ∷ a ∷ b ∷ ws) (suc n) = omega (arith, tokens-length ws n)
 pub tokens-counted : (ws : List ℕ) (n : ℕ) → words-for n ≤ length ws → length (tokens-in ws n) ≡ n
 tokens-counted ws n h = omega (arith, tokens-length ws n)
 
--- a token's words stand at three times its index
-pub tokens-at : (ws : List ℕ) (n i : ℕ) → i < n → i * 3 + 2 < length ws → getD (tokens-in ws n) i no-token ≡ token-from ws (i * 3)
+-- a token is what its words spell
+pub tokens-at : (ws : List ℕ) (n i : ℕ) → i < n → last-word i < length ws → getD (tokens-in ws n) i no-token ≡ token-from ws i
 unfolding tokens-in
 tokens-at ws zero i h k = absurd (omega arith)
 tokens-at [] (suc n) i h k = absurd (omega arith)
@@ -63,7 +63,7 @@ tokens-at (c ∷ a ∷ b ∷ ws) (suc n) (suc i) h k =
     rw (next-with i 1, next-with i 2, next i) (tokens-at ws n i (omega arith) (omega arith))
 
 -- where there is no whole token there is none
-pub tokens-none : (ws : List ℕ) (n i : ℕ) → length ws ≤ i * 3 + 2 → getD (tokens-in ws n) i no-token ≡ no-token
+pub tokens-none : (ws : List ℕ) (n i : ℕ) → length ws ≤ last-word i → getD (tokens-in ws n) i no-token ≡ no-token
 tokens-none ws n i h = List·getD-eq-default (tokens-in ws n) no-token {n = i} (omega (arith, tokens-length ws n))
 
 -- nor past those that were asked for
@@ -72,23 +72,23 @@ tokens-past ws n i h = List·getD-eq-default (tokens-in ws n) no-token {n = i} (
 
 -- ---- writing
 abbrev written-at : List ℕ → ℕ → Token → List ℕ
-written-at ws i t = set (set (set ws (i * 3) (t .code)) (i * 3 + 1) (t .a)) (i * 3 + 2) (t .b)
+written-at ws i t = set (set (set ws (code-word i) (t .code)) (a-word i) (t .a)) (b-word i) (t .b)
 
 -- a token that fits is written
-pub put-fits : (ws : List ℕ) (i : ℕ) (t : Token) → i * 3 + 2 < length ws → put-words ws i t ≡ written-at ws i t
+pub put-fits : (ws : List ℕ) (i : ℕ) (t : Token) → last-word i < length ws → put-words ws i t ≡ written-at ws i t
 unfolding put-words
-put-fits ws i t h = rw (put-words, lt-ltb (i * 3 + 2) (length ws) h)
+put-fits ws i t h = rw (put-words, lt-ltb (last-word i) (length ws) h)
 
 -- one that does not fit changes nothing
-pub put-out : (ws : List ℕ) (i : ℕ) (t : Token) → length ws ≤ i * 3 + 2 → put-words ws i t ≡ ws
+pub put-out : (ws : List ℕ) (i : ℕ) (t : Token) → length ws ≤ last-word i → put-words ws i t ≡ ws
 unfolding put-words
-put-out ws i t h = rw (put-words, le-ltb (i * 3 + 2) (length ws) h)
+put-out ws i t h = rw (put-words, le-ltb (last-word i) (length ws) h)
 
 -- writing keeps the length
 pub put-length : (ws : List ℕ) (i : ℕ) (t : Token) → length (put-words ws i t) ≡ length ws
 unfolding put-words
 put-length ws i t =
-    by-bool (ltb (i * 3 + 2) (length ws))
+    by-bool (ltb (last-word i) (length ws))
     (λ e. rw (put-words, e) (simp length-set))
     (λ e. rw (put-words, e))
 
@@ -100,7 +100,7 @@ put-room ws i t = rw (room-of, room-of, put-length ws i t)
 written-next : (c a b : ℕ) (ws : List ℕ) (i : ℕ) (t : Token) → written-at (c ∷ a ∷ b ∷ ws) (suc i) t ≡ c ∷ a ∷ b ∷ written-at ws i t
 written-next c a b ws i t = rw (next-with i 1, next-with i 2, next i)
 
-written-changed : (ws : List ℕ) (n i : ℕ) (t : Token) → i * 3 + 2 < length ws → tokens-in (written-at ws i t) n ≡ set (tokens-in ws n) i t
+written-changed : (ws : List ℕ) (n i : ℕ) (t : Token) → last-word i < length ws → tokens-in (written-at ws i t) n ≡ set (tokens-in ws n) i t
 unfolding tokens-in
 written-changed ws zero i t h = refl
 written-changed [] (suc n) i t h = absurd (omega arith)
@@ -113,13 +113,13 @@ written-changed (c ∷ a ∷ b ∷ ws) (suc n) (suc i) t h =
 -- token i written is token i changed, where there is one
 pub put-changed : (ws : List ℕ) (n i : ℕ) (t : Token) → tokens-in (put-words ws i t) n ≡ set (tokens-in ws n) i t
 put-changed ws n i t =
-    by-bool (ltb (i * 3 + 2) (length ws))
+    by-bool (ltb (last-word i) (length ws))
     (λ e. rw (put-fits ws i t (ltb-true _ _ e)) (written-changed ws n i t (ltb-true _ _ e)))
     (λ e.
-    let none : length ws ≤ i * 3 + 2 = ltb-false _ _ e in
+    let none : length ws ≤ last-word i = ltb-false _ _ e in
     rw (put-out ws i t none) (sym (set-out (tokens-in ws n) i t (omega (arith, tokens-length ws n)))))
 
-added : (ws : List ℕ) (n : ℕ) (t : Token) → n * 3 + 2 < length ws → tokens-in (written-at ws n t) (suc n) ≡ tokens-in ws n ++ (t ∷ [])
+added : (ws : List ℕ) (n : ℕ) (t : Token) → last-word n < length ws → tokens-in (written-at ws n t) (suc n) ≡ tokens-in ws n ++ (t ∷ [])
 unfolding tokens-in
 added [] n t h = absurd (omega arith)
 added (c ∷ []) n t h = absurd (omega arith)
@@ -131,7 +131,7 @@ added (c ∷ a ∷ b ∷ ws) (suc n) t h = rw (written-next c a b ws n t) (ap {B
 pub put-added : (ws : List ℕ) (n : ℕ) (t : Token) → n < room-of ws → tokens-in (put-words ws n t) (n + 1) ≡ tokens-in ws n ++ (t ∷ [])
 unfolding room-of
 put-added ws n t h =
-    let fits : n * 3 + 2 < length ws = omega arith in
+    let fits : last-word n < length ws = omega arith in
     rw (put-fits ws n t fits, add-one n) (added ws n t fits)
 
 -- ---- a token put in before the last
@@ -144,13 +144,13 @@ before-last-moved (t ∷ u ∷ ts) zero x h = absurd (omega arith)
 before-last-moved (t ∷ u ∷ ts) (suc n) x h = ap {B = List Token} (λ (us : List Token). t ∷ us) (before-last-moved (u ∷ ts) n x (omega arith))
 
 -- ---- the words of some tokens
-pub words-length : (ts : List Token) → length (words-of ts) ≡ length ts * 3
+pub words-length : (ts : List Token) → length (words-of ts) ≡ words-for (length ts)
 unfolding words-of
 words-length [] = refl
 words-length (t ∷ ts) = omega (arith, words-length ts)
 
 -- the words of a tape's tokens are its first words
-pub words-taken : (ws : List ℕ) (n : ℕ) → n * 3 ≤ length ws → words-of (tokens-in ws n) ≡ take (n * 3) ws
+pub words-taken : (ws : List ℕ) (n : ℕ) → words-for n ≤ length ws → words-of (tokens-in ws n) ≡ take (words-for n) ws
 unfolding words-of tokens-in
 words-taken ws zero h = refl
 words-taken [] (suc n) h = absurd (omega arith)
@@ -174,12 +174,12 @@ tokens-back [] rest = refl
 tokens-back (t ∷ ts) rest = ap {B = List Token} (λ (us : List Token). t ∷ us) (tokens-back ts rest)
 
 -- to ask for more than stand there whole is to ask for those
-pub tokens-whole : (ws : List ℕ) (n : ℕ) → length ws / 3 ≤ n → tokens-in ws n ≡ tokens-in ws (length ws / 3)
+pub tokens-whole : (ws : List ℕ) (n : ℕ) → capacity (length ws) ≤ n → tokens-in ws n ≡ tokens-in ws (capacity (length ws))
 tokens-whole ws n h =
-    ext-getD no-token (tokens-in ws n) (tokens-in ws (length ws / 3)) (omega (arith, tokens-length ws n, tokens-length ws (length ws / 3)))
+    ext-getD no-token (tokens-in ws n) (tokens-in ws (capacity (length ws))) (omega (arith, tokens-length ws n, tokens-length ws (capacity (length ws))))
     (λ i below.
-    let at : i < length ws / 3 = omega (arith, tokens-length ws n, below) in
-    tokens-at ws n i (omega arith) (omega arith) ∙ sym (tokens-at ws (length ws / 3) i at (omega arith)))
+    let at : i < capacity (length ws) = omega (arith, tokens-length ws n, below) in
+    tokens-at ws n i (omega arith) (omega arith) ∙ sym (tokens-at ws (capacity (length ws)) i at (omega arith)))
 
 -- ---- tokens with zeros behind them
 -- behind a list of words, zeros as far as they go and nothing after them
@@ -194,7 +194,7 @@ zeros-behind us k j h =
     rw place (getD-append-add us (replicate k 0) (j - length us) 0 ∙ past)
 
 -- the words are as many as were asked for
-pub padded-length : (len : ℕ) (ts : List Token) → length ts * 3 ≤ len → length (padded len ts) ≡ len
+pub padded-length : (len : ℕ) (ts : List Token) → words-for (length ts) ≤ len → length (padded len ts) ≡ len
 unfolding padded
 padded-length len ts h = simp (length-append, length-replicate) (omega (arith, words-length ts))
 
@@ -203,19 +203,19 @@ pub padded-tokens : (len : ℕ) (ts : List Token) → tokens-in (padded len ts) 
 unfolding padded
 padded-tokens len ts = tokens-back ts _
 
--- a token of the list is read at three times its index
-pub padded-token : (len : ℕ) (ts : List Token) (i : ℕ) → i < length ts → length ts * 3 ≤ len → token-from (padded len ts) (i * 3) ≡ getD ts i no-token
+-- a token of the list is read at its index
+pub padded-token : (len : ℕ) (ts : List Token) (i : ℕ) → i < length ts → words-for (length ts) ≤ len → token-from (padded len ts) i ≡ getD ts i no-token
 padded-token len ts i h fits =
     sym (tokens-at (padded len ts) (length ts) i h (omega (arith, padded-length len ts fits)))
     ∙ ap (λ (us : List Token). getD us i no-token) (padded-tokens len ts)
 
 -- past the tokens every word is 0
-pub padded-zero : (len : ℕ) (ts : List Token) (j : ℕ) → length ts * 3 ≤ j → getD (padded len ts) j 0 ≡ 0
+pub padded-zero : (len : ℕ) (ts : List Token) (j : ℕ) → words-for (length ts) ≤ j → getD (padded len ts) j 0 ≡ 0
 unfolding padded
 padded-zero len ts j h = zeros-behind (words-of ts) (len - length (words-of ts)) j (omega (arith, words-length ts))
 
 -- clearing leaves the words of the first n tokens, and zeros
-pub cleared-taken : (ws : List ℕ) (n : ℕ) → n * 3 ≤ length ws → cleared ws n ≡ take (n * 3) ws ++ replicate (length ws - n * 3) 0
+pub cleared-taken : (ws : List ℕ) (n : ℕ) → words-for n ≤ length ws → cleared ws n ≡ take (words-for n) ws ++ replicate (length ws - words-for n) 0
 unfolding cleared padded
 cleared-taken ws n h =
-    rw (cleared, padded, words-taken ws n h, length-take-le (n * 3) ws h)
+    rw (cleared, padded, words-taken ws n h, length-take-le (words-for n) ws h)

@@ -14,7 +14,7 @@ use Rattle.tape.specs.declared.shape.Link.{Link}
 use Rattle.tape.specs.declared.shape.Link.the-variants.{ToEnd, ToOpener}
 use Rattle.tape.specs.declared.shape.ScalarNamed.{ScalarNamed}
 use Rattle.tape.specs.declared.shape.ScalarNamed.the-variants.{Kind}
-use Rattle.tape.specs.Token.{mixed-container-code, unquoted-code, quoted-code, parameter-code, undefined-parameter-code, operator-code, end-code, header-code, stores-flag, opener-of, container-of}
+use Rattle.tape.specs.Token.{mixed-container-code, unquoted-code, quoted-code, parameter-code, undefined-parameter-code, operator-code, end-code, header-code, least-operator, greatest-operator, stores-flag, opener-of, container-of}
 
 -- the kind of scalar that a code names, or none
 unfoldable pub scalar-named : ℕ → ScalarNamed
@@ -36,15 +36,15 @@ scalar-named code =
       ]
     ]
 
--- an End, an operator by its number from 1 to 8, or a MixedContainer: the tokens whose b is 0
+-- an End, an operator by its number, or a MixedContainer: the tokens whose b is 0
 unfoldable pub bare-shape : ℕ → ℕ → Shape
 bare-shape code a =
     elim (eqb code end-code) [
       | true ↦ End a
       | false ↦ elim (eqb code operator-code) [
-        | true ↦ elim (ltb a 1) [
+        | true ↦ elim (ltb a least-operator) [
           | true ↦ Shape.Nothing
-          | false ↦ elim (ltb 8 a) [ true ↦ Shape.Nothing | false ↦ Operator a ]
+          | false ↦ elim (ltb greatest-operator a) [ true ↦ Shape.Nothing | false ↦ Operator a ]
         ]
         | false ↦ elim (eqb code mixed-container-code) [
           | true ↦ elim (eqb a 0) [ true ↦ MixedContainer | false ↦ Shape.Nothing ]

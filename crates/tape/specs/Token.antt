@@ -43,6 +43,13 @@ end-code = 9
 abbrev pub header-code : ℕ
 header-code = 10
 
+-- the numbers of operators go from 1 to 8
+abbrev pub least-operator : ℕ
+least-operator = 1
+
+abbrev pub greatest-operator : ℕ
+greatest-operator = 8
+
 abbrev pub container-code : ContainerKind → ℕ
 container-code Array = array-code
 container-code Object = object-code

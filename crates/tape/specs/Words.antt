@@ -1,4 +1,4 @@
--- The words that tokens stand in: three to a token, those of token i from word 3 * i on.
+-- The words that tokens stand in: three to a token, those of a token from three times its index on.
 use Prim.Native.Nat.{ℕ, zero, suc, _+_, _-_, _*_, _/_, min}
 use mathlib.Core.Bool.{true, false}
 use mathlib.Core.List.{List, [], _∷_, _++_}
@@ -9,13 +9,38 @@ use Rattle.tape.specs.declared.words.Pushed.{Pushed}
 use Rattle.tape.specs.declared.words.Pushed.the-variants.{Laid, Full}
 use Rattle.tape.specs.Token.{no-token, mixed-container-token}
 
+-- three words a token
+abbrev pub words-per-token : ℕ
+words-per-token = 3
+
 -- how many words some tokens take
 abbrev pub words-for : ℕ → ℕ
-words-for n = n * 3
+words-for n = n * words-per-token
 
--- how many tokens a tape has room for: its length divided by 3, and no more than a word can number
+-- how many tokens a tape of a length has room for: its length divided by 3, rounded down
+abbrev pub capacity : ℕ → ℕ
+capacity len = len / words-per-token
+
+-- where the words of token i stand: its code, a, b, which is the last
+abbrev pub code-word : ℕ → ℕ
+code-word i = words-for i
+
+abbrev pub a-word : ℕ → ℕ
+a-word i = code-word i + 1
+
+abbrev pub b-word : ℕ → ℕ
+b-word i = code-word i + 2
+
+abbrev pub last-word : ℕ → ℕ
+last-word i = code-word i + (words-per-token - 1)
+
+-- the greatest number that a word holds
+abbrev pub greatest-word : ℕ
+greatest-word = 4294967295
+
+-- how many tokens a tape has room for, and no more than a word can number
 unfoldable pub room-of : List ℕ → ℕ
-room-of ws = min (length ws / 3) 4294967295
+room-of ws = min (capacity (length ws)) greatest-word
 
 -- the first n tokens, or as many as stand there whole
 unfoldable pub tokens-in : List ℕ → ℕ → List Token
@@ -37,8 +62,8 @@ token-in ws n i = getD (tokens-in ws n) i no-token
 -- the words with token i written, where it fits
 unfoldable pub put-words : List ℕ → ℕ → Token → List ℕ
 put-words ws i t =
-    elim (ltb (i * 3 + 2) (length ws)) [
-      | true ↦ set (set (set ws (i * 3) (t .code)) (i * 3 + 1) (t .a)) (i * 3 + 2) (t .b)
+    elim (ltb (last-word i) (length ws)) [
+      | true ↦ set (set (set ws (code-word i) (t .code)) (a-word i) (t .a)) (b-word i) (t .b)
       | false ↦ ws
     ]
 

@@ -1,4 +1,5 @@
 // What a token's words make it: the table 'Three words to a token', read from the words to the token.
+use crate::codes;
 use crate::token;
 use crate::token::Container;
 use crate::token::ScalarKind;
@@ -43,19 +44,19 @@ pub enum ScalarNamed {
 pub fn scalar_named(code: u32) -> ScalarNamed
     ensures { λ r. ⌜ r ≡ scalar-named code ⌝ }
 {
-    if code == 4 {
+    if code == codes::UNQUOTED {
         return ScalarNamed::Kind(ScalarKind::Unquoted);
     }
-    if code == 5 {
+    if code == codes::QUOTED {
         return ScalarNamed::Kind(ScalarKind::Quoted);
     }
-    if code == 6 {
+    if code == codes::PARAMETER {
         return ScalarNamed::Kind(ScalarKind::Parameter);
     }
-    if code == 7 {
+    if code == codes::UNDEFINED_PARAMETER {
         return ScalarNamed::Kind(ScalarKind::UndefinedParameter);
     }
-    if code == 10 {
+    if code == codes::HEADER {
         return ScalarNamed::Kind(ScalarKind::Header);
     }
     ScalarNamed::Nothing
@@ -65,19 +66,19 @@ pub fn scalar_named(code: u32) -> ScalarNamed
 fn bare_shape(code: u32, a: u32) -> Shape
     ensures { λ r. ⌜ r ≡ bare-shape code a ⌝ }
 {
-    if code == 9 {
+    if code == codes::END {
         return Shape::End { opener: a };
     }
-    if code == 8 {
-        if a < 1 {
+    if code == codes::OPERATOR {
+        if a < codes::LEAST_OPERATOR {
             return Shape::Nothing;
         }
-        if 8 < a {
+        if codes::GREATEST_OPERATOR < a {
             return Shape::Nothing;
         }
         return Shape::Operator { number: a };
     }
-    if code == 3 {
+    if code == codes::MIXED_CONTAINER {
         if a == 0 {
             return Shape::MixedContainer;
         }

@@ -1,4 +1,5 @@
 // A token by value: a code and two words. Whoever lays one down makes it by name, and whoever reads one asks what it is.
+use crate::codes;
 ghost use mathlib.Core.Path.{_≡_};
 ghost use Rattle.tape.specs.Token.{container-code, scalar-code, flag-word, flag-of, stores-flag, opener-of, end-of, scalar-of, operator-of, mixed-container-token, container-of, standing-of, headed};
 
@@ -42,13 +43,18 @@ pub enum Standing {
     Nothing,
 }
 
+// The two numbers of an opener's second word.
+const UNMIXED: u32 = 0;
+
+const MIXED: u32 = 1;
+
 // The code of a container of a kind.
 fn container_number(kind: ContainerKind) -> u32
     ensures { λ r. ⌜ r ≡ container-code kind ⌝ }
 {
     match kind {
-        ContainerKind::Array => 1,
-        ContainerKind::Object => 2,
+        ContainerKind::Array => codes::ARRAY,
+        ContainerKind::Object => codes::OBJECT,
     }
 }
 
@@ -57,11 +63,11 @@ fn scalar_number(kind: ScalarKind) -> u32
     ensures { λ r. ⌜ r ≡ scalar-code kind ⌝ }
 {
     match kind {
-        ScalarKind::Unquoted => 4,
-        ScalarKind::Quoted => 5,
-        ScalarKind::Parameter => 6,
-        ScalarKind::UndefinedParameter => 7,
-        ScalarKind::Header => 10,
+        ScalarKind::Unquoted => codes::UNQUOTED,
+        ScalarKind::Quoted => codes::QUOTED,
+        ScalarKind::Parameter => codes::PARAMETER,
+        ScalarKind::UndefinedParameter => codes::UNDEFINED_PARAMETER,
+        ScalarKind::Header => codes::HEADER,
     }
 }
 
@@ -70,16 +76,16 @@ fn flag_number(mixed: bool) -> u32
     ensures { λ r. ⌜ r ≡ flag-word mixed ⌝ }
 {
     if mixed {
-        return 1;
+        return MIXED;
     }
-    0
+    UNMIXED
 }
 
 // The flag that an opener's second word stores.
 fn flag_told(word: u32) -> bool
     ensures { λ r. ⌜ r ≡ flag-of word ⌝ }
 {
-    word == 1
+    word == MIXED
 }
 
 // Whether a word is one that stores a flag.
@@ -105,7 +111,7 @@ pub fn end(opener: u32) -> Token
     ensures { λ r. ⌜ r ≡ end-of opener ⌝ }
 {
     Token {
-        code: 9,
+        code: codes::END,
         a: opener,
         b: 0,
     }
@@ -127,7 +133,7 @@ pub fn operator(number: u32) -> Token
     ensures { λ r. ⌜ r ≡ operator-of number ⌝ }
 {
     Token {
-        code: 8,
+        code: codes::OPERATOR,
         a: number,
         b: 0,
     }
@@ -138,7 +144,7 @@ pub fn mixed_container() -> Token
     ensures { λ r. ⌜ r ≡ mixed-container-token ⌝ }
 {
     Token {
-        code: 3,
+        code: codes::MIXED_CONTAINER,
         a: 0,
         b: 0,
     }
@@ -151,14 +157,14 @@ impl Token {
     {
         let code = self.code;
         let mixed = flag_told(self.b);
-        if code == 1 {
+        if code == codes::ARRAY {
             return Container::Opened {
                 kind: ContainerKind::Array,
                 link: self.a,
                 mixed,
             };
         }
-        if code == 2 {
+        if code == codes::OBJECT {
             return Container::Opened {
                 kind: ContainerKind::Object,
                 link: self.a,
@@ -173,22 +179,22 @@ impl Token {
         ensures { λ r. ⌜ r ≡ standing-of self ⌝ }
     {
         let code = self.code;
-        if code == 4 {
+        if code == codes::UNQUOTED {
             return Standing::Unquoted;
         }
-        if code == 9 {
+        if code == codes::END {
             return Standing::End;
         }
-        if code == 10 {
+        if code == codes::HEADER {
             return Standing::OtherScalar;
         }
-        if code == 5 {
+        if code == codes::QUOTED {
             return Standing::OtherScalar;
         }
-        if code == 6 {
+        if code == codes::PARAMETER {
             return Standing::OtherScalar;
         }
-        if code == 7 {
+        if code == codes::UNDEFINED_PARAMETER {
             return Standing::OtherScalar;
         }
         Standing::Nothing
@@ -199,7 +205,7 @@ impl Token {
         ensures { λ r. ⌜ r ≡ headed self ⌝ }
     {
         Token {
-            code: 10,
+            code: codes::HEADER,
             a: self.a,
             b: self.b,
         }

@@ -1,17 +1,41 @@
 // Tokens on a lent slice of words: read one, lay one down after the others, change one, clear what stands past them.
 // `count` says how many tokens stand on the tape, and an index that is not below it reads and changes nothing.
+use crate::codes;
 use crate::token;
 use crate::token::Token;
 ghost use mathlib.Core.Path.{_≡_};
 ghost use lib.ListN.{length, replicate};
 ghost use lib.Dec.{leb, ltb};
-ghost use Rattle.tape.specs.Words.{words-for, room-of, token-in, put-words, put-in, written, push-words, insert-words, cleared};
+ghost use Rattle.tape.specs.Words.{words-for, capacity, room-of, token-in, put-words, put-in, written, push-words, insert-words, cleared};
 ghost use Rattle.tape.specs.Tape.{view, replace, lay, lay-mixed, after-push};
+
+// How many words a token has. Whoever lends words counts in this or asks `words_for` and `capacity`.
+pub const WORDS_PER_TOKEN: usize = 3;
+// A token's words after its first, which is its code.
+const A_WORD: usize = 1;
+
+const B_WORD: usize = 2;
+
+const LAST_WORD: usize = WORDS_PER_TOKEN - 1;
 
 // What laying down a token answers: the new count, or that there is no room.
 pub enum Pushed {
     Laid(u32),
     Full,
+}
+
+// How many words some tokens take.
+pub fn words_for(count: u32) -> usize
+    ensures { λ r. ⌜ r ≡ words-for count ⌝ }
+{
+    (count as usize) * WORDS_PER_TOKEN
+}
+
+// How many tokens some words have room for.
+pub fn capacity(words: &[u32]) -> usize
+    ensures { λ r. ⌜ r ≡ capacity (length (now (words .entry))) ⌝ }
+{
+    words.len() / WORDS_PER_TOKEN
 }
 
 // Token i of count, or the token of three zeros where there is none.
@@ -20,18 +44,18 @@ pub fn token_of(words: &[u32], count: usize, i: usize) -> Token
 {
     if i < count {
         if i < words.len() {
-            let at = i * 3;
-            if at + 2 < words.len() {
+            let at = i * WORDS_PER_TOKEN;
+            if at + LAST_WORD < words.len() {
                 return Token {
                     code: words[at],
-                    a: words[at + 1],
-                    b: words[at + 2],
+                    a: words[at + A_WORD],
+                    b: words[at + B_WORD],
                 };
             }
         }
     }
     Token {
-        code: 0,
+        code: codes::NO_TOKEN,
         a: 0,
         b: 0,
     }
@@ -48,18 +72,18 @@ pub fn token(tape: &[u32], count: u32, i: u32) -> Token
 pub fn holds(words: &[u32], count: usize) -> bool
     ensures { λ r. ⌜ r ≡ leb (words-for count) (length (now (words .entry))) ⌝ }
 {
-    count <= words.len() / 3
+    count <= words.len() / WORDS_PER_TOKEN
 }
 
 // Writes the words of token i, where they fit.
 fn put_words(tape: &mut [u32], i: u32, t: Token)
     ensures { λ r. ⌜ now (tape .exit) ≡ put-words (now (tape .entry)) i t ⌝ }
 {
-    let at = (i as usize) * 3;
-    if at + 2 < tape.len() {
+    let at = (i as usize) * WORDS_PER_TOKEN;
+    if at + LAST_WORD < tape.len() {
         tape[at] = t.code;
-        tape[at + 1] = t.a;
-        tape[at + 2] = t.b;
+        tape[at + A_WORD] = t.a;
+        tape[at + B_WORD] = t.b;
     }
 }
 
@@ -77,11 +101,11 @@ pub fn put(tape: &mut [u32], count: u32, i: u32, t: Token)
 fn has_room(tape: &[u32], count: u32) -> bool
     ensures { λ r. ⌜ r ≡ ltb count (room-of (now (tape .entry))) ⌝ }
 {
-    let at = (count as usize) * 3;
+    let at = (count as usize) * WORDS_PER_TOKEN;
     if count == u32::MAX {
         return false;
     }
-    at + 2 < tape.len()
+    at + LAST_WORD < tape.len()
 }
 
 // Lays a token down after count others.
@@ -128,13 +152,13 @@ fn zero_all(words: &mut [u32])
 pub fn clear_from(tape: &mut [u32], count: u32)
     ensures { λ r. ⌜ now (tape .exit) ≡ cleared (now (tape .entry)) count ⌝ }
 {
-    let whole = tape.len() / 3;
+    let whole = tape.len() / WORDS_PER_TOKEN;
     let laid = count as usize;
     if laid < whole {
-        let from = laid * 3;
+        let from = laid * WORDS_PER_TOKEN;
         zero_all(&mut tape[from..]);
         return;
     }
-    let from = whole * 3;
+    let from = whole * WORDS_PER_TOKEN;
     zero_all(&mut tape[from..]);
 }
