@@ -29,7 +29,8 @@ append-more out at (a ∷ xs) bs =
     (λ none. rw (append, none) (sym (append-stops out at bs none)))
 
 -- two puts in a row
-pub chain : (out : List ℕ) (at : ℕ) (xs bs : List ℕ) {r r′ : ℕ} {o o′ : List ℕ} → wrote r o ≡ append out at xs → wrote r′ o′ ≡ append o r bs
+pub chain : (out : List ℕ) (at : ℕ) (xs bs : List ℕ) {r r′ : ℕ} {o o′ : List ℕ}
+    → wrote r o ≡ append out at xs → wrote r′ o′ ≡ append o r bs
     → wrote r′ o′ ≡ append out at (xs ++ bs)
 chain out at xs bs e f = f ∙ ap (λ (w : Wrote). and-then w bs) e ∙ sym (append-more out at xs bs)
 
@@ -77,5 +78,6 @@ unfolding append
 left-none out bytes at i h = rw (drop-of-length-le bytes h)
 
 -- the same bytes by another name
-pub same-bytes : (out : List ℕ) (at : ℕ) (xs ys : List ℕ) {r : ℕ} {o : List ℕ} → wrote r o ≡ append out at xs → xs ≡ ys → wrote r o ≡ append out at ys
+pub same-bytes : (out : List ℕ) (at : ℕ) (xs ys : List ℕ) {r : ℕ} {o : List ℕ} → wrote r o ≡ append out at xs → xs ≡ ys
+    → wrote r o ≡ append out at ys
 same-bytes out at xs ys e f = e ∙ ap (append out at) f

@@ -68,7 +68,8 @@ unfolding hex
 hex-many k n h = ap (λ (j : ℕ). hex-by j n) {x = most-hex} {y = min k most-hex} (omega arith)
 
 -- a number below zero is a minus and its magnitude
-pub integer-negative : (n : ℤ) (m : ℕ) → SFits w64 n → ltZ (back n) (pos 0) ≡ true → m ≡ natAbs (back n) → minus ∷ [] ++ decimal m ≡ integer n
+pub integer-negative : (n : ℤ) (m : ℕ) → SFits w64 n → ltZ (back n) (pos 0) ≡ true → m ≡ natAbs (back n)
+    → minus ∷ [] ++ decimal m ≡ integer n
 integer-negative n m fits below e =
     let form = negative-form n fits below in
     ap (λ (k : ℕ). minus ∷ [] ++ decimal k) (e ∙ ap natAbs (toZ-ofZ w64 n fits ∙ form .1)) ∙ sym (ap integer (form .1))
@@ -79,4 +80,6 @@ plain (pos n) e = refl
 plain (negsuc n) e = absurd (false≢true (sym e))
 
 pub integer-plain : (n : ℤ) (m : ℕ) → SFits w64 n → ltZ (back n) (pos 0) ≡ false → m ≡ natAbs (back n) → decimal m ≡ integer n
-integer-plain n m fits above e = ap decimal (e ∙ ap natAbs (toZ-ofZ w64 n fits)) ∙ plain n (ap (λ (z : ℤ). ltZ z (pos 0)) (sym (toZ-ofZ w64 n fits)) ∙ above)
+integer-plain n m fits above e =
+    ap decimal (e ∙ ap natAbs (toZ-ofZ w64 n fits))
+    ∙ plain n (ap (λ (z : ℤ). ltZ z (pos 0)) (sym (toZ-ofZ w64 n fits)) ∙ above)

@@ -32,6 +32,7 @@ pub dump-tokens : (text ws : List ℕ) (len count : ℕ) (bom : Bool) (p : Parse
 unfolding dump-of lines-of
 dump-tokens text ws len count bom p e told = rw (dump-of, ← e, told)
 
-pub dump-refused : (text ws : List ℕ) (len : ℕ) (r : Refusal) (p : Parsed) → outcome p ws ≡ parse-of text len → p ≡ Refused r → refused-of r ≡ dump-of text len
+pub dump-refused : (text ws : List ℕ) (len : ℕ) (r : Refusal) (p : Parsed) → outcome p ws ≡ parse-of text len → p ≡ Refused r
+    → refused-of r ≡ dump-of text len
 unfolding dump-of lines-of
 dump-refused text ws len r p e told = rw (dump-of, ← e, told)

@@ -6,7 +6,8 @@ use lib.Dec.{eqb, ltb}
 use lib.ListN.{length}
 use Rattle.data.specs.Bytes.{space, line-feed}
 use Rattle.tape.specs.declared.token.Token.{Token}
-use Rattle.tape.specs.Token.{array-code, object-code, mixed-container-code, unquoted-code, quoted-code, parameter-code, undefined-parameter-code, operator-code, end-code, header-code}
+use Rattle.tape.specs.Token.{array-code, object-code, mixed-container-code, operator-code, end-code}
+use Rattle.tape.specs.Token.{unquoted-code, quoted-code, parameter-code, undefined-parameter-code, header-code}
 use Rattle.tape.specs.Words.{token-in}
 use Rattle.parse.specs.declared.Parsed.the-variants.{Tokens, Refused}
 use Rattle.parse.specs.declared.machine.Refusal.{Refusal}

@@ -20,8 +20,10 @@ pub fn put_check(
     words: &[u32],
     count: usize,
 ) -> usize
-    ensures sound { λ r. ⌜ (Sound «text_length» (now (words .entry)) count → wrote r (now (out .exit)) ≡ append (now (out .entry)) at (verdict true)) ⌝ }
-    ensures unsound { λ r. ⌜ ((Sound «text_length» (now (words .entry)) count → ⊥) → wrote r (now (out .exit)) ≡ append (now (out .entry)) at (verdict false)) ⌝ }
+    ensures sound { λ r. ⌜ (Sound «text_length» (now (words .entry)) count
+        → wrote r (now (out .exit)) ≡ append (now (out .entry)) at (verdict true)) ⌝ }
+    ensures unsound { λ r. ⌜ ((Sound «text_length» (now (words .entry)) count → ⊥)
+        → wrote r (now (out .exit)) ≡ append (now (out .entry)) at (verdict false)) ⌝ }
 {
     if sheet::check(text_length, words, count) {
         return put_bytes(out, at, b"sound\n");
@@ -51,7 +53,8 @@ pub fn put_view(
     count: usize,
     index: usize,
 ) -> usize
-    ensures { λ r. ⌜ wrote r (now (out .exit)) ≡ append (now (out .entry)) at (view-text (now (text .entry)) (viewed (length (now (text .entry))) (now (words .entry)) count index)) ⌝ }
+    ensures { λ r. ⌜ wrote r (now (out .exit)) ≡ append (now (out .entry)) at
+        (view-text (now (text .entry)) (viewed (length (now (text .entry))) (now (words .entry)) count index)) ⌝ }
 {
     let found = sheet::views::view_of(text, words, count, index);
     match found {

@@ -14,7 +14,10 @@ same-length c = search needs
 
 returns : tie.Need-returns
 unfolding save-of save-leaves
-returns c = (rw (save-of, lt-ltb _ _ (c .before .before .before .before .if1 .taken)) (c .before .before .put-over .ensures), rw (save-leaves, lt-ltb _ _ (c .before .before .before .before .if1 .taken)))
+returns c =
+    let at-put-over = c .before .before in
+    let longer = lt-ltb _ _ (at-put-over .before .before .if1 .taken) in
+    (rw (save-of, longer) (at-put-over .put-over .ensures), rw (save-leaves, longer))
 
 put-dump-requires : tie.Need-put-dump-requires
 put-dump-requires c κs = search needs
@@ -29,8 +32,8 @@ returns-2 : tie.Need-returns-2
 unfolding save-of save-leaves
 returns-2 c =
     let at-put-dump = c .before .before .before .before in
-    let at-if1 = at-put-dump .before .before .before in
-    (rw (save-of, le-ltb _ _ (at-if1 .if1 .left)) (at-put-dump .put-dump .ensures .0), rw (save-leaves, le-ltb _ _ (at-if1 .if1 .left)) (at-put-dump .put-dump .ensures .1))
+    let within = le-ltb _ _ (at-put-dump .before .before .before .if1 .left) in
+    (rw (save-of, within) (at-put-dump .put-dump .ensures .0), rw (save-leaves, within) (at-put-dump .put-dump .ensures .1))
 
 pub put-save-spec : {M : Type 1} → statement M
 put-save-spec =

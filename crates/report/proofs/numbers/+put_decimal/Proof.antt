@@ -77,7 +77,13 @@ put-decimal-returns : (t : ℕ) → put-decimal-lts.Need-returns (
   put-decimal-below t,
   put-decimal.Post,
 ) (put-decimal-at t) put-decimal.Post
-put-decimal-returns t c = same-bytes _ _ _ _ (c .before .before .put-byte .ensures) (ap (λ (g : ℕ). g ∷ []) (c .before .before .before .glyph .ensures) ∙ sym (decimal-one _ (c .before .before .before .before .before .if1 .taken)))
+put-decimal-returns t c =
+    let at-put-byte = c .before .before in
+    let at-glyph = at-put-byte .before in
+    let at-if1 = at-glyph .before .before in
+    same-bytes _ _ _ _
+    (at-put-byte .put-byte .ensures)
+    (ap (λ (g : ℕ). g ∷ []) (at-glyph .glyph .ensures) ∙ sym (decimal-one _ (at-if1 .if1 .taken)))
 
 put-decimal-put-decimal-requires : (t : ℕ) → put-decimal-lts.Need-put-decimal-requires (
   glyph-reads.Asked,

@@ -3,11 +3,12 @@
 use Rattle.report.specs.Readings.{bool-text}
 use Rattle.scalar.specs.Numbers.{bool-refusal-of}
 use Rattle.report.proofs.Append.{same-bytes}
+use Rattle.report.proofs.Refused.{refusal-put}
 use Rattle.data.specs.Bytes.{equals}
 use Rattle.report.specs.Digits.{decimal}
 use mathlib.Core.List.{[], _∷_, _++_}
 use Prim.Native.Nat.{ℕ}
-use mathlib.Core.Path.{sym, ap, _∙_}
+use mathlib.Core.Path.{refl, sym, ap, _∙_}
 use borrow.Author.Needs.{needs}
 use Rattle.report.proofs.readings.put_bool.Statement.{statement}
 use Rattle.report.proofs.readings.put_bool.Tie as tie
@@ -41,13 +42,20 @@ returns c =
     let at-put-value = c .before .before in
     let at-bit = at-put-value .before in
     let at-r = at-bit .before .before .before in
-    same-bytes _ _ _ _ (at-put-value .put-value .ensures) (ap (λ (n : ℕ). equals ∷ [] ++ decimal n) (at-bit .bit .ensures) ∙ sym (ap bool-text (at-r .r .given .1)))
+    same-bytes _ _ _ _
+    (at-put-value .put-value .ensures)
+    (ap (λ (n : ℕ). equals ∷ [] ++ decimal n) (at-bit .bit .ensures) ∙ sym (ap bool-text (at-r .r .given .1)))
 
 same-length-2 : tie.Need-same-length-2
 same-length-2 c = search needs
 
 returns-2 : tie.Need-returns-2
-returns-2 c = same-bytes _ _ _ _ (c .before .before .put-decimal .ensures) (ap decimal (c .before .before .before .bool-refusal .ensures ∙ ap bool-refusal-of (c .before .before .before .before .before .enum-told .given .1)) ∙ sym (ap bool-text (c .before .before .before .before .before .enum-told .given .1)))
+returns-2 c =
+    let at-put-decimal = c .before .before in
+    let at-refusal = at-put-decimal .before in
+    let at-told = at-refusal .before .before in
+    refusal-put bool-refusal-of bool-text _ _
+    (at-put-decimal .put-decimal .ensures) (at-refusal .bool-refusal .ensures) (at-told .enum-told .given .1) refl
 
 pub put-bool-spec : {M : Type 1} → statement M
 put-bool-spec =

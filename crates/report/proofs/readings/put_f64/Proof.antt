@@ -3,8 +3,9 @@
 use Rattle.report.specs.Readings.{f64-text}
 use Rattle.scalar.specs.Numbers.{f64-refusal-of}
 use Rattle.report.proofs.Append.{chain, same-bytes}
+use Rattle.report.proofs.Refused.{refusal-put}
 use Rattle.report.specs.Digits.{decimal, hex}
-use mathlib.Core.Path.{sym, ap, _∙_}
+use mathlib.Core.Path.{refl, sym, ap}
 use borrow.Author.Needs.{needs}
 use Rattle.report.proofs.readings.put_f64.Statement.{statement}
 use Rattle.report.proofs.readings.put_f64.Tie as tie
@@ -76,19 +77,31 @@ returns c =
     let at-put-byte = at-pattern .before .before .before .before in
     let at-r = at-put-byte .before .before .before in
     same-bytes _ _ _ _
-    (chain _ _ _ _ (at-put-byte .put-byte .ensures) (same-bytes _ _ _ _ (at-put-hex .put-hex .ensures) (ap (hex 16) (at-pattern .pattern .ensures)))) (sym (ap f64-text (at-r .r .given .1)))
+    (chain _ _ _ _
+    (at-put-byte .put-byte .ensures) (same-bytes _ _ _ _ (at-put-hex .put-hex .ensures) (ap (hex 16) (at-pattern .pattern .ensures))))
+    (sym (ap f64-text (at-r .r .given .1)))
 
 same-length-2 : tie.Need-same-length-2
 same-length-2 c = search needs
 
 returns-2 : tie.Need-returns-2
-returns-2 c = same-bytes _ _ _ _ (c .before .before .put-decimal .ensures) (ap decimal (c .before .before .before .f64-refusal .ensures ∙ ap f64-refusal-of (c .before .before .before .before .before .enum-told .given .1)) ∙ sym (ap f64-text (c .before .before .before .before .before .enum-told .given .1)))
+returns-2 c =
+    let at-put-decimal = c .before .before in
+    let at-refusal = at-put-decimal .before in
+    let at-told = at-refusal .before .before in
+    refusal-put f64-refusal-of f64-text _ _
+    (at-put-decimal .put-decimal .ensures) (at-refusal .f64-refusal .ensures) (at-told .enum-told .given .1) refl
 
 same-length-3 : tie.Need-same-length-3
 same-length-3 c = search needs
 
 returns-3 : tie.Need-returns-3
-returns-3 c = same-bytes _ _ _ _ (c .before .before .put-decimal2 .ensures) (ap decimal (c .before .before .before .f64-refusal2 .ensures ∙ ap f64-refusal-of (c .before .before .before .before .before .enum-told2 .given .1)) ∙ sym (ap f64-text (c .before .before .before .before .before .enum-told2 .given .1)))
+returns-3 c =
+    let at-put-decimal = c .before .before in
+    let at-refusal = at-put-decimal .before in
+    let at-told = at-refusal .before .before in
+    refusal-put f64-refusal-of f64-text _ _
+    (at-put-decimal .put-decimal2 .ensures) (at-refusal .f64-refusal2 .ensures) (at-told .enum-told2 .given .1) refl
 
 same-length-4 : tie.Need-same-length-4
 same-length-4 c = search needs
@@ -103,7 +116,9 @@ returns-4 c =
     let at-r2 = at-f64-refusal3 .before .before .before in
     same-bytes _ _ _ _
     (chain _ _ _ _
-    (chain _ _ _ _ (same-bytes _ _ _ _ (at-put-decimal3 .put-decimal3 .ensures) (ap decimal (at-f64-refusal3 .f64-refusal3 .ensures))) (at-put-byte2 .put-byte2 .ensures))
+    (chain _ _ _ _
+    (same-bytes _ _ _ _ (at-put-decimal3 .put-decimal3 .ensures) (ap decimal (at-f64-refusal3 .f64-refusal3 .ensures)))
+    (at-put-byte2 .put-byte2 .ensures))
     (same-bytes _ _ _ _ (at-put-hex2 .put-hex2 .ensures) (ap (hex 16) (at-pattern2 .pattern2 .ensures))))
     (sym (ap f64-text (at-r2 .r2 .given .1)))
 

@@ -1,12 +1,12 @@
-use mir.ValLaws.{toZ-ofZ}
-use mir.Syntax.{w64}
 -- `report::readings::put_i64` meets its contract, by what the reading answers.
 -- Assumes nothing.
+use mir.ValLaws.{toZ-ofZ}
+use mir.Syntax.{w64}
 use Rattle.report.specs.Readings.{integer, i64-text}
 use Rattle.scalar.specs.Numbers.{i64-refusal-of}
 use Rattle.report.proofs.Append.{chain, same-bytes}
-use Rattle.report.specs.Digits.{decimal}
-use mathlib.Core.Path.{sym, ap, _∙_}
+use Rattle.report.proofs.Refused.{refusal-put}
+use mathlib.Core.Path.{refl, sym, ap}
 use borrow.Author.Needs.{needs}
 use Rattle.report.proofs.readings.put_i64.Statement.{statement}
 use Rattle.report.proofs.readings.put_i64.Tie as tie
@@ -53,20 +53,32 @@ returns c =
     let at-put-byte = at-put-integer .before .before .before .before in
     let at-known-told = at-put-byte .before .before in
     let at-r = at-known-told .before in
+    let fits = toZ-ofZ w64 (at-r .r .given .0 .0) (record { sfits = at-known-told .known-told .given .0 .1 }) in
     same-bytes _ _ _ _
-    (chain _ _ _ _ (at-put-byte .put-byte .ensures) (same-bytes _ _ _ _ (at-put-integer .put-integer .ensures) (ap integer (toZ-ofZ w64 (at-r .r .given .0 .0) (record { sfits = at-known-told .known-told .given .0 .1 }))))) (sym (ap i64-text (at-r .r .given .1)))
+    (chain _ _ _ _ (at-put-byte .put-byte .ensures) (same-bytes _ _ _ _ (at-put-integer .put-integer .ensures) (ap integer fits)))
+    (sym (ap i64-text (at-r .r .given .1)))
 
 same-length-2 : tie.Need-same-length-2
 same-length-2 c = search needs
 
 returns-2 : tie.Need-returns-2
-returns-2 c = same-bytes _ _ _ _ (c .before .before .put-decimal .ensures) (ap decimal (c .before .before .before .i64-refusal .ensures ∙ ap i64-refusal-of (c .before .before .before .before .before .enum-told .given .1)) ∙ sym (ap i64-text (c .before .before .before .before .before .enum-told .given .1)))
+returns-2 c =
+    let at-put-decimal = c .before .before in
+    let at-refusal = at-put-decimal .before in
+    let at-told = at-refusal .before .before in
+    refusal-put i64-refusal-of i64-text _ _
+    (at-put-decimal .put-decimal .ensures) (at-refusal .i64-refusal .ensures) (at-told .enum-told .given .1) refl
 
 same-length-3 : tie.Need-same-length-3
 same-length-3 c = search needs
 
 returns-3 : tie.Need-returns-3
-returns-3 c = same-bytes _ _ _ _ (c .before .before .put-decimal2 .ensures) (ap decimal (c .before .before .before .i64-refusal2 .ensures ∙ ap i64-refusal-of (c .before .before .before .before .before .enum-told2 .given .1)) ∙ sym (ap i64-text (c .before .before .before .before .before .enum-told2 .given .1)))
+returns-3 c =
+    let at-put-decimal = c .before .before in
+    let at-refusal = at-put-decimal .before in
+    let at-told = at-refusal .before .before in
+    refusal-put i64-refusal-of i64-text _ _
+    (at-put-decimal .put-decimal2 .ensures) (at-refusal .i64-refusal2 .ensures) (at-told .enum-told2 .given .1) refl
 
 pub put-i64-spec : {M : Type 1} → statement M
 put-i64-spec =

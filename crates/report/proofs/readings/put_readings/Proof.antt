@@ -60,7 +60,10 @@ returns c =
     (chain _ _ _ _
     (chain _ _ _ _ (at-put-exact .put-exact .ensures) (at-put-byte .put-byte .ensures))
     (same-bytes _ _ _ _ (at-put-f64 .put-f64 .ensures) (ap f64-text (at-to-f64 .to-f64 .ensures)))) (at-put-byte2 .put-byte2 .ensures))
-    (same-bytes _ _ _ _ (at-put-decimal .put-decimal .ensures) (ap decimal (at-kind-number .kind-number .ensures ∙ ap kind-number-of (at-kind .kind .ensures))))) (at-put-byte3 .put-byte3 .ensures)
+    (same-bytes _ _ _ _
+    (at-put-decimal .put-decimal .ensures)
+    (ap decimal (at-kind-number .kind-number .ensures ∙ ap kind-number-of (at-kind .kind .ensures)))))
+    (at-put-byte3 .put-byte3 .ensures)
 
 pub put-readings-spec : {M : Type 1} → statement M
 put-readings-spec =

@@ -3,8 +3,8 @@
 use Rattle.report.specs.Readings.{u64-text}
 use Rattle.scalar.specs.Numbers.{u64-refusal-of}
 use Rattle.report.proofs.Append.{same-bytes}
-use Rattle.report.specs.Digits.{decimal}
-use mathlib.Core.Path.{sym, ap, _∙_}
+use Rattle.report.proofs.Refused.{refusal-put}
+use mathlib.Core.Path.{refl, sym, ap}
 use borrow.Author.Needs.{needs}
 use Rattle.report.proofs.readings.put_u64.Statement.{statement}
 use Rattle.report.proofs.readings.put_u64.Tie as tie
@@ -43,19 +43,32 @@ same-length : tie.Need-same-length
 same-length c = search needs
 
 returns : tie.Need-returns
-returns c = same-bytes _ _ _ _ (c .before .before .put-value .ensures) (sym (ap u64-text (c .before .before .before .before .before .r .given .1)))
+returns c =
+    let at-put-value = c .before .before in
+    let at-r = at-put-value .before .before .before in
+    same-bytes _ _ _ _ (at-put-value .put-value .ensures) (sym (ap u64-text (at-r .r .given .1)))
 
 same-length-2 : tie.Need-same-length-2
 same-length-2 c = search needs
 
 returns-2 : tie.Need-returns-2
-returns-2 c = same-bytes _ _ _ _ (c .before .before .put-decimal .ensures) (ap decimal (c .before .before .before .u64-refusal .ensures ∙ ap u64-refusal-of (c .before .before .before .before .before .enum-told .given .1)) ∙ sym (ap u64-text (c .before .before .before .before .before .enum-told .given .1)))
+returns-2 c =
+    let at-put-decimal = c .before .before in
+    let at-refusal = at-put-decimal .before in
+    let at-told = at-refusal .before .before in
+    refusal-put u64-refusal-of u64-text _ _
+    (at-put-decimal .put-decimal .ensures) (at-refusal .u64-refusal .ensures) (at-told .enum-told .given .1) refl
 
 same-length-3 : tie.Need-same-length-3
 same-length-3 c = search needs
 
 returns-3 : tie.Need-returns-3
-returns-3 c = same-bytes _ _ _ _ (c .before .before .put-decimal2 .ensures) (ap decimal (c .before .before .before .u64-refusal2 .ensures ∙ ap u64-refusal-of (c .before .before .before .before .before .enum-told2 .given .1)) ∙ sym (ap u64-text (c .before .before .before .before .before .enum-told2 .given .1)))
+returns-3 c =
+    let at-put-decimal = c .before .before in
+    let at-refusal = at-put-decimal .before in
+    let at-told = at-refusal .before .before in
+    refusal-put u64-refusal-of u64-text _ _
+    (at-put-decimal .put-decimal2 .ensures) (at-refusal .u64-refusal2 .ensures) (at-told .enum-told2 .given .1) refl
 
 pub put-u64-spec : {M : Type 1} → statement M
 put-u64-spec =

@@ -52,13 +52,35 @@ same-length : tie.Need-same-length
 same-length c = search needs
 
 returns : tie.Need-returns
-returns c = same-bytes _ _ _ _ (chain _ _ _ _ (chain _ _ _ _ (c .before .before .before .before .before .before .before .before .before .before .before .put-bytes .ensures) (c .before .before .before .before .before .before .put-hex-bytes .ensures)) (c .before .before .put-byte .ensures)) (view-shown _ _ _ _ _ _ (c .before .before .before .before .before .before .before .before .before .before .before .before .before .before .before .before .view-of .ensures) (c .before .before .before .before .before .before .before .before .before .before .before .before .before .before .enum-told .given .1) (c .before .before .before .before .before .before .before .view .ensures))
+returns c =
+    let at-put-byte = c .before .before in
+    let at-put-hex-bytes = at-put-byte .before .before .before .before in
+    let at-view = at-put-hex-bytes .before in
+    let at-put-bytes = at-view .before .before .before .before in
+    let at-told = at-put-bytes .before .before .before in
+    let at-view-of = at-told .before .before in
+    same-bytes _ _ _ _
+    (chain _ _ _ _
+    (chain _ _ _ _ (at-put-bytes .put-bytes .ensures) (at-put-hex-bytes .put-hex-bytes .ensures))
+    (at-put-byte .put-byte .ensures))
+    (view-shown _ _ _ _ _ _ (at-view-of .view-of .ensures) (at-told .enum-told .given .1) (at-view .view .ensures))
 
 same-length-2 : tie.Need-same-length-2
 same-length-2 c = search needs
 
 returns-2 : tie.Need-returns-2
-returns-2 c = same-bytes _ _ _ _ (chain _ _ _ _ (chain _ _ _ _ (c .before .before .before .before .before .before .before .before .before .before .before .put-bytes2 .ensures) (c .before .before .before .before .before .before .put-decimal .ensures)) (c .before .before .put-byte2 .ensures)) (view-refused _ _ _ _ (c .before .before .before .before .before .before .before .before .before .before .before .before .before .before .before .before .view-of .ensures) (c .before .before .before .before .before .before .before .before .before .before .before .before .before .before .enum-told2 .given .1) (c .before .before .before .before .before .before .before .refusal .ensures))
+returns-2 c =
+    let at-put-byte = c .before .before in
+    let at-put-decimal = at-put-byte .before .before .before .before in
+    let at-refusal = at-put-decimal .before in
+    let at-put-bytes = at-refusal .before .before .before .before in
+    let at-told = at-put-bytes .before .before .before in
+    let at-view-of = at-told .before .before in
+    same-bytes _ _ _ _
+    (chain _ _ _ _
+    (chain _ _ _ _ (at-put-bytes .put-bytes2 .ensures) (at-put-decimal .put-decimal .ensures))
+    (at-put-byte .put-byte2 .ensures))
+    (view-refused _ _ _ _ (at-view-of .view-of .ensures) (at-told .enum-told2 .given .1) (at-refusal .refusal .ensures))
 
 pub put-view-spec : {M : Type 1} → statement M
 put-view-spec =

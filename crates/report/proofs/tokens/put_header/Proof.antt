@@ -48,7 +48,9 @@ returns c =
     (chain _ _ _ _
     (chain _ _ _ _
     (chain _ _ _ _ (at-put-bytes .put-bytes .ensures) (at-put-decimal .put-decimal .ensures))
-    (at-put-bytes2 .put-bytes2 .ensures)) (same-bytes _ _ _ _ (at-put-decimal2 .put-decimal2 .ensures) (ap decimal (at-bit .bit .ensures)))) (at-put-byte .put-byte .ensures)
+    (at-put-bytes2 .put-bytes2 .ensures))
+    (same-bytes _ _ _ _ (at-put-decimal2 .put-decimal2 .ensures) (ap decimal (at-bit .bit .ensures))))
+    (at-put-byte .put-byte .ensures)
 
 pub put-header-spec : {M : Type 1} → statement M
 put-header-spec =

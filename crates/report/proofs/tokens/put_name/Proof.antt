@@ -18,7 +18,10 @@ same-length c = search needs
 
 returns : tie.Need-returns
 unfolding name-of named
-returns c = rw (name-of, named, eq-eqb _ _ (c .before .before .before .before .before .if1 .taken)) (c .before .before .put-bytes .ensures)
+returns c =
+    let at-put-bytes = c .before .before in
+    let at-if1 = at-put-bytes .before .before .before in
+    rw (name-of, named, eq-eqb _ _ (at-if1 .if1 .taken)) (at-put-bytes .put-bytes .ensures)
 
 slice-aggregate-put-bytes-2 : tie.Need-slice-aggregate-put-bytes-2
 slice-aggregate-put-bytes-2 c = search needs
@@ -32,10 +35,10 @@ same-length-2 c = search needs
 returns-2 : tie.Need-returns-2
 unfolding name-of named
 returns-2 c =
-    let at-put-bytes2 = c .before .before in
-    let at-if2 = at-put-bytes2 .before .before .before in
+    let at-put-bytes = c .before .before in
+    let at-if2 = at-put-bytes .before .before .before in
     let at-if1 = at-if2 .before in
-    rw (name-of, named, ne-eqb _ _ (at-if1 .if1 .left), eq-eqb _ _ (at-if2 .if2 .taken)) (at-put-bytes2 .put-bytes2 .ensures)
+    rw (name-of, named, ne-eqb _ _ (at-if1 .if1 .left), eq-eqb _ _ (at-if2 .if2 .taken)) (at-put-bytes .put-bytes2 .ensures)
 
 slice-aggregate-put-bytes-3 : tie.Need-slice-aggregate-put-bytes-3
 slice-aggregate-put-bytes-3 c = search needs
@@ -49,11 +52,17 @@ same-length-3 c = search needs
 returns-3 : tie.Need-returns-3
 unfolding name-of named
 returns-3 c =
-    let at-put-bytes3 = c .before .before in
-    let at-if3 = at-put-bytes3 .before .before .before in
+    let at-put-bytes = c .before .before in
+    let at-if3 = at-put-bytes .before .before .before in
     let at-if2 = at-if3 .before in
     let at-if1 = at-if2 .before in
-    rw (name-of, named, ne-eqb _ _ (at-if1 .if1 .left), ne-eqb _ _ (at-if2 .if2 .left), eq-eqb _ _ (at-if3 .if3 .taken)) (at-put-bytes3 .put-bytes3 .ensures)
+    rw (
+      name-of,
+      named,
+      ne-eqb _ _ (at-if1 .if1 .left),
+      ne-eqb _ _ (at-if2 .if2 .left),
+      eq-eqb _ _ (at-if3 .if3 .taken),
+    ) (at-put-bytes .put-bytes3 .ensures)
 
 slice-aggregate-put-bytes-4 : tie.Need-slice-aggregate-put-bytes-4
 slice-aggregate-put-bytes-4 c = search needs
@@ -67,12 +76,19 @@ same-length-4 c = search needs
 returns-4 : tie.Need-returns-4
 unfolding name-of named
 returns-4 c =
-    let at-put-bytes4 = c .before .before in
-    let at-if4 = at-put-bytes4 .before .before .before in
+    let at-put-bytes = c .before .before in
+    let at-if4 = at-put-bytes .before .before .before in
     let at-if3 = at-if4 .before in
     let at-if2 = at-if3 .before in
     let at-if1 = at-if2 .before in
-    rw (name-of, named, ne-eqb _ _ (at-if1 .if1 .left), ne-eqb _ _ (at-if2 .if2 .left), ne-eqb _ _ (at-if3 .if3 .left), eq-eqb _ _ (at-if4 .if4 .taken)) (at-put-bytes4 .put-bytes4 .ensures)
+    rw (
+      name-of,
+      named,
+      ne-eqb _ _ (at-if1 .if1 .left),
+      ne-eqb _ _ (at-if2 .if2 .left),
+      ne-eqb _ _ (at-if3 .if3 .left),
+      eq-eqb _ _ (at-if4 .if4 .taken),
+    ) (at-put-bytes .put-bytes4 .ensures)
 
 slice-aggregate-put-bytes-5 : tie.Need-slice-aggregate-put-bytes-5
 slice-aggregate-put-bytes-5 c = search needs
@@ -86,13 +102,21 @@ same-length-5 c = search needs
 returns-5 : tie.Need-returns-5
 unfolding name-of named
 returns-5 c =
-    let at-put-bytes5 = c .before .before in
-    let at-if5 = at-put-bytes5 .before .before .before in
+    let at-put-bytes = c .before .before in
+    let at-if5 = at-put-bytes .before .before .before in
     let at-if4 = at-if5 .before in
     let at-if3 = at-if4 .before in
     let at-if2 = at-if3 .before in
     let at-if1 = at-if2 .before in
-    rw (name-of, named, ne-eqb _ _ (at-if1 .if1 .left), ne-eqb _ _ (at-if2 .if2 .left), ne-eqb _ _ (at-if3 .if3 .left), ne-eqb _ _ (at-if4 .if4 .left), eq-eqb _ _ (at-if5 .if5 .taken)) (at-put-bytes5 .put-bytes5 .ensures)
+    rw (
+      name-of,
+      named,
+      ne-eqb _ _ (at-if1 .if1 .left),
+      ne-eqb _ _ (at-if2 .if2 .left),
+      ne-eqb _ _ (at-if3 .if3 .left),
+      ne-eqb _ _ (at-if4 .if4 .left),
+      eq-eqb _ _ (at-if5 .if5 .taken),
+    ) (at-put-bytes .put-bytes5 .ensures)
 
 slice-aggregate-put-bytes-6 : tie.Need-slice-aggregate-put-bytes-6
 slice-aggregate-put-bytes-6 c = search needs
@@ -106,14 +130,23 @@ same-length-6 c = search needs
 returns-6 : tie.Need-returns-6
 unfolding name-of named
 returns-6 c =
-    let at-put-bytes6 = c .before .before in
-    let at-if6 = at-put-bytes6 .before .before .before in
+    let at-put-bytes = c .before .before in
+    let at-if6 = at-put-bytes .before .before .before in
     let at-if5 = at-if6 .before in
     let at-if4 = at-if5 .before in
     let at-if3 = at-if4 .before in
     let at-if2 = at-if3 .before in
     let at-if1 = at-if2 .before in
-    rw (name-of, named, ne-eqb _ _ (at-if1 .if1 .left), ne-eqb _ _ (at-if2 .if2 .left), ne-eqb _ _ (at-if3 .if3 .left), ne-eqb _ _ (at-if4 .if4 .left), ne-eqb _ _ (at-if5 .if5 .left), eq-eqb _ _ (at-if6 .if6 .taken)) (at-put-bytes6 .put-bytes6 .ensures)
+    rw (
+      name-of,
+      named,
+      ne-eqb _ _ (at-if1 .if1 .left),
+      ne-eqb _ _ (at-if2 .if2 .left),
+      ne-eqb _ _ (at-if3 .if3 .left),
+      ne-eqb _ _ (at-if4 .if4 .left),
+      ne-eqb _ _ (at-if5 .if5 .left),
+      eq-eqb _ _ (at-if6 .if6 .taken),
+    ) (at-put-bytes .put-bytes6 .ensures)
 
 slice-aggregate-put-bytes-7 : tie.Need-slice-aggregate-put-bytes-7
 slice-aggregate-put-bytes-7 c = search needs
@@ -127,15 +160,25 @@ same-length-7 c = search needs
 returns-7 : tie.Need-returns-7
 unfolding name-of named
 returns-7 c =
-    let at-put-bytes7 = c .before .before in
-    let at-if7 = at-put-bytes7 .before .before .before in
+    let at-put-bytes = c .before .before in
+    let at-if7 = at-put-bytes .before .before .before in
     let at-if6 = at-if7 .before in
     let at-if5 = at-if6 .before in
     let at-if4 = at-if5 .before in
     let at-if3 = at-if4 .before in
     let at-if2 = at-if3 .before in
     let at-if1 = at-if2 .before in
-    rw (name-of, named, ne-eqb _ _ (at-if1 .if1 .left), ne-eqb _ _ (at-if2 .if2 .left), ne-eqb _ _ (at-if3 .if3 .left), ne-eqb _ _ (at-if4 .if4 .left), ne-eqb _ _ (at-if5 .if5 .left), ne-eqb _ _ (at-if6 .if6 .left), eq-eqb _ _ (at-if7 .if7 .taken)) (at-put-bytes7 .put-bytes7 .ensures)
+    rw (
+      name-of,
+      named,
+      ne-eqb _ _ (at-if1 .if1 .left),
+      ne-eqb _ _ (at-if2 .if2 .left),
+      ne-eqb _ _ (at-if3 .if3 .left),
+      ne-eqb _ _ (at-if4 .if4 .left),
+      ne-eqb _ _ (at-if5 .if5 .left),
+      ne-eqb _ _ (at-if6 .if6 .left),
+      eq-eqb _ _ (at-if7 .if7 .taken),
+    ) (at-put-bytes .put-bytes7 .ensures)
 
 slice-aggregate-put-bytes-8 : tie.Need-slice-aggregate-put-bytes-8
 slice-aggregate-put-bytes-8 c = search needs
@@ -149,8 +192,8 @@ same-length-8 c = search needs
 returns-8 : tie.Need-returns-8
 unfolding name-of named
 returns-8 c =
-    let at-put-bytes8 = c .before .before in
-    let at-if8 = at-put-bytes8 .before .before .before in
+    let at-put-bytes = c .before .before in
+    let at-if8 = at-put-bytes .before .before .before in
     let at-if7 = at-if8 .before in
     let at-if6 = at-if7 .before in
     let at-if5 = at-if6 .before in
@@ -158,7 +201,18 @@ returns-8 c =
     let at-if3 = at-if4 .before in
     let at-if2 = at-if3 .before in
     let at-if1 = at-if2 .before in
-    rw (name-of, named, ne-eqb _ _ (at-if1 .if1 .left), ne-eqb _ _ (at-if2 .if2 .left), ne-eqb _ _ (at-if3 .if3 .left), ne-eqb _ _ (at-if4 .if4 .left), ne-eqb _ _ (at-if5 .if5 .left), ne-eqb _ _ (at-if6 .if6 .left), ne-eqb _ _ (at-if7 .if7 .left), eq-eqb _ _ (at-if8 .if8 .taken)) (at-put-bytes8 .put-bytes8 .ensures)
+    rw (
+      name-of,
+      named,
+      ne-eqb _ _ (at-if1 .if1 .left),
+      ne-eqb _ _ (at-if2 .if2 .left),
+      ne-eqb _ _ (at-if3 .if3 .left),
+      ne-eqb _ _ (at-if4 .if4 .left),
+      ne-eqb _ _ (at-if5 .if5 .left),
+      ne-eqb _ _ (at-if6 .if6 .left),
+      ne-eqb _ _ (at-if7 .if7 .left),
+      eq-eqb _ _ (at-if8 .if8 .taken),
+    ) (at-put-bytes .put-bytes8 .ensures)
 
 slice-aggregate-put-bytes-9 : tie.Need-slice-aggregate-put-bytes-9
 slice-aggregate-put-bytes-9 c = search needs
@@ -172,8 +226,8 @@ same-length-9 c = search needs
 returns-9 : tie.Need-returns-9
 unfolding name-of named
 returns-9 c =
-    let at-put-bytes9 = c .before .before in
-    let at-if9 = at-put-bytes9 .before .before .before in
+    let at-put-bytes = c .before .before in
+    let at-if9 = at-put-bytes .before .before .before in
     let at-if8 = at-if9 .before in
     let at-if7 = at-if8 .before in
     let at-if6 = at-if7 .before in
@@ -182,7 +236,19 @@ returns-9 c =
     let at-if3 = at-if4 .before in
     let at-if2 = at-if3 .before in
     let at-if1 = at-if2 .before in
-    rw (name-of, named, ne-eqb _ _ (at-if1 .if1 .left), ne-eqb _ _ (at-if2 .if2 .left), ne-eqb _ _ (at-if3 .if3 .left), ne-eqb _ _ (at-if4 .if4 .left), ne-eqb _ _ (at-if5 .if5 .left), ne-eqb _ _ (at-if6 .if6 .left), ne-eqb _ _ (at-if7 .if7 .left), ne-eqb _ _ (at-if8 .if8 .left), eq-eqb _ _ (at-if9 .if9 .taken)) (at-put-bytes9 .put-bytes9 .ensures)
+    rw (
+      name-of,
+      named,
+      ne-eqb _ _ (at-if1 .if1 .left),
+      ne-eqb _ _ (at-if2 .if2 .left),
+      ne-eqb _ _ (at-if3 .if3 .left),
+      ne-eqb _ _ (at-if4 .if4 .left),
+      ne-eqb _ _ (at-if5 .if5 .left),
+      ne-eqb _ _ (at-if6 .if6 .left),
+      ne-eqb _ _ (at-if7 .if7 .left),
+      ne-eqb _ _ (at-if8 .if8 .left),
+      eq-eqb _ _ (at-if9 .if9 .taken),
+    ) (at-put-bytes .put-bytes9 .ensures)
 
 slice-aggregate-put-bytes-10 : tie.Need-slice-aggregate-put-bytes-10
 slice-aggregate-put-bytes-10 c = search needs
@@ -196,8 +262,8 @@ same-length-10 c = search needs
 returns-10 : tie.Need-returns-10
 unfolding name-of named
 returns-10 c =
-    let at-put-bytes10 = c .before .before in
-    let at-if10 = at-put-bytes10 .before .before .before in
+    let at-put-bytes = c .before .before in
+    let at-if10 = at-put-bytes .before .before .before in
     let at-if9 = at-if10 .before in
     let at-if8 = at-if9 .before in
     let at-if7 = at-if8 .before in
@@ -207,12 +273,27 @@ returns-10 c =
     let at-if3 = at-if4 .before in
     let at-if2 = at-if3 .before in
     let at-if1 = at-if2 .before in
-    rw (name-of, named, ne-eqb _ _ (at-if1 .if1 .left), ne-eqb _ _ (at-if2 .if2 .left), ne-eqb _ _ (at-if3 .if3 .left), ne-eqb _ _ (at-if4 .if4 .left), ne-eqb _ _ (at-if5 .if5 .left), ne-eqb _ _ (at-if6 .if6 .left), ne-eqb _ _ (at-if7 .if7 .left), ne-eqb _ _ (at-if8 .if8 .left), ne-eqb _ _ (at-if9 .if9 .left), eq-eqb _ _ (at-if10 .if10 .taken)) (at-put-bytes10 .put-bytes10 .ensures)
+    rw (
+      name-of,
+      named,
+      ne-eqb _ _ (at-if1 .if1 .left),
+      ne-eqb _ _ (at-if2 .if2 .left),
+      ne-eqb _ _ (at-if3 .if3 .left),
+      ne-eqb _ _ (at-if4 .if4 .left),
+      ne-eqb _ _ (at-if5 .if5 .left),
+      ne-eqb _ _ (at-if6 .if6 .left),
+      ne-eqb _ _ (at-if7 .if7 .left),
+      ne-eqb _ _ (at-if8 .if8 .left),
+      ne-eqb _ _ (at-if9 .if9 .left),
+      eq-eqb _ _ (at-if10 .if10 .taken),
+    ) (at-put-bytes .put-bytes10 .ensures)
 
 returns-11 : tie.Need-returns-11
 unfolding name-of named
 returns-11 c =
-    let at-if8 = c .before .before in
+    let at-if10 = c in
+    let at-if9 = at-if10 .before in
+    let at-if8 = at-if9 .before in
     let at-if7 = at-if8 .before in
     let at-if6 = at-if7 .before in
     let at-if5 = at-if6 .before in
@@ -220,7 +301,20 @@ returns-11 c =
     let at-if3 = at-if4 .before in
     let at-if2 = at-if3 .before in
     let at-if1 = at-if2 .before in
-    rw (name-of, named, ne-eqb _ _ (at-if1 .if1 .left), ne-eqb _ _ (at-if2 .if2 .left), ne-eqb _ _ (at-if3 .if3 .left), ne-eqb _ _ (at-if4 .if4 .left), ne-eqb _ _ (at-if5 .if5 .left), ne-eqb _ _ (at-if6 .if6 .left), ne-eqb _ _ (at-if7 .if7 .left), ne-eqb _ _ (at-if8 .if8 .left), ne-eqb _ _ (c .before .if9 .left), ne-eqb _ _ (c .if10 .left)) (put-empty _ _)
+    rw (
+      name-of,
+      named,
+      ne-eqb _ _ (at-if1 .if1 .left),
+      ne-eqb _ _ (at-if2 .if2 .left),
+      ne-eqb _ _ (at-if3 .if3 .left),
+      ne-eqb _ _ (at-if4 .if4 .left),
+      ne-eqb _ _ (at-if5 .if5 .left),
+      ne-eqb _ _ (at-if6 .if6 .left),
+      ne-eqb _ _ (at-if7 .if7 .left),
+      ne-eqb _ _ (at-if8 .if8 .left),
+      ne-eqb _ _ (at-if9 .if9 .left),
+      ne-eqb _ _ (at-if10 .if10 .left),
+    ) (put-empty _ _)
 
 pub put-name-spec : {M : Type 1} → statement M
 put-name-spec =

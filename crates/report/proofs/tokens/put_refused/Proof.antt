@@ -46,7 +46,11 @@ returns c =
     let at-number = at-place .before in
     chain _ _ _ _
     (chain _ _ _ _
-    (chain _ _ _ _ (at-put-bytes .put-bytes .ensures) (same-bytes _ _ _ _ (at-put-decimal .put-decimal .ensures) (ap decimal (at-number .number .ensures)))) (same-bytes _ _ _ _ (at-put-field .put-field .ensures) (ap field (at-place .place .ensures)))) (at-put-byte .put-byte .ensures)
+    (chain _ _ _ _
+    (at-put-bytes .put-bytes .ensures)
+    (same-bytes _ _ _ _ (at-put-decimal .put-decimal .ensures) (ap decimal (at-number .number .ensures))))
+    (same-bytes _ _ _ _ (at-put-field .put-field .ensures) (ap field (at-place .place .ensures))))
+    (at-put-byte .put-byte .ensures)
 
 pub put-refused-spec : {M : Type 1} → statement M
 put-refused-spec =

@@ -42,7 +42,10 @@ loop-again c =
     let at-loop = at-loop-test .before in (
       search needs,
       search needs,
-      sym (put-on _ _ _ _ _ (lines-on _ _ _ (at-loop-test .loop-test .taken)) (same-bytes _ _ _ _ (at-put-token .put-token .ensures) (ap (line-of _) (at-token .token .ensures))))
+      sym
+          (put-on _ _ _ _ _
+          (lines-on _ _ _ (at-loop-test .loop-test .taken))
+          (same-bytes _ _ _ _ (at-put-token .put-token .ensures) (ap (line-of _) (at-token .token .ensures))))
           ∙ at-loop .loop .inv .2,
     )
 
