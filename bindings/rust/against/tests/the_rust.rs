@@ -1,0 +1,204 @@
+//! The crate beside the Rust's own types, on the records of the comparison: every token and its place in
+//! the text, every reading bit for bit, every refusal by number and place, every sheet and view.
+//! `SEED` and `CASES` choose others than are tried by themselves.
+
+use compare::generate::Generator;
+use compare::record::Question;
+use compare::rng::Rng;
+use compare::{oracle, texts};
+use std::env;
+use tackacorn::sheet::{self, Sheet};
+use tackacorn::{Scalar, ScalarError, TextTape, TextToken};
+
+fn number(name: &str, default: u64) -> u64 {
+    env::var(name).map_or(default, |word| word.parse().expect("a number"))
+}
+
+fn shown(bytes: &[u8]) -> String {
+    String::from_utf8_lossy(&bytes[..bytes.len().min(400)]).into_owned()
+}
+
+// ---- scalars ----
+
+/// Whether both have the same answer, a float by its bits.
+fn same_answer<T>(
+    ours: Result<T, ScalarError>,
+    theirs: Result<T, jomini::ScalarError>,
+    bits: impl Fn(T) -> u64,
+) -> bool {
+    use jomini::ScalarError as Theirs;
+    match (ours, theirs) {
+        (Ok(ours), Ok(theirs)) => bits(ours) == bits(theirs),
+        (Err(ScalarError::PrecisionLoss(ours)), Err(Theirs::PrecisionLoss(theirs))) => {
+            ours.to_bits() == theirs.to_bits()
+        }
+        (Err(ours), Err(theirs)) => {
+            ours.to_string() == theirs.to_string()
+                && ours.number() == u32::from(oracle::scalar_number(&theirs))
+        }
+        _ => false,
+    }
+}
+
+fn same_readings(bytes: &[u8]) {
+    let (ours, theirs) = (Scalar::new(bytes), jomini::Scalar::new(bytes));
+    let same = same_answer(ours.to_bool(), theirs.to_bool(), u64::from)
+        && same_answer(ours.to_u64(), theirs.to_u64(), |value| value)
+        && same_answer(ours.to_i64(), theirs.to_i64(), |value| value as u64)
+        && same_answer(ours.to_f64(), theirs.to_f64(), f64::to_bits)
+        && ours.kind() as u8 == oracle::kind(theirs)
+        && ours.is_ascii() == theirs.is_ascii()
+        && ours.to_string() == theirs.to_string()
+        && format!("{ours:?}") == format!("{theirs:?}");
+    assert!(same, "the readings of {:?} differ", shown(bytes));
+}
+
+// ---- tokens ----
+
+/// Whether both are the same part of the same text.
+fn same_part(ours: &Scalar<'_>, theirs: &jomini::Scalar<'_>) -> bool {
+    ours.as_bytes().as_ptr_range() == theirs.as_bytes().as_ptr_range()
+}
+
+fn same_token(ours: &TextToken<'_>, theirs: &jomini::TextToken<'_>) -> bool {
+    use jomini::TextToken as Theirs;
+    match (ours, theirs) {
+        (TextToken::Array { end, mixed }, Theirs::Array { end: e, mixed: m })
+        | (TextToken::Object { end, mixed }, Theirs::Object { end: e, mixed: m }) => {
+            end == e && mixed == m
+        }
+        (TextToken::MixedContainer, Theirs::MixedContainer) => true,
+        (TextToken::Unquoted(s), Theirs::Unquoted(t))
+        | (TextToken::Quoted(s), Theirs::Quoted(t))
+        | (TextToken::Parameter(s), Theirs::Parameter(t))
+        | (TextToken::UndefinedParameter(s), Theirs::UndefinedParameter(t))
+        | (TextToken::Header(s), Theirs::Header(t)) => same_part(s, t),
+        (TextToken::Operator(s), Theirs::Operator(t)) => {
+            format!("{s:?} {s} {} {}", s.symbol(), s.name())
+                == format!("{t:?} {t} {} {}", t.symbol(), t.name())
+        }
+        (TextToken::End(i), Theirs::End(j)) => i == j,
+        _ => false,
+    }
+}
+
+fn same_tape(text: &[u8], ours: &TextTape<'_>, theirs: &jomini::TextTape<'_>) {
+    let of = || shown(text);
+    assert_eq!(ours.utf8_bom(), theirs.utf8_bom(), "the BOM of {:?}", of());
+    assert_eq!(ours.tokens().len(), theirs.tokens().len(), "the tokens of {:?}", of());
+    for (i, (ours, theirs)) in ours.tokens().iter().zip(theirs.tokens()).enumerate() {
+        assert!(same_token(ours, theirs), "token {i} of {:?}: {ours:?}, {theirs:?}", of());
+        let parts = (ours.as_scalar(), theirs.as_scalar());
+        let parts = (parts.0.map(Scalar::as_bytes), parts.1.map(jomini::Scalar::as_bytes));
+        assert_eq!(parts.0, parts.1, "the scalar of token {i} of {:?}", of());
+    }
+}
+
+/// The tape of a text, refusal included; what it holds is read both ways. Answers how many tokens.
+fn same_parse<'a>(text: &'a [u8], used: &mut TextTape<'a>) -> usize {
+    let again = TextTape::parser().parse_slice_into_tape(text, used);
+    match (TextTape::from_slice(text), jomini::TextTape::from_slice(text)) {
+        (Ok(ours), Ok(theirs)) => {
+            same_tape(text, &ours, &theirs);
+            assert_eq!(again, Ok(()));
+            same_tape(text, used, &theirs);
+            let scalars = theirs.tokens().iter().filter_map(jomini::TextToken::as_scalar);
+            scalars.for_each(|scalar| same_readings(scalar.as_bytes()));
+            ours.tokens().len()
+        }
+        (Err(ours), Err(theirs)) => {
+            let (number, place) = oracle::refusal(&theirs.0);
+            let told = (ours.number(), ours.place());
+            assert_eq!(told, (number.into(), place), "{:?}", shown(text));
+            assert_eq!(again, Err(ours));
+            assert!(used.tokens().is_empty() && !used.utf8_bom());
+            0
+        }
+        (ours, theirs) => panic!("{:?}: ours {ours:?}, the Rust's {theirs:?}", shown(text)),
+    }
+}
+
+/// The words of a text on a tape with so much room, and the sheet that they are.
+fn same_words(text: &[u8], capacity: usize) {
+    let theirs = oracle::parse(text);
+    let mut tape = vec![u32::MAX; tackacorn::WORDS_PER_TOKEN * capacity + capacity % 3];
+    match (sheet::parse_into(text, &mut tape), theirs.refusal_within(capacity)) {
+        (Ok(parsed), None) => {
+            let (words, rest) = tape.split_at(theirs.words.len());
+            assert_eq!((words, parsed.utf8_bom), (&theirs.words[..], theirs.bom));
+            assert!(parsed.count == theirs.need() && rest.iter().all(|&word| word == 0));
+            let sheet =
+                Sheet::new(text, &tape, parsed.count).expect("what parsing leaves is sound");
+            let tape = TextTape::from_slice(text).unwrap();
+            assert!(sheet.tokens().eq(tape.tokens().iter().cloned()), "{:?}", shown(text));
+            for (i, token) in tape.tokens().iter().enumerate() {
+                assert_eq!(sheet.view(i).ok(), token.as_scalar());
+            }
+        }
+        (Err(ours), Some((number, place))) => {
+            assert_eq!((ours.number(), ours.place()), (number.into(), place));
+            assert!(tape.iter().all(|&word| word == 0));
+        }
+        (ours, theirs) => panic!("{:?} in {capacity}: {ours:?}, {theirs:?}", shown(text)),
+    }
+}
+
+// ---- what is tried ----
+
+#[test]
+fn the_records_of_the_comparison() {
+    let (seed, cases) = (number("SEED", 2026), number("CASES", 500_000));
+    let (mut parses, mut scalars, mut sheets, mut views) = (0, 0, 0, 0);
+    for record in Generator::new(seed).take(cases as usize) {
+        match record.question().expect("a good record") {
+            Question::Text { text, capacity } => {
+                same_parse(text, &mut TextTape::new());
+                same_words(text, capacity);
+                parses += 1;
+            }
+            Question::Scalar { bytes } => {
+                same_readings(bytes);
+                scalars += 1;
+            }
+            Question::Check { length, count, words } => {
+                let sound = compare::sheet::sound(length, &words, count);
+                assert_eq!(sheet::is_sound(length as usize, &words, count as usize), sound);
+                sheets += 1;
+            }
+            Question::View { index, count, words, text } => {
+                let theirs = compare::sheet::view(text, &words, count, index).ok();
+                let ours = sheet::view(text, &words, count as usize, index as usize);
+                let parts = (ours.ok().map(Scalar::as_bytes), theirs);
+                assert_eq!(parts.0.map(<[u8]>::as_ptr_range), parts.1.map(<[u8]>::as_ptr_range));
+                views += 1;
+            }
+        }
+    }
+    println!(
+        "seed {seed}: {parses} texts, {scalars} scalars, {sheets} sheets and {views} views, no difference"
+    );
+}
+
+/// One tape for many texts, long ones among them: what it held before never shows.
+#[test]
+fn a_tape_that_is_used_again() {
+    let mut rng = Rng::new(number("SEED", 2026) ^ 1);
+    let mut texts: Vec<Vec<u8>> = Vec::new();
+    for _ in 0..20_000 {
+        texts.push(if rng.chance(1) { texts::large(&mut rng) } else { texts::any(&mut rng) });
+    }
+    texts.retain(|text| compare::domain::inside(text));
+    let mut tape = TextTape::new();
+    let tokens: usize = texts.iter().map(|text| same_parse(text, &mut tape)).sum();
+    println!("one tape for {} texts with {tokens} tokens, no difference", texts.len());
+}
+
+/// A text of megabytes that needs a tape several times as large as is tried first.
+#[test]
+fn a_large_dense_text() {
+    let mut text = b"a={".to_vec();
+    text.extend(b"{c}".repeat(700_000));
+    text.push(b'}');
+    let tokens = same_parse(&text, &mut TextTape::new());
+    assert_eq!(tokens, 2_100_003);
+}

@@ -1,0 +1,154 @@
+//! The library's calls, made safe: the one file of this crate with `unsafe` in it.
+//!
+//! What C's types cannot say is said by Rust's. A slice is a pointer that is never null and always
+//! aligned, with as many elements behind it as its length says, all of them initialised; `&mut` overlaps
+//! nothing else that is passed, and nobody else reads or writes it meanwhile. So every condition that
+//! `include/tackacorn.h` lays on a caller holds for any arguments of the functions below, and that is
+//! the reason why each may call into the library.
+
+use std::ffi::{CStr, c_char};
+
+mod library {
+    use super::c_char;
+
+    // SAFETY: the names, the types and the order of the arguments are those of include/tackacorn.h.
+    // The library keeps no pointer and allocates nothing.
+    unsafe extern "C" {
+        pub fn tackacorn_version() -> *const c_char;
+        pub fn tackacorn_refusal_text(number: u32) -> *const c_char;
+        pub fn tackacorn_parse(
+            text: *const u8,
+            text_length: usize,
+            tape: *mut u32,
+            tape_length: usize,
+            count: *mut u32,
+            bom: *mut u32,
+            place: *mut usize,
+        ) -> u32;
+        pub fn tackacorn_check(
+            text_length: usize,
+            words: *const u32,
+            words_length: usize,
+            count: usize,
+        ) -> bool;
+        pub fn tackacorn_view(
+            text: *const u8,
+            text_length: usize,
+            words: *const u32,
+            words_length: usize,
+            count: usize,
+            index: usize,
+            offset: *mut usize,
+            size: *mut usize,
+        ) -> u32;
+        pub fn tackacorn_to_bool(scalar: *const u8, length: usize, value: *mut u32) -> u32;
+        pub fn tackacorn_to_u64(scalar: *const u8, length: usize, value: *mut u64) -> u32;
+        pub fn tackacorn_to_i64(scalar: *const u8, length: usize, value: *mut i64) -> u32;
+        pub fn tackacorn_to_f64(scalar: *const u8, length: usize, value: *mut f64) -> u32;
+        pub fn tackacorn_kind(scalar: *const u8, length: usize) -> u32;
+    }
+}
+
+/// What a parse answers: a refusal's number, 0 for none, and the numbers that it writes.
+pub(crate) struct Answer {
+    pub(crate) refusal: u32,
+    pub(crate) count: u32,
+    pub(crate) bom: u32,
+    pub(crate) place: usize,
+}
+
+pub(crate) fn parse(text: &[u8], tape: &mut [u32]) -> Answer {
+    let (mut count, mut bom, mut place) = (0, 0, 0);
+    // SAFETY: `text` may be read and `tape` read and written for as many elements as are passed; the
+    // three numbers are ours alone and live through the call.
+    let refusal = unsafe {
+        library::tackacorn_parse(
+            text.as_ptr(),
+            text.len(),
+            tape.as_mut_ptr(),
+            tape.len(),
+            &mut count,
+            &mut bom,
+            &mut place,
+        )
+    };
+    Answer { refusal, count, bom, place }
+}
+
+pub(crate) fn check(text_length: usize, words: &[u32], count: usize) -> bool {
+    // SAFETY: `words` may be read for as many words as are passed; of the text only the length is. The
+    // answer is C's `bool`, which is Rust's.
+    unsafe { library::tackacorn_check(text_length, words.as_ptr(), words.len(), count) }
+}
+
+/// A refusal's number, the offset and the size of a view.
+pub(crate) fn view(text: &[u8], words: &[u32], count: usize, index: usize) -> (u32, usize, usize) {
+    let (mut offset, mut size) = (0, 0);
+    // SAFETY: `text` and `words` may be read for as many elements as are passed; the two numbers are
+    // ours alone and live through the call.
+    let refusal = unsafe {
+        library::tackacorn_view(
+            text.as_ptr(),
+            text.len(),
+            words.as_ptr(),
+            words.len(),
+            count,
+            index,
+            &mut offset,
+            &mut size,
+        )
+    };
+    (refusal, offset, size)
+}
+
+pub(crate) fn to_bool(scalar: &[u8]) -> (u32, bool) {
+    let mut value = 0;
+    // SAFETY: `scalar` may be read for its length; `value` is ours alone and lives through the call.
+    let refusal = unsafe { library::tackacorn_to_bool(scalar.as_ptr(), scalar.len(), &mut value) };
+    (refusal, value == 1)
+}
+
+pub(crate) fn to_u64(scalar: &[u8]) -> (u32, u64) {
+    let mut value = 0;
+    // SAFETY: `scalar` may be read for its length; `value` is ours alone and lives through the call.
+    let refusal = unsafe { library::tackacorn_to_u64(scalar.as_ptr(), scalar.len(), &mut value) };
+    (refusal, value)
+}
+
+pub(crate) fn to_i64(scalar: &[u8]) -> (u32, i64) {
+    let mut value = 0;
+    // SAFETY: `scalar` may be read for its length; `value` is ours alone and lives through the call.
+    let refusal = unsafe { library::tackacorn_to_i64(scalar.as_ptr(), scalar.len(), &mut value) };
+    (refusal, value)
+}
+
+pub(crate) fn to_f64(scalar: &[u8]) -> (u32, f64) {
+    let mut value = 0.0;
+    // SAFETY: `scalar` may be read for its length; `value` is ours alone and lives through the call.
+    let refusal = unsafe { library::tackacorn_to_f64(scalar.as_ptr(), scalar.len(), &mut value) };
+    (refusal, value)
+}
+
+pub(crate) fn kind(scalar: &[u8]) -> u32 {
+    // SAFETY: `scalar` may be read for its length, and nothing is written.
+    unsafe { library::tackacorn_kind(scalar.as_ptr(), scalar.len()) }
+}
+
+/// A refusal in words.
+pub(crate) fn refusal_text(number: u32) -> &'static str {
+    // SAFETY: any number may be asked for, and the words that answer stay and end in a zero.
+    unsafe { words_at(library::tackacorn_refusal_text(number)) }
+}
+
+/// The version of the library that this crate is linked with, as `1.0.0`.
+pub fn version() -> &'static str {
+    // SAFETY: it takes nothing, and the words that answer stay and end in a zero.
+    unsafe { words_at(library::tackacorn_version()) }
+}
+
+/// The words that stand there, which must stay for good, be changed by nobody, and end in a zero.
+unsafe fn words_at(words: *const c_char) -> &'static str {
+    // SAFETY: as the caller promises.
+    let words = unsafe { CStr::from_ptr(words) };
+    words.to_str().unwrap_or("words that are not UTF-8")
+}

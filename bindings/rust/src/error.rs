@@ -1,0 +1,159 @@
+//! Why a text or a view is refused.
+
+use crate::calls;
+use std::fmt;
+
+/// Why a text or a view is refused: which refusal it is, and where in the text it stands.
+///
+/// It prints itself with number, place and words, and [`line_and_column`](Error::line_and_column) tells
+/// the place as an editor does.
+///
+/// ```
+/// use tackacorn::{ErrorKind, TextTape};
+///
+/// let text = b"GER={\n  fighter=}\n";
+/// let error = TextTape::from_slice(text).unwrap_err();
+/// assert_eq!(error.kind(), ErrorKind::NoValue);
+/// assert_eq!((error.number(), error.place()), (5, 16));
+/// assert_eq!(error.line_and_column(text), Some((2, 11)));
+/// assert_eq!(error.to_string(), "refusal 5 at byte 16: a '}' where a value is due");
+/// ```
+#[derive(Clone, Copy, Debug, PartialEq, Eq, Hash)]
+pub struct Error {
+    kind: ErrorKind,
+    place: usize,
+}
+
+/// Which refusal it is. The numbers are those of the C header and of the command.
+#[derive(Clone, Copy, Debug, PartialEq, Eq, Hash)]
+#[non_exhaustive]
+pub enum ErrorKind {
+    /// The text has more than [`TEXT_LIMIT`](crate::TEXT_LIMIT) bytes. The Rust has no such limit.
+    TooLong = 1,
+    /// The text ends too early. jomini's `Eof`.
+    Eof = 2,
+    /// A `}` with nothing open. jomini's `StackEmpty`.
+    StackEmpty = 3,
+    /// A `{` with neither a key nor a header before it.
+    NoHeader = 4,
+    /// A `}` where a value is due.
+    NoValue = 5,
+    /// A `[` that opens a mixed container.
+    MixedParameter = 6,
+    /// An operator that nothing may precede. Its place is one before the operator, as in the Rust.
+    NothingPrecedes = 7,
+    /// Bytes that begin as an operator and are none. Its place is one before them, as in the Rust.
+    UnknownOperator = 8,
+    /// A `[` that no `[` follows.
+    NoParameter = 9,
+    /// A parameter's name that no `]` ends.
+    OpenName = 10,
+    /// A token finds no room on a tape of words that was lent. A tape that grows never says so.
+    Full = 11,
+    /// No scalar stands there: see [`sheet::view`](crate::sheet::view).
+    NoScalar = 12,
+}
+
+const KINDS: [ErrorKind; 12] = [
+    ErrorKind::TooLong,
+    ErrorKind::Eof,
+    ErrorKind::StackEmpty,
+    ErrorKind::NoHeader,
+    ErrorKind::NoValue,
+    ErrorKind::MixedParameter,
+    ErrorKind::NothingPrecedes,
+    ErrorKind::UnknownOperator,
+    ErrorKind::NoParameter,
+    ErrorKind::OpenName,
+    ErrorKind::Full,
+    ErrorKind::NoScalar,
+];
+
+impl ErrorKind {
+    /// The refusal's number.
+    pub fn number(self) -> u32 {
+        self as u32
+    }
+
+    /// The refusal in words, without a full stop.
+    pub fn words(self) -> &'static str {
+        calls::refusal_text(self.number())
+    }
+}
+
+impl fmt::Display for ErrorKind {
+    fn fmt(&self, f: &mut fmt::Formatter<'_>) -> fmt::Result {
+        f.write_str(self.words())
+    }
+}
+
+impl Error {
+    /// The refusal of this number, which the library has answered.
+    pub(crate) fn new(number: u32, place: usize) -> Self {
+        let kind = KINDS.into_iter().find(|kind| kind.number() == number);
+        let kind = kind.unwrap_or_else(|| {
+            panic!(
+                "the library answers {number}, which no version 1 of it does: {}",
+                calls::version()
+            )
+        });
+        Error { kind, place }
+    }
+
+    /// Which refusal it is.
+    pub fn kind(&self) -> ErrorKind {
+        self.kind
+    }
+
+    /// The refusal's number, from 1 to 12.
+    pub fn number(&self) -> u32 {
+        self.kind.number()
+    }
+
+    /// The refusal in words, without a full stop.
+    pub fn words(&self) -> &'static str {
+        self.kind.words()
+    }
+
+    /// The place as the format defines it: an offset in the text from its first byte on, the BOM
+    /// included, and 0 where the refusal has none.
+    pub fn place(&self) -> usize {
+        self.place
+    }
+
+    /// The place where the refusal has one: not for a text that is too long or ends too early, a tape
+    /// without room, and a view that is none.
+    pub fn offset(&self) -> Option<usize> {
+        match self.kind {
+            ErrorKind::TooLong | ErrorKind::Eof | ErrorKind::Full | ErrorKind::NoScalar => None,
+            _ => Some(self.place),
+        }
+    }
+
+    /// Line and column of what is refused, where the refusal has a place: both count from 1, a column
+    /// is a byte, and a BOM has none. The command `tackacorn` counts the same way. `text` is the text
+    /// that was refused.
+    pub fn line_and_column(&self, text: &[u8]) -> Option<(usize, usize)> {
+        let place = match self.kind {
+            ErrorKind::NothingPrecedes | ErrorKind::UnknownOperator => self.offset()? + 1,
+            _ => self.offset()?,
+        };
+        let before = text.get(..place)?;
+        let line = 1 + before.iter().filter(|&&byte| byte == b'\n').count();
+        let bom = if text.starts_with(b"\xef\xbb\xbf") { 3 } else { 0 };
+        let begin = before.iter().rposition(|&byte| byte == b'\n').map_or(bom, |feed| feed + 1);
+        Some((line, place.saturating_sub(begin) + 1))
+    }
+}
+
+impl fmt::Display for Error {
+    fn fmt(&self, f: &mut fmt::Formatter<'_>) -> fmt::Result {
+        write!(f, "refusal {}", self.number())?;
+        if let Some(offset) = self.offset() {
+            write!(f, " at byte {offset}")?;
+        }
+        write!(f, ": {}", self.words())
+    }
+}
+
+impl std::error::Error for Error {}

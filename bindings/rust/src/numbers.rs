@@ -1,0 +1,120 @@
+//! The numbers of the format, each once, as `include/tackacorn.h` has them; a test below holds them
+//! against it.
+
+/// The most bytes that a text may have. A longer one is refused with
+/// [`ErrorKind::TooLong`](crate::ErrorKind::TooLong).
+pub const TEXT_LIMIT: usize = 16_777_215;
+
+/// How many words a token takes on a tape of words: its code, a and b.
+pub const WORDS_PER_TOKEN: usize = 3;
+
+/// How many words are room for every text of so many bytes: those of 2n + 1 tokens.
+pub const fn words_for(bytes: usize) -> usize {
+    WORDS_PER_TOKEN * (2 * bytes + 1)
+}
+
+pub(crate) const ARRAY: u32 = 1;
+pub(crate) const OBJECT: u32 = 2;
+pub(crate) const MIXED_CONTAINER: u32 = 3;
+pub(crate) const UNQUOTED: u32 = 4;
+pub(crate) const QUOTED: u32 = 5;
+pub(crate) const PARAMETER: u32 = 6;
+pub(crate) const UNDEFINED_PARAMETER: u32 = 7;
+pub(crate) const OPERATOR: u32 = 8;
+pub(crate) const END: u32 = 9;
+pub(crate) const HEADER: u32 = 10;
+
+pub(crate) const LESS_THAN: u32 = 1;
+pub(crate) const LESS_THAN_EQUAL: u32 = 2;
+pub(crate) const GREATER_THAN: u32 = 3;
+pub(crate) const GREATER_THAN_EQUAL: u32 = 4;
+pub(crate) const NOT_EQUAL: u32 = 5;
+pub(crate) const EXACT: u32 = 6;
+pub(crate) const EQUAL: u32 = 7;
+pub(crate) const EXISTS: u32 = 8;
+
+pub(crate) const ALL_DIGITS: u32 = 21;
+pub(crate) const OVERFLOW: u32 = 22;
+pub(crate) const INVALID_BOOL: u32 = 23;
+pub(crate) const PRECISION_LOSS: u32 = 24;
+
+#[cfg(test)]
+mod tests {
+    use super::*;
+    use crate::{ErrorKind, ReadingKind};
+
+    /// Every `TACKACORN_NAME = NUMBER` and `#define TACKACORN_NAME NUMBER` of the header.
+    fn header() -> Vec<(String, u64)> {
+        let path = concat!(env!("CARGO_MANIFEST_DIR"), "/../../include/tackacorn.h");
+        let text = std::fs::read_to_string(path).expect("the header of this repository");
+        let named = |line: &str| {
+            let line = line.trim().trim_start_matches("#define ");
+            let (name, rest) = line.strip_prefix("TACKACORN_")?.split_once(' ')?;
+            let digits = rest.trim_start_matches("= ").split(|c: char| !c.is_ascii_digit());
+            Some((name.to_string(), digits.into_iter().next()?.parse().ok()?))
+        };
+        text.lines().filter_map(named).collect()
+    }
+
+    #[test]
+    fn the_header_has_the_same_numbers() {
+        let header = header();
+        let same = |name: &str, number: u64| {
+            let found = header.iter().find(|named| named.0 == name);
+            assert_eq!(found.map(|named| named.1), Some(number), "TACKACORN_{name}");
+        };
+        same("TEXT_LIMIT", TEXT_LIMIT as u64);
+        same("WORDS_PER_TOKEN", WORDS_PER_TOKEN as u64);
+        let codes = [
+            ("ARRAY", ARRAY),
+            ("OBJECT", OBJECT),
+            ("MIXED_CONTAINER", MIXED_CONTAINER),
+            ("UNQUOTED", UNQUOTED),
+            ("QUOTED", QUOTED),
+            ("PARAMETER", PARAMETER),
+            ("UNDEFINED_PARAMETER", UNDEFINED_PARAMETER),
+            ("OPERATOR", OPERATOR),
+            ("END", END),
+            ("HEADER", HEADER),
+            ("LESS_THAN", LESS_THAN),
+            ("LESS_THAN_EQUAL", LESS_THAN_EQUAL),
+            ("GREATER_THAN", GREATER_THAN),
+            ("GREATER_THAN_EQUAL", GREATER_THAN_EQUAL),
+            ("NOT_EQUAL", NOT_EQUAL),
+            ("EXACT", EXACT),
+            ("EQUAL", EQUAL),
+            ("EXISTS", EXISTS),
+            ("ALL_DIGITS", ALL_DIGITS),
+            ("OVERFLOW", OVERFLOW),
+            ("INVALID_BOOL", INVALID_BOOL),
+            ("PRECISION_LOSS", PRECISION_LOSS),
+        ];
+        let kinds = [
+            ("TOO_LONG", ErrorKind::TooLong),
+            ("EOF", ErrorKind::Eof),
+            ("STACK_EMPTY", ErrorKind::StackEmpty),
+            ("NO_HEADER", ErrorKind::NoHeader),
+            ("NO_VALUE", ErrorKind::NoValue),
+            ("MIXED_PARAMETER", ErrorKind::MixedParameter),
+            ("NOTHING_PRECEDES", ErrorKind::NothingPrecedes),
+            ("UNKNOWN_OPERATOR", ErrorKind::UnknownOperator),
+            ("NO_PARAMETER", ErrorKind::NoParameter),
+            ("OPEN_NAME", ErrorKind::OpenName),
+            ("FULL", ErrorKind::Full),
+            ("NO_SCALAR", ErrorKind::NoScalar),
+        ];
+        let readings = [
+            ("BOOL", ReadingKind::Bool),
+            ("WHOLE", ReadingKind::Whole),
+            ("DECIMAL", ReadingKind::Decimal),
+            ("NAME", ReadingKind::Name),
+        ];
+        codes.iter().for_each(|&(name, number)| same(name, number.into()));
+        kinds.iter().for_each(|&(name, kind)| same(name, kind.number().into()));
+        readings.iter().for_each(|&(name, kind)| same(name, kind as u64));
+        // and it has no other besides the version: the two sizes, OK and NOTHING
+        let known = 4 + codes.len() + kinds.len() + readings.len();
+        let others = header.iter().filter(|named| !named.0.starts_with("VERSION"));
+        assert_eq!(others.count(), known, "{header:?}");
+    }
+}

@@ -1,0 +1,197 @@
+//! Tapes of words, as the library lays them: three words a token, in memory of the caller. A *sheet* is
+//! the words of some tokens beside the text that they view. Sheets can be stored and exchanged; the check
+//! says whether one that comes from elsewhere is sound.
+
+use crate::numbers::{WORDS_PER_TOKEN, words_for};
+use crate::{Error, ErrorKind, Scalar, TextToken, calls};
+
+/// What a parse answers: how many tokens it laid, and whether the text began with the bytes ef bb bf.
+#[derive(Clone, Copy, Debug, PartialEq, Eq)]
+pub struct Parsed {
+    /// How many tokens were laid
+    pub count: usize,
+    /// Whether the text began with a byte order mark
+    pub utf8_bom: bool,
+}
+
+/// Parses onto a tape that is lent, which has room for `tape.len() / WORDS_PER_TOKEN` tokens.
+///
+/// Writes every word of the tape, whatever stood there: the tokens and zeros behind them, or zeros after
+/// a refusal. Where a token finds no room the text is refused with [`ErrorKind::Full`];
+/// [`words_for`] says how many words are room enough for any text of a length.
+///
+/// ```
+/// use tackacorn::{ErrorKind, sheet};
+///
+/// let mut tape = [7; 8];
+/// let parsed = sheet::parse_into(b"a=\"b\"", &mut tape).unwrap();
+/// assert_eq!((parsed.count, tape), (2, [4, 0, 1, 5, 3, 1, 0, 0]));
+///
+/// let full = sheet::parse_into(b"a={}", &mut tape).unwrap_err();
+/// assert_eq!((full.kind(), tape), (ErrorKind::Full, [0; 8]));
+/// ```
+pub fn parse_into(text: &[u8], tape: &mut [u32]) -> Result<Parsed, Error> {
+    let answer = calls::parse(text, tape);
+    match answer.refusal {
+        0 => Ok(Parsed { count: answer.count as usize, utf8_bom: answer.bom == 1 }),
+        number => Err(Error::new(number, answer.place)),
+    }
+}
+
+/// Parses onto a tape that grows, and leaves just the tokens' words on it, or none after a refusal.
+///
+/// It begins with the words that the tape has, and where these are too few, tries again with a word for
+/// each byte of the text and then with twice as many each time. So it is never refused for room, it
+/// touches no memory for a text that is too long, and most saves are parsed in one go.
+///
+/// ```
+/// use tackacorn::sheet;
+///
+/// let mut words = Vec::new();
+/// let parsed = sheet::parse(b"a={{}}", &mut words).unwrap();
+/// assert_eq!((parsed.count, &words[..]), (3, &[4, 0, 1, 1, 2, 0, 9, 1, 0][..]));
+/// ```
+pub fn parse(text: &[u8], tape: &mut Vec<u32>) -> Result<Parsed, Error> {
+    let enough = words_for(text.len());
+    loop {
+        match parse_into(text, tape) {
+            Err(refused) if refused.kind() == ErrorKind::Full && tape.len() < enough => {
+                let room = text.len().max(2 * tape.len()).clamp(WORDS_PER_TOKEN, enough);
+                // the old words first: nobody wants them, and both need not be there at once
+                *tape = Vec::new();
+                *tape = vec![0; room];
+            }
+            Err(refused) => {
+                tape.clear();
+                return Err(refused);
+            }
+            Ok(parsed) => {
+                tape.truncate(WORDS_PER_TOKEN * parsed.count);
+                return Ok(parsed);
+            }
+        }
+    }
+}
+
+/// Whether the first `count` tokens of the words are a sound sheet for a text of so many bytes.
+///
+/// Every token has a form of the format, every opener and its `End` name each other, containers lie in
+/// each other, every view lies in the text and behind the one before it, and so on. It is true of what
+/// parsing leaves, and says yes exactly when a sheet is sound. Words behind the tokens are ignored.
+///
+/// ```
+/// use tackacorn::sheet;
+///
+/// assert!(sheet::is_sound(3, &[4, 0, 1, 4, 2, 1], 2));
+/// assert!(!sheet::is_sound(2, &[4, 0, 1, 4, 2, 1], 2), "a view reaches out of the text");
+/// assert!(!sheet::is_sound(3, &[4, 2, 1, 4, 0, 1], 2), "a view lies before the one before it");
+/// assert!(!sheet::is_sound(3, &[4, 0, 1, 1, 1, 0], 2), "an opener's End is none");
+/// assert!(!sheet::is_sound(3, &[4, 0, 1, 4, 2], 2), "a word is missing");
+/// ```
+pub fn is_sound(text_length: usize, words: &[u32], count: usize) -> bool {
+    calls::check(text_length, words, count)
+}
+
+/// The view of a token of any words, sound or not.
+///
+/// Refused with [`ErrorKind::NoScalar`] where the index is not below the count, the words of so many
+/// tokens are not there, the token is no scalar, or its view reaches out of the text.
+///
+/// ```
+/// use tackacorn::{ErrorKind, Scalar, sheet};
+///
+/// let (text, words) = (b"a=\"b\"", [4, 0, 1, 5, 3, 1]);
+/// assert_eq!(sheet::view(text, &words, 2, 1), Ok(Scalar::new(b"b")));
+/// assert_eq!(sheet::view(text, &words, 2, 2).unwrap_err().kind(), ErrorKind::NoScalar);
+/// assert_eq!(sheet::view(b"", &words, 2, 1).unwrap_err().number(), 12);
+/// ```
+pub fn view<'t>(
+    text: &'t [u8],
+    words: &[u32],
+    count: usize,
+    index: usize,
+) -> Result<Scalar<'t>, Error> {
+    match calls::view(text, words, count, index) {
+        (0, offset, size) => Ok(Scalar::new(&text[offset..offset + size])),
+        (number, ..) => Err(Error::new(number, 0)),
+    }
+}
+
+/// The tokens of words that are known to be a sound sheet of this text.
+pub(crate) fn tokens_of<'t>(
+    text: &'t [u8],
+    words: &[u32],
+) -> impl ExactSizeIterator<Item = TextToken<'t>> {
+    let (tokens, _) = words.as_chunks::<WORDS_PER_TOKEN>();
+    tokens.iter().map(|words| TextToken::told(text, words).expect("a token of a sound sheet"))
+}
+
+/// A sheet that the check has passed, whoever made it, beside its text.
+///
+/// ```
+/// use tackacorn::sheet::{self, Sheet};
+/// use tackacorn::{Scalar, TextToken};
+///
+/// // a sheet that someone sent along with the text
+/// let (text, words) = (b"a=rgb{1}", [4, 0, 1, 10, 2, 3, 1, 4, 0, 4, 6, 1, 9, 2, 0]);
+/// let sheet = Sheet::new(text, &words, 5).expect("it is sound");
+/// assert_eq!(sheet.get(1), Some(TextToken::Header(Scalar::new(b"rgb"))));
+/// assert_eq!(sheet.view(3).unwrap().to_u64(), Ok(1));
+/// assert!(sheet.view(2).is_err(), "an Array is no scalar");
+/// assert_eq!(sheet.tokens().len(), 5);
+///
+/// // the same words over another text, or with a link that is wrong, are no sheet
+/// assert!(Sheet::new(b"a=rgb", &words, 5).is_none());
+/// ```
+#[derive(Clone, Copy, Debug)]
+pub struct Sheet<'t, 'w> {
+    text: &'t [u8],
+    words: &'w [u32],
+}
+
+impl<'t, 'w> Sheet<'t, 'w> {
+    /// The sheet of the first `count` tokens of the words, if it is sound.
+    pub fn new(text: &'t [u8], words: &'w [u32], count: usize) -> Option<Self> {
+        if is_sound(text.len(), words, count) {
+            Some(Sheet { text, words: &words[..WORDS_PER_TOKEN * count] })
+        } else {
+            None
+        }
+    }
+
+    /// How many tokens it has.
+    pub fn len(&self) -> usize {
+        self.words.len() / WORDS_PER_TOKEN
+    }
+
+    /// Whether it has none.
+    pub fn is_empty(&self) -> bool {
+        self.words.is_empty()
+    }
+
+    /// The text.
+    pub fn text(&self) -> &'t [u8] {
+        self.text
+    }
+
+    /// The tokens' words, and no word behind them.
+    pub fn words(&self) -> &'w [u32] {
+        self.words
+    }
+
+    /// The token of an index below the count.
+    pub fn get(&self, index: usize) -> Option<TextToken<'t>> {
+        let (tokens, _) = self.words.as_chunks();
+        TextToken::told(self.text, tokens.get(index)?)
+    }
+
+    /// All tokens, in their order.
+    pub fn tokens(&self) -> impl ExactSizeIterator<Item = TextToken<'t>> + use<'t, 'w> {
+        tokens_of(self.text, self.words)
+    }
+
+    /// The view of a token, or [`ErrorKind::NoScalar`].
+    pub fn view(&self, index: usize) -> Result<Scalar<'t>, Error> {
+        view(self.text, self.words, self.len(), index)
+    }
+}

@@ -1,0 +1,135 @@
+//! A save's tokens in memory of their own, as jomini's tape has them.
+
+use crate::{Error, TextToken, sheet};
+
+/// The tokens of a text.
+///
+/// ```
+/// use tackacorn::{Scalar, TextTape, TextToken};
+///
+/// let tape = TextTape::from_slice(b"GER={ fighter=19 }").unwrap();
+/// assert_eq!(
+///     tape.tokens(),
+///     [
+///         TextToken::Unquoted(Scalar::new(b"GER")),
+///         TextToken::Object { end: 4, mixed: false },
+///         TextToken::Unquoted(Scalar::new(b"fighter")),
+///         TextToken::Unquoted(Scalar::new(b"19")),
+///         TextToken::End(1),
+///     ]
+/// );
+/// ```
+#[derive(Clone, Debug, Default)]
+pub struct TextTape<'a> {
+    tokens: Vec<TextToken<'a>>,
+    utf8_bom: bool,
+    /// The words of the last parse, kept for the next one.
+    words: Vec<u32>,
+}
+
+impl<'a> TextTape<'a> {
+    /// A tape with no tokens.
+    pub fn new() -> Self {
+        TextTape::default()
+    }
+
+    /// The tokens of this text, or why it is refused.
+    ///
+    /// # A save that was cut short may parse
+    ///
+    /// Where a text ends inside an object at the top level, the object counts as closed there, as in the
+    /// Rust. Of all places where a save can be cut, about one in forty is such, and nothing in the
+    /// answer shows it. Hold the length or a checksum of the file against what was sent.
+    ///
+    /// ```
+    /// use tackacorn::TextTape;
+    ///
+    /// let whole = b"GER={ fighter=190 }";
+    /// let short = TextTape::from_slice(&whole[..16]).unwrap();
+    /// assert_eq!(short.tokens()[3].as_scalar().unwrap().to_u64(), Ok(19));
+    /// ```
+    pub fn from_slice(data: &[u8]) -> Result<TextTape<'_>, Error> {
+        TextTapeParser.parse_slice(data)
+    }
+
+    /// A parser, for a tape that is used again.
+    pub fn parser() -> TextTapeParser {
+        TextTapeParser
+    }
+
+    /// The tokens.
+    pub fn tokens(&self) -> &[TextToken<'a>] {
+        &self.tokens
+    }
+
+    /// The tokens, to change. Nothing here relies on them afterwards; whoever walks them relies on an
+    /// opener and its `End` naming each other.
+    ///
+    /// ```
+    /// use tackacorn::{TextTape, TextToken, text::Operator};
+    ///
+    /// let mut tape = TextTape::from_slice(b"foo ?= 10").unwrap();
+    /// for token in tape.tokens_mut() {
+    ///     if let TextToken::Operator(Operator::Exists) = token {
+    ///         *token = TextToken::Operator(Operator::Equal);
+    ///     }
+    /// }
+    /// assert_eq!(tape.tokens()[1], TextToken::Operator(Operator::Equal));
+    /// ```
+    pub fn tokens_mut(&mut self) -> &mut [TextToken<'a>] {
+        &mut self.tokens
+    }
+
+    /// Whether the text began with the bytes ef bb bf.
+    pub fn utf8_bom(&self) -> bool {
+        self.utf8_bom
+    }
+}
+
+/// Parses texts onto tapes.
+#[derive(Debug, Default)]
+pub struct TextTapeParser;
+
+impl TextTapeParser {
+    /// A parser.
+    pub fn new() -> Self {
+        TextTapeParser
+    }
+
+    /// The tokens of this text, or why it is refused: see [`TextTape::from_slice`].
+    pub fn parse_slice(self, data: &[u8]) -> Result<TextTape<'_>, Error> {
+        let mut tape = TextTape::default();
+        self.parse_slice_into_tape(data, &mut tape)?;
+        // nobody will parse onto it in most programs, so the words need not stay
+        tape.words = Vec::new();
+        Ok(tape)
+    }
+
+    /// Parses onto a tape in place of what stands there, with the memory that it has. After a refusal
+    /// the tape has no tokens and no BOM. (The Rust leaves those that it laid before it refused.)
+    ///
+    /// ```
+    /// use tackacorn::TextTape;
+    ///
+    /// let saves = [b"a=b".as_slice(), b"a={1 2}", b"a=}"];
+    /// let mut tape = TextTape::new();
+    /// let counts = saves.map(|save| {
+    ///     let parsed = TextTape::parser().parse_slice_into_tape(save, &mut tape);
+    ///     parsed.map(|()| tape.tokens().len()).map_err(|refused| refused.number())
+    /// });
+    /// assert_eq!(counts, [Ok(2), Ok(5), Err(5)]);
+    /// assert!(tape.tokens().is_empty());
+    /// ```
+    pub fn parse_slice_into_tape<'a>(
+        self,
+        data: &'a [u8],
+        tape: &mut TextTape<'a>,
+    ) -> Result<(), Error> {
+        tape.tokens.clear();
+        tape.utf8_bom = false;
+        let parsed = sheet::parse(data, &mut tape.words)?;
+        tape.tokens.extend(sheet::tokens_of(data, &tape.words));
+        tape.utf8_bom = parsed.utf8_bom;
+        Ok(())
+    }
+}

@@ -1,0 +1,101 @@
+//! A token, and how its words on a tape tell it.
+
+use crate::Scalar;
+use crate::numbers::{
+    ARRAY, END, HEADER, MIXED_CONTAINER, OBJECT, OPERATOR, PARAMETER, QUOTED, UNDEFINED_PARAMETER,
+    UNQUOTED, WORDS_PER_TOKEN,
+};
+use crate::operator::Operator;
+
+/// A token of a save: a container's begin or end, a value, or a sign.
+///
+/// A key's value follows it, but look before you take it: an operator may stand between them, and where
+/// an object goes on as a mixed container, a key's value is behind an [`Operator::Equal`] or is not
+/// there at all.
+#[derive(Debug, Clone, PartialEq, Eq)]
+pub enum TextToken<'a> {
+    /// An array begins
+    Array {
+        /// The index of its `End`
+        end: usize,
+        /// Whether it is mixed. Where it is, it holds a `MixedContainer` directly; the converse is
+        /// false (`a={b c=d {}}`)
+        mixed: bool,
+    },
+
+    /// An object begins
+    Object {
+        /// The index of its `End`
+        end: usize,
+        /// Whether it is mixed, as for an `Array`
+        mixed: bool,
+    },
+
+    /// From here on a container holds both values and pairs
+    MixedContainer,
+
+    /// A value without quotes
+    Unquoted(Scalar<'a>),
+
+    /// A value in quotes: the bytes between them, with the escapes as they stand
+    Quoted(Scalar<'a>),
+
+    /// The name of a parameter, `[[name] ..]`
+    Parameter(Scalar<'a>),
+
+    /// The name of a parameter that must not be defined, `[[!name] ..]`
+    UndefinedParameter(Scalar<'a>),
+
+    /// A sign other than the `=` between a key and its value
+    Operator(Operator),
+
+    /// A container ends, which began at this index
+    End(usize),
+
+    /// A name before the container that it belongs to, the `rgb` of `color = rgb { 100 200 50 }`
+    Header(Scalar<'a>),
+}
+
+impl<'a> TextToken<'a> {
+    /// The scalar of a token that has one.
+    ///
+    /// ```
+    /// use tackacorn::{Scalar, TextToken};
+    ///
+    /// let abc = Scalar::new(b"abc");
+    /// assert_eq!(TextToken::Unquoted(abc).as_scalar(), Some(abc));
+    /// assert_eq!(TextToken::Header(abc).as_scalar(), Some(abc));
+    /// assert_eq!((TextToken::Object { end: 2, mixed: false }).as_scalar(), None);
+    /// ```
+    pub fn as_scalar(&self) -> Option<Scalar<'a>> {
+        match self {
+            TextToken::Header(s)
+            | TextToken::Unquoted(s)
+            | TextToken::Quoted(s)
+            | TextToken::Parameter(s)
+            | TextToken::UndefinedParameter(s) => Some(*s),
+            _ => None,
+        }
+    }
+
+    /// The token that these words tell, where they have a token's form and lie in the text.
+    #[inline]
+    pub(crate) fn told(text: &'a [u8], words: &[u32; WORDS_PER_TOKEN]) -> Option<Self> {
+        let &[code, a, b] = words;
+        let (a, b) = (a as usize, b as usize);
+        let scalar = || text.get(a..a.checked_add(b)?).map(Scalar::new);
+        Some(match code {
+            ARRAY => TextToken::Array { end: a, mixed: b == 1 },
+            OBJECT => TextToken::Object { end: a, mixed: b == 1 },
+            MIXED_CONTAINER => TextToken::MixedContainer,
+            UNQUOTED => TextToken::Unquoted(scalar()?),
+            QUOTED => TextToken::Quoted(scalar()?),
+            PARAMETER => TextToken::Parameter(scalar()?),
+            UNDEFINED_PARAMETER => TextToken::UndefinedParameter(scalar()?),
+            OPERATOR => TextToken::Operator(Operator::numbered(words[1])?),
+            END => TextToken::End(a),
+            HEADER => TextToken::Header(scalar()?),
+            _ => return None,
+        })
+    }
+}

@@ -1,0 +1,116 @@
+//! What a user meets at the limits: of a text, of a tape, of words from elsewhere.
+
+use tackacorn::sheet::{self, Sheet};
+use tackacorn::{Error, ErrorKind, TEXT_LIMIT, TextTape, TextToken, WORDS_PER_TOKEN, words_for};
+
+#[test]
+fn the_text_limit_from_both_sides() {
+    let mut text = b"a=b".to_vec();
+    text.resize(TEXT_LIMIT, b' ');
+    let tape = TextTape::from_slice(&text).unwrap();
+    assert_eq!(tape.tokens().len(), 2);
+    text.push(b' ');
+    let refused = TextTape::from_slice(&text).unwrap_err();
+    assert_eq!((refused.kind(), refused.place(), refused.offset()), (ErrorKind::TooLong, 0, None));
+    assert_eq!(refused.to_string(), "refusal 1: the text has more than 16777215 bytes");
+}
+
+/// Texts of each density are parsed onto a tape that begins with nothing, and with too little.
+#[test]
+fn a_tape_grows_as_it_must() {
+    for (piece, tokens) in [("abcdefgh=ijklmnop ", 2), ("a=b ", 2), ("a={} ", 3), ("a<b ", 3)] {
+        let text = piece.repeat(5_000).into_bytes();
+        for begin in [0, 1, WORDS_PER_TOKEN, 30_000] {
+            let mut words = vec![u32::MAX; begin];
+            let parsed = sheet::parse(&text, &mut words).unwrap();
+            assert_eq!(parsed.count, 5_000 * tokens);
+            assert_eq!(words.len(), WORDS_PER_TOKEN * parsed.count);
+            assert!(sheet::is_sound(text.len(), &words, parsed.count));
+        }
+    }
+}
+
+/// `=[{]?` lays more tokens than it has bytes; a tape for any text of its length has room, and one with
+/// a token less than it needs has not.
+#[test]
+fn more_tokens_than_bytes() {
+    let text = b"=[{]?";
+    let mut words = vec![0; words_for(text.len())];
+    let answered = sheet::parse_into(text, &mut words);
+    let grown = sheet::parse(text, &mut Vec::new());
+    assert_eq!(answered, grown);
+    assert_ne!(answered.map_err(|refused| refused.kind()), Err(ErrorKind::Full));
+    let short = sheet::parse_into(text, &mut [0; 6 * WORDS_PER_TOKEN]).unwrap_err();
+    assert_eq!(short.kind(), ErrorKind::Full);
+}
+
+fn refusal(text: &[u8]) -> (u32, usize, Option<(usize, usize)>) {
+    let refused = TextTape::from_slice(text).unwrap_err();
+    (refused.number(), refused.place(), refused.line_and_column(text))
+}
+
+#[test]
+fn each_refusal_of_a_text() {
+    assert_eq!(refusal(b"a"), (2, 0, None));
+    assert_eq!(refusal(b"a }"), (3, 2, Some((1, 3))));
+    assert_eq!(refusal(b"{ a }"), (4, 2, Some((1, 3))));
+    assert_eq!(refusal(b"a=}"), (5, 2, Some((1, 3))));
+    assert_eq!(refusal(b"a={b c=d {[[x] y]}}"), (6, 10, Some((1, 11))));
+    // the format's place is one before the sign, the line and the column are the sign's
+    assert_eq!(refusal(b"a={{b}\n<c}"), (7, 6, Some((2, 1))));
+    assert_eq!(refusal(b"a={b !c}"), (8, 4, Some((1, 6))));
+    assert_eq!(refusal(b"[x"), (9, 0, Some((1, 1))));
+    assert_eq!(refusal(b"\xef\xbb\xbf[x"), (9, 3, Some((1, 1))));
+    assert_eq!(refusal(b"\xef\xbb\xbf#\r\n [[a b"), (10, 10, Some((2, 5))));
+}
+
+#[test]
+fn an_error_is_one_to_others() {
+    fn takes(_: impl std::error::Error + Send + Sync + 'static) {}
+    takes(TextTape::from_slice(b"a").unwrap_err());
+    takes(tackacorn::Scalar::new(b"").to_u64().unwrap_err());
+    fn asks(text: &[u8]) -> Result<usize, Box<dyn std::error::Error>> {
+        Ok(TextTape::from_slice(text)?.tokens().len())
+    }
+    assert_eq!(asks(b"a=b").unwrap(), 2);
+    assert_eq!(asks(b"a").unwrap_err().to_string(), "refusal 2: the text ends too early");
+    let refused: Error = *asks(b"a=}").unwrap_err().downcast().unwrap();
+    assert_eq!(refused.words(), ErrorKind::NoValue.to_string());
+}
+
+/// Words from elsewhere: whatever they are, nothing is read outside the text, and a sheet is made of
+/// sound ones alone.
+#[test]
+fn words_from_elsewhere() {
+    let text = b"ab";
+    let edges = [0, 1, 2, 3, 4, 5, 8, 9, 10, 11, 0x7fff_ffff, 0x8000_0000, u32::MAX];
+    let mut sound = 0;
+    for code in edges {
+        for a in edges {
+            for b in edges {
+                let words = [code, a, b, 7];
+                for count in [0, 1, 2, usize::MAX, usize::MAX / 3 + 1] {
+                    let view = sheet::view(text, &words, count, 0);
+                    assert!(view.is_err() || count == 1 && [4, 5, 6, 7, 10].contains(&code));
+                    let Some(sheet) = Sheet::new(text, &words, count) else { continue };
+                    assert!(sheet.len() == count && sheet.words().len() == 3 * count);
+                    assert_eq!(sheet.tokens().count(), count);
+                    assert!(sheet.get(count).is_none() && sheet.view(count).is_err());
+                    sound += count;
+                }
+            }
+        }
+    }
+    // a MixedContainer, six of the eight operators, three Unquoted and six Quoted
+    assert_eq!(sound, 1 + 6 + 3 + 6);
+}
+
+#[test]
+fn the_library_is_of_this_version() {
+    assert_eq!(tackacorn::version().split('.').next(), Some("1"));
+}
+
+#[test]
+fn a_token_takes_as_much_as_in_the_rust() {
+    assert_eq!(size_of::<TextToken<'_>>(), 24);
+}
