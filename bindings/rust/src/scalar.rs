@@ -287,7 +287,7 @@ impl fmt::Debug for Scalar<'_> {
 }
 
 impl fmt::Display for Scalar<'_> {
-    /// ASCII as it stands; of all else only the length, as the Rust has it.
+    /// ASCII as it stands, escapes too; of all else only the length, as the Rust has it.
     fn fmt(&self, f: &mut fmt::Formatter<'_>) -> fmt::Result {
         match std::str::from_utf8(self.data) {
             Ok(text) if text.is_ascii() => f.write_str(text),

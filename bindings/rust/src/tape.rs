@@ -1,6 +1,7 @@
 //! A save's tokens in memory of their own, as jomini's tape has them.
 
 use crate::{Error, TextToken, sheet};
+use std::fmt;
 
 /// The tokens of a text.
 ///
@@ -19,7 +20,7 @@ use crate::{Error, TextToken, sheet};
 ///     ]
 /// );
 /// ```
-#[derive(Clone, Debug, Default)]
+#[derive(Clone, Default)]
 pub struct TextTape<'a> {
     tokens: Vec<TextToken<'a>>,
     utf8_bom: bool,
@@ -83,6 +84,13 @@ impl<'a> TextTape<'a> {
     /// Whether the text began with the bytes ef bb bf.
     pub fn utf8_bom(&self) -> bool {
         self.utf8_bom
+    }
+}
+
+impl fmt::Debug for TextTape<'_> {
+    fn fmt(&self, f: &mut fmt::Formatter<'_>) -> fmt::Result {
+        let mut shown = f.debug_struct("TextTape");
+        shown.field("tokens", &self.tokens).field("utf8_bom", &self.utf8_bom).finish()
     }
 }
 
