@@ -11,7 +11,8 @@ const HERE: &str = env!("CARGO_MANIFEST_DIR");
 /// The folder of the Rust's files: `JOMINI`, or `shared` beside the repository.
 fn rust_files() -> PathBuf {
     let beside = Path::new(HERE).join("../../../shared/docs/src/crates/jomini/src");
-    env::var_os("JOMINI").map_or(beside, PathBuf::from)
+    let folder = env::var_os("JOMINI").map_or(beside, PathBuf::from);
+    folder.canonicalize().unwrap_or(folder)
 }
 
 fn main() {
@@ -34,6 +35,7 @@ fn main() {
         .arg("--target-dir")
         .arg(target)
         .args(["--", "--nocapture"])
+        .env("JOMINI", rust)
         .status();
     match ended {
         Ok(status) if status.success() => {}
