@@ -12,7 +12,8 @@ fn the_text_limit_from_both_sides() {
     text.push(b' ');
     let refused = TextTape::from_slice(&text).unwrap_err();
     assert_eq!((refused.kind(), refused.place(), refused.offset()), (ErrorKind::TooLong, 0, None));
-    assert_eq!(refused.to_string(), "refusal 1: the text has more than 16777215 bytes");
+    let words = format!("refusal 1: the text has more than {TEXT_LIMIT} bytes");
+    assert_eq!(refused.to_string(), words);
 }
 
 /// Texts of each density are parsed onto a tape that begins with nothing, and with too little.
@@ -93,7 +94,7 @@ fn words_from_elsewhere() {
                     let view = sheet::view(text, &words, count, 0);
                     assert!(view.is_err() || count == 1 && [4, 5, 6, 7, 10].contains(&code));
                     let Some(sheet) = Sheet::new(text, &words, count) else { continue };
-                    assert!(sheet.len() == count && sheet.words().len() == 3 * count);
+                    assert!(sheet.len() == count && sheet.words().len() == WORDS_PER_TOKEN * count);
                     assert_eq!(sheet.tokens().count(), count);
                     assert!(sheet.get(count).is_none() && sheet.view(count).is_err());
                     sound += count;

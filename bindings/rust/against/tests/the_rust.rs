@@ -8,7 +8,7 @@ use compare::rng::Rng;
 use compare::{oracle, texts};
 use std::env;
 use tackacorn::sheet::{self, Sheet};
-use tackacorn::{Scalar, ScalarError, TextTape, TextToken};
+use tackacorn::{Scalar, ScalarError, TextTape, TextToken, WORDS_PER_TOKEN};
 
 fn number(name: &str, default: u64) -> u64 {
     env::var(name).map_or(default, |word| word.parse().expect("a number"))
@@ -121,7 +121,7 @@ fn same_parse<'a>(text: &'a [u8], used: &mut TextTape<'a>) -> usize {
 /// The words of a text on a tape with so much room, and the sheet that they are.
 fn same_words(text: &[u8], capacity: usize) {
     let theirs = oracle::parse(text);
-    let mut tape = vec![u32::MAX; tackacorn::WORDS_PER_TOKEN * capacity + capacity % 3];
+    let mut tape = vec![u32::MAX; WORDS_PER_TOKEN * capacity + capacity % WORDS_PER_TOKEN];
     match (sheet::parse_into(text, &mut tape), theirs.refusal_within(capacity)) {
         (Ok(parsed), None) => {
             let (words, rest) = tape.split_at(theirs.words.len());
