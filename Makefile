@@ -12,6 +12,9 @@
 
 RT ?= rt
 PREFIX ?= /usr/local
+ifeq ($(filter /%,$(PREFIX)),)
+override PREFIX := $(CURDIR)/$(PREFIX)
+endif
 BINDIR ?= $(PREFIX)/bin
 INCLUDEDIR ?= $(PREFIX)/include
 LIBDIR ?= $(PREFIX)/lib
@@ -77,8 +80,8 @@ $(BUILD)/tackacorn.1: host/tackacorn.1.in include/tackacorn.h
 	@mkdir -p $(@D)
 	$(FILL) $< > $@
 
-test: all
-	host/test
+test:
+	host/test $(if $(KIT),--kit)
 
 install: all
 	install -d "$(DESTDIR)$(BINDIR)" "$(DESTDIR)$(INCLUDEDIR)" "$(DESTDIR)$(LIBDIR)/pkgconfig" "$(DESTDIR)$(MANDIR)/man1"

@@ -131,7 +131,7 @@ static size_t print_found(const struct save *save, char **keys, size_t key_count
     size_t depth = 0, found = 0;
     struct entry entry;
     cursors[0] = (struct cursor){0, save->count, true};
-    for (;;) {
+    while (!ferror(stdout)) {
         if (!next_entry(save, &cursors[depth], &entry)) {
             if (depth == 0) {
                 return found;
@@ -147,6 +147,7 @@ static size_t print_found(const struct save *save, char **keys, size_t key_count
             cursors[depth] = inside(save, container_of(save, entry.value));
         }
     }
+    return found;
 }
 
 /* Says that nothing stands at the path. */

@@ -3,8 +3,9 @@
 
 /* What every help begins with: the one thing that an owner of saves must know. */
 static void print_warning(void) {
-    fputs("A save that was cut short may parse: where it ends inside an object at the top level, the object\n"
-          "counts as closed there, and nothing is refused. Hold its length or a checksum against what was sent.\n\n",
+    fputs("A save that was cut short may parse: where it ends inside an object at the top level, the\n"
+          "object counts as closed there, and nothing is refused. Hold its length or a checksum against\n"
+          "what was sent before you book from it.\n\n",
           stdout);
 }
 
@@ -14,15 +15,16 @@ static void print_usage(const struct subcommand *subcommand) {
 
 /* What holds of every subcommand that reads saves. */
 static void print_common(void) {
-    printf("FILE is read whole, '-' or none is standard input. A first line of letters and digits that ends in\n"
-           "'txt', as HOI4txt, is no part of the save and is passed over. Lines, columns and offsets are the\n"
-           "file's: lines and columns count from 1, a column is a byte, and a BOM has none. A file may have %d\n"
-           "bytes. Options come before the file, and '--' ends them:\n"
+    printf("FILE is read whole; '-' is standard input, and so is no FILE at all. It may have %d\n"
+           "bytes. A first line of letters and digits that ends in 'txt', as HOI4txt, is no part of\n"
+           "the save and is passed over. Lines, columns and offsets are the file's: lines and columns\n"
+           "count from 1, a column is a byte, and a BOM has none. Options come before the file, and\n"
+           "'--' ends them:\n"
            "  --raw      leave the first line to the parser\n"
            "  --numbers  print a refusal as 'refused NUMBER PLACE' on standard output, not in words\n\n"
            "A refusal is one line of standard error: FILE:LINE:COLUMN: refusal NUMBER: WORDS\n\n"
-           "Status: 0 all was well; 1 a save is refused; 2 a wrong call; 3 the system refused (a file is missing\n"
-           "or unreadable, no memory, the output cannot be written); 4 get found nothing.\n",
+           "Status: 0 all was well; 1 a save is refused; 2 a wrong call; 3 the system refused (a file\n"
+           "is missing or unreadable, no memory, the output cannot be written); 4 get found nothing.\n",
            TACKACORN_TEXT_LIMIT);
 }
 

@@ -3,17 +3,22 @@
 
 #include <inttypes.h>
 
-/* Prints the header and a line for each token, until nobody takes them any more. */
-static void print_tokens(const struct save *save) {
+/* A token's name by its code. */
+static const char *name_of(uint32_t code) {
     static const char *const names[] = {
         "",       "Array",     "Object",             "MixedContainer", "Unquoted",
         "Quoted", "Parameter", "UndefinedParameter", "Operator",       "End",
         "Header",
     };
+    return code < sizeof names / sizeof names[0] ? names[code] : "";
+}
+
+/* Prints the header and a line for each token, until nobody takes them any more. */
+static void print_tokens(const struct save *save) {
     printf("tokens %" PRIu32 " bom %" PRIu32 "\n", save->count, save->bom);
     for (uint32_t i = 0; i < save->count && !ferror(stdout); i++) {
         const struct token token = token_at(save, i);
-        printf("%" PRIu32 " %s %" PRIu32 " %" PRIu32 "\n", i, names[token.code], token.a, token.b);
+        printf("%" PRIu32 " %s %" PRIu32 " %" PRIu32 "\n", i, name_of(token.code), token.a, token.b);
     }
 }
 

@@ -10,22 +10,24 @@
 
 const struct subcommand subcommands[] = {
     {"look", OPTIONS " [FILE]", "print the tokens of a save",
-     "Prints 'tokens COUNT bom BIT', then for each token its index, name and two numbers: for a scalar its\n"
-     "offset and length in the file, for a container the index of its End and whether it is mixed, for an\n"
-     "End the index of its opener, for an operator its number. The save may have any size up to the limit.\n",
+     "Prints 'tokens COUNT bom BIT', then for each token its index, its name and two numbers: for a\n"
+     "scalar its offset and length in the file, for a container the index of its End and whether it\n"
+     "is mixed, for an End the index of its opener, for an operator its number. The save may have\n"
+     "any size up to the limit.\n",
      0, 1, look},
     {"check", OPTIONS " [FILE..]", "say of each save whether it parses",
-     "Prints a line for each file: 'FILE: sound, COUNT tokens', or on standard error why it is refused. The\n"
-     "status is that of the worst file. With --numbers each line is 'refused NUMBER PLACE FILE', with 0 and 0\n"
-     "where the save is well.\n",
+     "Prints a line for each file: 'FILE: sound, COUNT tokens', or on standard error why it is\n"
+     "refused. The status is that of the worst file. With --numbers each line is 'refused NUMBER\n"
+     "PLACE FILE', with 0 and 0 where the save is well.\n",
      0, ANY_NUMBER, check},
     {"get", OPTIONS " FILE KEY..", "print the values that stand at a path of keys",
-     "The keys are a path: 'get save.txt GER equipment amount' looks in every GER, there in every equipment,\n"
-     "and prints every amount, one a line: its kind (Bool, Whole, Decimal, Name, Quoted), the operator where\n"
-     "it is no '=', and its bytes as they stand in the save, a quoted one in its quotes. A container is told\n"
-     "by what it is and how many entries it has: 'Array 3 entries', 'Header rgb Array 3 entries'. A key is\n"
-     "compared byte for byte, without the quotes if it has some. A control byte is printed as \\x0a.\n"
-     "Status 4 says that the save is well and nothing stands there.\n",
+     "The keys are a path: 'get save.txt GER equipment amount' looks in every GER, there in every\n"
+     "equipment, and prints every amount, one a line: its kind (Bool, Whole, Decimal, Name, Quoted),\n"
+     "the operator where it is no '=', and its bytes as they stand in the save, a quoted one in its\n"
+     "quotes. A container is told by what it is and how many entries it has: 'Array 3 entries',\n"
+     "'Header rgb Array 3 entries'. A key is compared byte for byte, without the quotes if it has\n"
+     "some. A control byte is printed as \\x0a. Status 4 says that the save is well and nothing\n"
+     "stands there.\n",
      2, ANY_NUMBER, get},
     {"help", "[SUBCOMMAND]", "print this, or more about a subcommand", "", 0, 1, help},
 };
