@@ -120,47 +120,48 @@ const SCALARS: [&str; 26] = [
     "1844674407370955161.6f",
 ];
 
-/// Both sides of each sentence of 'When a sheet is sound': a text length and the tokens.
-const SHEETS: [(u32, &[[u32; WORDS]]); 33] = [
+/// Both sides of each sentence of 'When a sheet is sound': a text length, and each
+/// token's code, a and b.
+const SHEETS: [(u32, &[(u32, u32, u32)]); 33] = [
     (0, &[]),
     // a=rgb{1}, whole, over a text just long enough and one too short
-    (8, &[[UNQUOTED, 0, 1], [HEADER, 2, 3], [ARRAY, 4, 0], [UNQUOTED, 6, 1], [END, 2, 0]]),
-    (7, &[[UNQUOTED, 0, 1], [HEADER, 2, 3], [ARRAY, 4, 0], [UNQUOTED, 6, 1], [END, 2, 0]]),
-    (6, &[[UNQUOTED, 0, 1], [HEADER, 2, 3], [ARRAY, 4, 0], [UNQUOTED, 6, 1], [END, 2, 0]]),
+    (8, &[(UNQUOTED, 0, 1), (HEADER, 2, 3), (ARRAY, 4, 0), (UNQUOTED, 6, 1), (END, 2, 0)]),
+    (7, &[(UNQUOTED, 0, 1), (HEADER, 2, 3), (ARRAY, 4, 0), (UNQUOTED, 6, 1), (END, 2, 0)]),
+    (6, &[(UNQUOTED, 0, 1), (HEADER, 2, 3), (ARRAY, 4, 0), (UNQUOTED, 6, 1), (END, 2, 0)]),
     // the forms
-    (8, &[[UNQUOTED, 0, 1], [HEADER, 2, 3], [OBJECT, 4, 1], [UNQUOTED, 6, 1], [END, 2, 0]]),
-    (8, &[[UNQUOTED, 0, 1], [HEADER, 2, 3], [ARRAY, 4, 2], [UNQUOTED, 6, 1], [END, 2, 0]]),
-    (8, &[[UNQUOTED, 0, 1], [HEADER, 2, 3], [ARRAY, 4, 0], [UNQUOTED, 6, 1], [END, 2, 1]]),
-    (1, &[[0, 0, 0]]),
-    (1, &[[LAST_CODE + 1, 0, 1]]),
-    (1, &[[MIXED_CONTAINER, 0, 0], [OPERATOR, LESS_THAN, 0], [OPERATOR, EXISTS, 0]]),
-    (1, &[[OPERATOR, 0, 0]]),
-    (1, &[[OPERATOR, EXISTS + 1, 0]]),
-    (1, &[[OPERATOR, LESS_THAN, 1]]),
-    (1, &[[MIXED_CONTAINER, 0, 1]]),
-    (1, &[[MIXED_CONTAINER, 1, 0]]),
+    (8, &[(UNQUOTED, 0, 1), (HEADER, 2, 3), (OBJECT, 4, 1), (UNQUOTED, 6, 1), (END, 2, 0)]),
+    (8, &[(UNQUOTED, 0, 1), (HEADER, 2, 3), (ARRAY, 4, 2), (UNQUOTED, 6, 1), (END, 2, 0)]),
+    (8, &[(UNQUOTED, 0, 1), (HEADER, 2, 3), (ARRAY, 4, 0), (UNQUOTED, 6, 1), (END, 2, 1)]),
+    (1, &[(0, 0, 0)]),
+    (1, &[(LAST_CODE + 1, 0, 1)]),
+    (1, &[(MIXED_CONTAINER, 0, 0), (OPERATOR, LESS_THAN, 0), (OPERATOR, EXISTS, 0)]),
+    (1, &[(OPERATOR, 0, 0)]),
+    (1, &[(OPERATOR, EXISTS + 1, 0)]),
+    (1, &[(OPERATOR, LESS_THAN, 1)]),
+    (1, &[(MIXED_CONTAINER, 0, 1)]),
+    (1, &[(MIXED_CONTAINER, 1, 0)]),
     // a Header without its container
-    (5, &[[UNQUOTED, 0, 1], [HEADER, 2, 3]]),
-    (8, &[[UNQUOTED, 0, 1], [HEADER, 2, 3], [UNQUOTED, 6, 1]]),
-    (8, &[[HEADER, 0, 1], [MIXED_CONTAINER, 0, 0], [ARRAY, 3, 0], [END, 2, 0]]),
+    (5, &[(UNQUOTED, 0, 1), (HEADER, 2, 3)]),
+    (8, &[(UNQUOTED, 0, 1), (HEADER, 2, 3), (UNQUOTED, 6, 1)]),
+    (8, &[(HEADER, 0, 1), (MIXED_CONTAINER, 0, 0), (ARRAY, 3, 0), (END, 2, 0)]),
     // links: an opener past the count, one that names itself, an End that names no opener
-    (1, &[[UNQUOTED, 0, 1], [ARRAY, 2, 0], [END, 1, 0]]),
-    (1, &[[UNQUOTED, 0, 1], [ARRAY, 2, 0]]),
-    (1, &[[UNQUOTED, 0, 1], [ARRAY, 1, 0]]),
-    (1, &[[UNQUOTED, 0, 1], [END, 0, 0]]),
-    (1, &[[UNQUOTED, 0, 1], [END, 1, 0]]),
-    (1, &[[ARRAY, 1, 0], [END, 0, 0]]),
+    (1, &[(UNQUOTED, 0, 1), (ARRAY, 2, 0), (END, 1, 0)]),
+    (1, &[(UNQUOTED, 0, 1), (ARRAY, 2, 0)]),
+    (1, &[(UNQUOTED, 0, 1), (ARRAY, 1, 0)]),
+    (1, &[(UNQUOTED, 0, 1), (END, 0, 0)]),
+    (1, &[(UNQUOTED, 0, 1), (END, 1, 0)]),
+    (1, &[(ARRAY, 1, 0), (END, 0, 0)]),
     // nested, and crossed
-    (1, &[[UNQUOTED, 0, 1], [ARRAY, 4, 0], [ARRAY, 3, 0], [END, 2, 0], [END, 1, 0]]),
-    (1, &[[UNQUOTED, 0, 1], [ARRAY, 3, 0], [ARRAY, 4, 0], [END, 1, 0], [END, 2, 0]]),
+    (1, &[(UNQUOTED, 0, 1), (ARRAY, 4, 0), (ARRAY, 3, 0), (END, 2, 0), (END, 1, 0)]),
+    (1, &[(UNQUOTED, 0, 1), (ARRAY, 3, 0), (ARRAY, 4, 0), (END, 1, 0), (END, 2, 0)]),
     // views: touching, overlapping, starting together, empty
-    (4, &[[UNQUOTED, 0, 2], [UNQUOTED, 2, 2]]),
-    (4, &[[UNQUOTED, 0, 3], [UNQUOTED, 2, 2]]),
-    (4, &[[QUOTED, 2, 0], [UNQUOTED, 2, 2]]),
-    (4, &[[QUOTED, 2, 0], [MIXED_CONTAINER, 0, 0], [QUOTED, 4, 0]]),
-    (4, &[[UNQUOTED, 2, 0]]),
-    (4, &[[HEADER, 2, 0], [ARRAY, 2, 0], [END, 1, 0]]),
-    (4, &[[UNQUOTED, u32::MAX, 1]]),
+    (4, &[(UNQUOTED, 0, 2), (UNQUOTED, 2, 2)]),
+    (4, &[(UNQUOTED, 0, 3), (UNQUOTED, 2, 2)]),
+    (4, &[(QUOTED, 2, 0), (UNQUOTED, 2, 2)]),
+    (4, &[(QUOTED, 2, 0), (MIXED_CONTAINER, 0, 0), (QUOTED, 4, 0)]),
+    (4, &[(UNQUOTED, 2, 0)]),
+    (4, &[(HEADER, 2, 0), (ARRAY, 2, 0), (END, 1, 0)]),
+    (4, &[(UNQUOTED, u32::MAX, 1)]),
 ];
 
 /// Views over the two bytes `ab`: an index and a count beside two tokens.
@@ -173,11 +174,16 @@ pub fn records() -> Vec<Record> {
     records.extend(TIGHT.map(|(text, capacity)| Record::text(text.to_vec(), capacity)));
     records.extend(SCALARS.map(|scalar| Record::scalar(scalar.as_bytes().to_vec())));
     for (length, tokens) in SHEETS {
-        records.push(Record::check(length, tokens.len() as u32, &tokens.concat()));
+        let words: Vec<u32> = tokens.iter().flat_map(|&(code, a, b)| token(code, a, b)).collect();
+        records.push(Record::check(length, tokens.len() as u32, &words));
     }
     for (index, count) in VIEWS {
-        records.push(Record::view(index, count, &[QUOTED, 1, 1, END, 0, 0], b"ab"));
-        records.push(Record::view(index, count, &[UNQUOTED, 2, 0, UNQUOTED, 0, 3], b"ab"));
+        for tokens in [
+            [token(QUOTED, 1, 1), token(END, 0, 0)],
+            [token(UNQUOTED, 2, 0), token(UNQUOTED, 0, 3)],
+        ] {
+            records.push(Record::view(index, count, &tokens.concat(), b"ab"));
+        }
     }
     records
 }

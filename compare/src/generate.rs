@@ -1,7 +1,7 @@
 //! Cases by seed: document 01's own at the head of a run, then the short ones in order and among
 //! them a mix.
 
-use crate::numbers::{LONGEST, MOST_TOKENS, UNQUOTED};
+use crate::numbers::{LONGEST, MOST_TOKENS, UNQUOTED, token};
 use crate::record::Record;
 use crate::rng::Rng;
 use crate::{domain, edges, oracle, scalars, sheets, texts};
@@ -130,7 +130,7 @@ pub fn bad(rng: &mut Rng) -> Vec<u8> {
         }
         6 => Record { kind: b'V', capacity: 0, body: vec![0; rng.below(10)] }.bytes(),
         _ => {
-            let mut record = Record::view(0, 1, &[UNQUOTED, 0, 1], b"");
+            let mut record = Record::view(0, 1, &token(UNQUOTED, 0, 1), b"");
             record.body.pop();
             record.bytes()
         }

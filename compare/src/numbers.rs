@@ -10,6 +10,11 @@ pub const TEXT_LIMIT: usize = 16_777_215;
 /// How many words a token takes: its code, a and b.
 pub const WORDS: usize = 3;
 
+/// The words of a token, made here alone.
+pub const fn token(code: u32, a: u32, b: u32) -> [u32; WORDS] {
+    [code, a, b]
+}
+
 /// The most bytes that the dump reads, and that a record holds.
 pub const LONGEST: usize = 32_768;
 

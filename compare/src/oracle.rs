@@ -38,22 +38,22 @@ pub fn parse(text: &[u8]) -> Parsed {
     Parsed { words, bom: tape.utf8_bom(), refusal }
 }
 
-fn token_words(text: &[u8], token: &TextToken<'_>) -> [u32; WORDS] {
+fn token_words(text: &[u8], laid: &TextToken<'_>) -> [u32; WORDS] {
     let scalar = |code, scalar: &Scalar<'_>| {
         let bytes = scalar.as_bytes();
         let offset = bytes.as_ptr() as usize - text.as_ptr() as usize;
-        [code, offset as u32, bytes.len() as u32]
+        token(code, offset as u32, bytes.len() as u32)
     };
-    match token {
-        TextToken::Array { end, mixed } => [ARRAY, *end as u32, u32::from(*mixed)],
-        TextToken::Object { end, mixed } => [OBJECT, *end as u32, u32::from(*mixed)],
-        TextToken::MixedContainer => [MIXED_CONTAINER, 0, 0],
+    match laid {
+        TextToken::Array { end, mixed } => token(ARRAY, *end as u32, u32::from(*mixed)),
+        TextToken::Object { end, mixed } => token(OBJECT, *end as u32, u32::from(*mixed)),
+        TextToken::MixedContainer => token(MIXED_CONTAINER, 0, 0),
         TextToken::Unquoted(s) => scalar(UNQUOTED, s),
         TextToken::Quoted(s) => scalar(QUOTED, s),
         TextToken::Parameter(s) => scalar(PARAMETER, s),
         TextToken::UndefinedParameter(s) => scalar(UNDEFINED_PARAMETER, s),
-        TextToken::Operator(operator) => [OPERATOR, operator_number(*operator), 0],
-        TextToken::End(opener) => [END, *opener as u32, 0],
+        TextToken::Operator(operator) => token(OPERATOR, operator_number(*operator), 0),
+        TextToken::End(opener) => token(END, *opener as u32, 0),
         TextToken::Header(s) => scalar(HEADER, s),
     }
 }

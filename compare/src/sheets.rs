@@ -30,7 +30,8 @@ pub fn short(number: usize) -> Option<Record> {
     let (codes, links) = (LAST_CODE as usize + 3, EXISTS as usize + 2);
     let (code, a, b) = (number % codes, number / codes % links, number / (codes * links) % 4);
     let length = number / (codes * links * 4);
-    (length < 3).then(|| Record::check(length as u32, 1, &[code as u32, a as u32, b as u32]))
+    let words = token(code as u32, a as u32, b as u32);
+    (length < 3).then(|| Record::check(length as u32, 1, &words))
 }
 
 pub fn check(rng: &mut Rng) -> Record {
@@ -107,7 +108,7 @@ fn small(rng: &mut Rng) -> u32 {
 /// One word becomes another: beside it, out of the sheet, or out of all bounds.
 fn change(rng: &mut Rng, sheet: &mut Sheet) {
     if sheet.words.is_empty() {
-        sheet.words.extend([small(rng), rng.below(3) as u32, rng.below(3) as u32]);
+        sheet.words.extend(token(small(rng), rng.below(3) as u32, rng.below(3) as u32));
         sheet.count = 1;
         return;
     }
@@ -211,7 +212,8 @@ fn behead(sheet: &mut Sheet) {
     let links = |token: &[u32]| is_opener(token[0]) || token[0] == END;
     let moved =
         |token: &[u32]| if links(token) { token[1].saturating_sub(first as u32) } else { token[1] };
-    sheet.words = tokens.skip(first).flat_map(|token| [token[0], moved(token), token[2]]).collect();
+    sheet.words =
+        tokens.skip(first).flat_map(|words| token(words[0], moved(words), words[2])).collect();
     sheet.count -= first as u32;
 }
 
@@ -237,10 +239,10 @@ fn scalars_only(rng: &mut Rng, sheet: &mut Sheet) {
         let code = *rng.pick(&CLOSE_TOGETHER);
         let length = if code == QUOTED && rng.chance(50) { 0 } else { rng.below(3) as u32 };
         match code {
-            MIXED_CONTAINER => sheet.words.extend([code, 0, 0]),
-            OPERATOR => sheet.words.extend([code, rng.below(EXISTS as usize + 2) as u32, 0]),
+            MIXED_CONTAINER => sheet.words.extend(token(code, 0, 0)),
+            OPERATOR => sheet.words.extend(token(code, rng.below(EXISTS as usize + 2) as u32, 0)),
             _ => {
-                sheet.words.extend([code, at, length]);
+                sheet.words.extend(token(code, at, length));
                 at = (at + length + rng.below(3) as u32).saturating_sub(rng.below(2) as u32);
             }
         }
@@ -261,6 +263,6 @@ fn edge_view(rng: &mut Rng, sheet: &mut Sheet) {
         4 => (u32::MAX, rng.between(1, 3) as u32),
         _ => (rng.below(3) as u32, u32::MAX - rng.below(3) as u32),
     };
-    sheet.words.splice(0..0, [code, a, b]);
+    sheet.words.splice(0..0, token(code, a, b));
     sheet.count += 1;
 }

@@ -81,7 +81,7 @@ impl<'a> TextToken<'a> {
     /// The token that these words tell, where they have a token's form and lie in the text.
     #[inline]
     pub(crate) fn told(text: &'a [u8], words: &[u32; WORDS_PER_TOKEN]) -> Option<Self> {
-        let &[code, a, b] = words;
+        let [code, a, b, ..] = *words;
         let (a, b) = (a as usize, b as usize);
         let scalar = || text.get(a..a.checked_add(b)?).map(Scalar::new);
         Some(match code {
