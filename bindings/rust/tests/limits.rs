@@ -1,7 +1,8 @@
 //! What a user meets at the limits: of a text, of a tape, of words from elsewhere.
 
 use tackacorn::sheet::{self, Sheet};
-use tackacorn::{Error, ErrorKind, TEXT_LIMIT, TextTape, TextToken, WORDS_PER_TOKEN, words_for};
+use tackacorn::{Error, ErrorKind, Scalar, ScalarError, TextTape, TextToken};
+use tackacorn::{TEXT_LIMIT, WORDS_PER_TOKEN, words_for};
 
 #[test]
 fn the_text_limit_from_both_sides() {
@@ -69,7 +70,7 @@ fn each_refusal_of_a_text() {
 fn an_error_is_one_to_others() {
     fn takes(_: impl std::error::Error + Send + Sync + 'static) {}
     takes(TextTape::from_slice(b"a").unwrap_err());
-    takes(tackacorn::Scalar::new(b"").to_u64().unwrap_err());
+    takes(Scalar::new(b"").to_u64().unwrap_err());
     fn asks(text: &[u8]) -> Result<usize, Box<dyn std::error::Error>> {
         Ok(TextTape::from_slice(text)?.tokens().len())
     }
@@ -104,6 +105,28 @@ fn words_from_elsewhere() {
     }
     // a MixedContainer, six of the eight operators, three Unquoted and six Quoted
     assert_eq!(sound, 1 + 6 + 3 + 6);
+}
+
+/// The table of [`Scalar`]: numbers that have no digit.
+#[test]
+fn numbers_without_a_digit() {
+    use ScalarError::AllDigits;
+    let table = [
+        ("+", Ok(0), Ok(0), Ok(0.0)),
+        ("-", Err(AllDigits), Ok(0), Ok(0.0)),
+        (".", Err(AllDigits), Err(AllDigits), Ok(0.0)),
+        (".f", Err(AllDigits), Err(AllDigits), Ok(0.0)),
+        ("-.", Err(AllDigits), Err(AllDigits), Ok(-0.0)),
+        ("+f", Err(AllDigits), Err(AllDigits), Ok(0.0)),
+        ("-f", Err(AllDigits), Err(AllDigits), Ok(0.0)),
+        ("f", Err(AllDigits), Err(AllDigits), Err(AllDigits)),
+        ("", Err(AllDigits), Err(AllDigits), Err(AllDigits)),
+    ];
+    for (bytes, whole, signed, decimal) in table {
+        let scalar = Scalar::new(bytes.as_bytes());
+        assert_eq!((scalar.to_u64(), scalar.to_i64()), (whole, signed), "{bytes}");
+        assert_eq!(scalar.to_f64().map(f64::to_bits), decimal.map(f64::to_bits), "{bytes}");
+    }
 }
 
 #[test]
