@@ -49,6 +49,7 @@ FILL := sed -e 's|@VERSION@|$(VERSION)|g' -e 's|@LIMIT@|$(LIMIT)|g' -e 's|@PREFI
 all: $(BUILD)/libtackacorn.a $(BUILD)/libtackacorn.so $(BUILD)/tackacorn $(BUILD)/tackacorn.1
 
 $(PROVED): crates.txt $(CRATES)
+	@command -v $(RT) >/dev/null || { echo "make: $(RT) is not on the path: the Rattle kit is needed to prove the library" >&2; exit 1; }
 	$(RT) staticlib capi
 	@touch $@
 

@@ -69,7 +69,7 @@ enum tackacorn_refusal {
     TACKACORN_NO_HEADER = 4,         /* a '{' with neither a key nor a header before it */
     TACKACORN_NO_VALUE = 5,          /* a '}' where a value is due */
     TACKACORN_MIXED_PARAMETER = 6,   /* a '[' that opens a mixed container */
-    TACKACORN_NOTHING_PRECEDES = 7,  /* an operator that nothing may precede */
+    TACKACORN_NOTHING_PRECEDES = 7,  /* an operator with no scalar before it */
     TACKACORN_UNKNOWN_OPERATOR = 8,  /* bytes that begin as an operator and are none */
     TACKACORN_NO_PARAMETER = 9,      /* a '[' that no '[' follows */
     TACKACORN_OPEN_NAME = 10,        /* a parameter's name that no ']' ends */

@@ -20,7 +20,7 @@ const char *tackacorn_refusal_text(uint32_t number) {
     case TACKACORN_NO_HEADER: return "a '{' with neither a key nor a header before it";
     case TACKACORN_NO_VALUE: return "a '}' where a value is due";
     case TACKACORN_MIXED_PARAMETER: return "a '[' that opens a mixed container";
-    case TACKACORN_NOTHING_PRECEDES: return "an operator that nothing may precede";
+    case TACKACORN_NOTHING_PRECEDES: return "an operator with no scalar before it";
     case TACKACORN_UNKNOWN_OPERATOR: return "bytes that begin as an operator and are none";
     case TACKACORN_NO_PARAMETER: return "a '[' that no '[' follows";
     case TACKACORN_OPEN_NAME: return "a parameter's name that no ']' ends";
