@@ -81,22 +81,22 @@ record Reached (text : List ℕ) (at place : ℕ) (cut-off : Skipped) : Type 0 w
   passed : cut-off ≡ End
 
 -- a byte before the place stands in the text cut off there
-record Kept (text : List ℕ) (at place : ℕ) : Type 0 where
+record Uncut (text : List ℕ) (at place : ℕ) : Type 0 where
   below : at < length (take place text)
   byte : getD (take place text) at 0 ≡ getD text at 0
 
-kept : (text : List ℕ) (at place : ℕ) → Landed text (at + 1) place → Kept text at place
-kept text at place l =
+uncut : (text : List ℕ) (at place : ℕ) → Landed text (at + 1) place → Uncut text at place
+uncut text at place l =
     let h : at < place = omega (arith, l .from) in
     record { below = rw (length-take-le place text (omega (arith, l .within))) h; byte = getD-take place text at 0 h }
 
 -- one byte is passed before what is left reaches it
-reach-later : (text : List ℕ) (at place : ℕ) (now later : Skipped) → (Kept text at place → now ≡ later) → Reached text (at + 1) place later → Reached text at place now
+reach-later : (text : List ℕ) (at place : ℕ) (now later : Skipped) → (Uncut text at place → now ≡ later) → Reached text (at + 1) place later → Reached text at place now
 reach-later text at place now later step r =
     let l = r .landed in
     record {
       landed = record { from = omega (arith, l .from); within = l .within; no-blank = l .no-blank; no-comment = l .no-comment };
-      passed = step (kept text at place l) ∙ r .passed;
+      passed = step (uncut text at place l) ∙ r .passed;
     }
 
 reach-here : (text : List ℕ) (at place : ℕ) → at ≡ place → at < length text → is-blank (getD text at 0) ≡ false → (getD text at 0 ≡ hash → ⊥)

@@ -30,7 +30,7 @@ use Rattle.parse.specs.declared.machine.State.the-variants.{Key, KeyValu
 use Rattle.parse.specs.declared.machine.Machine.{Machine}
 use Rattle.parse.specs.Machine.{After, next, done, refused, and-then, byte-at, to, within, or-full, lay-then}
 use Rattle.parse.specs.Scalars.{scalar-then}
-use Rattle.parse.specs.Containers.{open-then, container-at, link-of, state-in, close-at, close, nothing-open, key-end, is-key, text-end}
+use Rattle.parse.specs.Containers.{open-then, container-at, parent-of, state-in, close-at, close, nothing-open, key-end, is-key, text-end}
 use Rattle.parse.specs.Parameter.{parameter-object, value-or-object, parameter-value, parameter-named, parameter-name, parameter}
 use Rattle.parse.specs.Key.{key-byte, key-close, open-header, key-header, key-brace, key-turn}
 use Rattle.parse.specs.KeyValueSeparator.{mixed-on, mix-then, separator-then, separator-turn}
@@ -181,7 +181,7 @@ module _ (text : List ℕ) (t : Tape) (m : Machine) (here : m .at < length text)
   key-close-falls : Falls (key-close t m)
   unfolding key-close
   key-close-falls =
-      by-bool (nothing-open (m .parent) (link-of (container-at t (m .parent))))
+      by-bool (nothing-open (m .parent) (parent-of (container-at t (m .parent))))
       (λ e. rw (key-close, e) (ahead text (m .at) (m .state) here (m .at + 1) Key (omega arith)))
       (λ e. rw (key-close, e) (close-ahead text (m .at) (m .state) here _ _ t m (omega arith)))
 
@@ -303,7 +303,7 @@ module _ (text : List ℕ) (t : Tape) (m : Machine) (here : m .at < length text)
   array-close-falls : Falls (array-close t m)
   unfolding array-close
   array-close-falls =
-      by-bool (nothing-open (m .parent) (link-of (container-at t (m .parent))))
+      by-bool (nothing-open (m .parent) (parent-of (container-at t (m .parent))))
       (λ e. rw (array-close, e) tt)
       (λ e. rw (array-close, e) (close-ahead text (m .at) (m .state) here _ _ t m (omega arith)))
 
@@ -362,7 +362,7 @@ end-stops P t m =
     by-bool (is-key (m .state))
     (λ e. by-bool (eqb (m .parent) 0)
     (λ f. rw (text-end, e, key-end, f) tt)
-    (λ f. by-bool (eqb (link-of (container-at t (m .parent))) 0)
+    (λ f. by-bool (eqb (parent-of (container-at t (m .parent))) 0)
     (λ g. rw (text-end, e, key-end, f, g) (all-close-at P _ _ _ t m (λ n t′. done n t′) (λ n t′. tt)))
     (λ g. rw (text-end, e, key-end, f, g) tt)))
     (λ e. rw (text-end, e) tt)

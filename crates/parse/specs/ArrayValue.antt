@@ -19,7 +19,7 @@ use Rattle.parse.specs.declared.array_value.ValueByte.{ValueByte}
 use Rattle.parse.specs.declared.array_value.ValueByte.the-variants.{Brace, Closer, Sign, Other}
 use Rattle.parse.specs.Machine.{After, next, refused, byte-at, to, lay-then}
 use Rattle.parse.specs.Scalars.{scalar-then}
-use Rattle.parse.specs.Containers.{open-then, container-at, link-of, kind-of, close, nothing-open}
+use Rattle.parse.specs.Containers.{open-then, container-at, parent-of, own-kind, close, nothing-open}
 use Rattle.parse.specs.KeyValueSeparator.{mix-then}
 
 -- whether a byte is `<` `>` `!` or `=`
@@ -40,9 +40,9 @@ value-byte b =
 -- `}`: close, own kind, flag = mixed
 unfoldable pub array-close : Tape → Machine → After
 array-close t m =
-    elim (nothing-open (m .parent) (link-of (container-at t (m .parent)))) [
+    elim (nothing-open (m .parent) (parent-of (container-at t (m .parent)))) [
       | true ↦ refused (StackEmpty (m .at))
-      | false ↦ close (kind-of (container-at t (m .parent))) (link-of (container-at t (m .parent))) t m
+      | false ↦ close (own-kind (container-at t (m .parent))) (parent-of (container-at t (m .parent))) t m
     ]
 
 -- mixed: an operator is added; else 8

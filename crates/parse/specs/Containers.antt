@@ -23,14 +23,14 @@ abbrev pub container-at : Tape → ℕ → Container
 container-at t i = container-of (token-at t i)
 
 -- an open container's a word holds its parent's index, 0 at top
-abbrev pub link-of : Container → ℕ
-link-of (Opened kind link mixed) = link
-link-of Nothing = 0
+abbrev pub parent-of : Container → ℕ
+parent-of (Opened kind link mixed) = link
+parent-of Nothing = 0
 
 -- a container's own kind
-abbrev pub kind-of : Container → ContainerKind
-kind-of (Opened kind link mixed) = kind
-kind-of Nothing = Object
+abbrev pub own-kind : Container → ContainerKind
+own-kind (Opened kind link mixed) = kind
+own-kind Nothing = Object
 
 -- Leaving a container takes up its parent: Array gives ArrayValue; Object gives ArrayValue if its stored flag is 1, else Key;
 -- none gives Key
@@ -69,7 +69,7 @@ unfoldable pub key-end : Tape → Machine → After
 key-end t m =
     elim (eqb (m .parent) 0) [
       | true ↦ done (m .count) t
-      | false ↦ elim (eqb (link-of (container-at t (m .parent))) 0) [
+      | false ↦ elim (eqb (parent-of (container-at t (m .parent))) 0) [
         | true ↦ close-at (m .parent) Object false t m (λ n t′. done n t′)
         | false ↦ refused Eof
       ]

@@ -18,7 +18,7 @@ use Rattle.parse.specs.declared.key.KeyByte.{KeyByte}
 use Rattle.parse.specs.declared.key.KeyByte.the-variants.{Closer, Brace, Bracket, Other}
 use Rattle.parse.specs.Machine.{After, next, refused, byte-at, to, lay-then}
 use Rattle.parse.specs.Scalars.{scalar-then}
-use Rattle.parse.specs.Containers.{container-at, link-of, close, nothing-open}
+use Rattle.parse.specs.Containers.{container-at, parent-of, close, nothing-open}
 use Rattle.parse.specs.Parameter.{parameter}
 
 -- what a byte is in Key
@@ -38,9 +38,9 @@ key-byte b =
 -- `}` or `]`: nothing open, skip it; else close as Object
 unfoldable pub key-close : Tape → Machine → After
 key-close t m =
-    elim (nothing-open (m .parent) (link-of (container-at t (m .parent)))) [
+    elim (nothing-open (m .parent) (parent-of (container-at t (m .parent)))) [
       | true ↦ next (to m (m .at + 1) Key (m .count)) t
-      | false ↦ close Object (link-of (container-at t (m .parent))) t m
+      | false ↦ close Object (parent-of (container-at t (m .parent))) t m
     ]
 
 -- the last token becomes Header, an Array is added, ParseOpen

@@ -1,10 +1,10 @@
 // A turn in ArrayValue.
 use crate::containers::close;
 use crate::containers::container_at;
-use crate::containers::kind_of;
-use crate::containers::link_of;
 use crate::containers::nothing_open;
 use crate::containers::open_then;
+use crate::containers::own_kind;
+use crate::containers::parent_of;
 use crate::machine::Machine;
 use crate::machine::Refusal;
 use crate::machine::State;
@@ -75,11 +75,11 @@ fn array_close(tape: &mut [u32], m: Machine) -> Turn
     ensures { λ r. ⌜ after r (now (tape .exit)) ≡ array-close (view (now (tape .entry)) (m .count)) m ⌝ }
 {
     let container = container_at(tape, m.count, m.parent);
-    let grand = link_of(container);
+    let grand = parent_of(container);
     if nothing_open(m.parent, grand) {
         return Turn::Refused(Refusal::StackEmpty(m.at));
     }
-    close(tape, m, kind_of(container), grand)
+    close(tape, m, own_kind(container), grand)
 }
 
 // The place one before another, which the refusals of operators name.

@@ -14,7 +14,7 @@ ghost use Prim.Native.Nat.{_<_};
 ghost use Rattle.tape.specs.Token.{opener-of, end-of};
 ghost use Rattle.tape.specs.Tape.{view, replace, lay, after-push};
 ghost use Rattle.parse.specs.Machine.{after};
-ghost use Rattle.parse.specs.Containers.{open-then, container-at, link-of, kind-of, state-in-object, state-in, mixed-in, resumed, close, nothing-open, key-end, is-key, text-end};
+ghost use Rattle.parse.specs.Containers.{open-then, container-at, parent-of, own-kind, state-in-object, state-in, mixed-in, resumed, close, nothing-open, key-end, is-key, text-end};
 ghost use Rattle.parse.specs.Parse.{text-limit};
 
 // `{` where a value is due: adds an Array, whose kind is settled in ParseOpen.
@@ -38,9 +38,9 @@ pub(crate) fn container_at(tape: &[u32], count: u32, i: u32) -> Container
     words::token(tape, count, i).container()
 }
 
-// The index that a container's link names, 0 where there is no container.
-pub(crate) fn link_of(container: Container) -> u32
-    ensures { λ r. ⌜ r ≡ link-of container ⌝ }
+// The parent that an open container names, 0 where there is none.
+pub(crate) fn parent_of(container: Container) -> u32
+    ensures { λ r. ⌜ r ≡ parent-of container ⌝ }
 {
     match container {
         Container::Opened {
@@ -53,8 +53,8 @@ pub(crate) fn link_of(container: Container) -> u32
 }
 
 // A container's own kind, Object where there is none.
-pub(crate) fn kind_of(container: Container) -> ContainerKind
-    ensures { λ r. ⌜ r ≡ kind-of container ⌝ }
+pub(crate) fn own_kind(container: Container) -> ContainerKind
+    ensures { λ r. ⌜ r ≡ own-kind container ⌝ }
 {
     match container {
         Container::Opened {
@@ -166,7 +166,7 @@ fn key_end(tape: &mut [u32], m: Machine) -> Turn
     if parent == 0 {
         return Turn::Done(count);
     }
-    if link_of(container_at(tape, count, parent)) != 0 {
+    if parent_of(container_at(tape, count, parent)) != 0 {
         return Turn::Refused(Refusal::Eof);
     }
     match close_at(tape, count, parent, ContainerKind::Object, false) {

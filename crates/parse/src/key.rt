@@ -1,8 +1,8 @@
 // A turn in Key.
 use crate::containers::close;
 use crate::containers::container_at;
-use crate::containers::link_of;
 use crate::containers::nothing_open;
+use crate::containers::parent_of;
 use crate::machine::Machine;
 use crate::machine::Refusal;
 use crate::machine::State;
@@ -59,7 +59,7 @@ fn key_close(tape: &mut [u32], m: Machine) -> Turn
     requires { ⌜ m .at < text-limit ⌝ }
     ensures { λ r. ⌜ after r (now (tape .exit)) ≡ key-close (view (now (tape .entry)) (m .count)) m ⌝ }
 {
-    let grand = link_of(container_at(tape, m.count, m.parent));
+    let grand = parent_of(container_at(tape, m.count, m.parent));
     if nothing_open(m.parent, grand) {
         return Turn::Next(m.to(m.at + 1, State::Key, m.count));
     }

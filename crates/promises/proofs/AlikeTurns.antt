@@ -35,7 +35,7 @@ use Rattle.parse.specs.declared.machine.Refusal.the-variants.{Eof, StackEmpty, 
 use Rattle.parse.specs.Refusals.{number}
 use Rattle.parse.specs.Machine.{After, next, done, refused, and-then, byte-at, to, within, lay-then}
 use Rattle.parse.specs.Scalars.{scalar-then}
-use Rattle.parse.specs.Containers.{open-then, container-at, link-of, kind-of, state-in, mixed-in, resumed, close-at, close, nothing-open, key-end, is-key, text-end}
+use Rattle.parse.specs.Containers.{open-then, container-at, parent-of, own-kind, state-in, mixed-in, resumed, close-at, close, nothing-open, key-end, is-key, text-end}
 use Rattle.parse.specs.Parameter.{parameter-object, value-or-object, parameter-value, parameter-named, parameter-name, parameter}
 use Rattle.parse.specs.Key.{key-byte, key-close, open-header, key-header, key-brace, key-turn}
 use Rattle.parse.specs.KeyValueSeparator.{mixed-on, mix-then, separator-then, separator-turn}
@@ -224,9 +224,9 @@ module _ (text : List ℕ) (budget k : ℕ) (ts : List Token) (m : Machine) (siz
   key-close-same : m .mixed ≡ false → Turns (m .count) (λ t. key-close t m)
   unfolding key-close token-at
   key-close-same off =
-      by-bool (nothing-open (m .parent) (link-of (container-at (tape-of unbounded ts) (m .parent))))
+      by-bool (nothing-open (m .parent) (parent-of (container-at (tape-of unbounded ts) (m .parent))))
       (λ e. rw (key-close, e) (moves-same (m .at + 1) Key off (omega arith)))
-      (λ e. rw (key-close, e) (close-same text budget k Object (link-of (container-at (tape-of unbounded ts) (m .parent))) ts m (m .count) sized here (omega arith)))
+      (λ e. rw (key-close, e) (close-same text budget k Object (parent-of (container-at (tape-of unbounded ts) (m .parent))) ts m (m .count) sized here (omega arith)))
 
   key-header-same : (at : ℕ) → m .at < at → Turns (m .count) (λ t. key-header at t m)
   unfolding key-header open-header token-at replace
@@ -359,10 +359,10 @@ module _ (text : List ℕ) (budget k : ℕ) (ts : List Token) (m : Machine) (siz
   array-close-same : Turns (m .count) (λ t. array-close t m)
   unfolding array-close token-at
   array-close-same =
-      by-bool (nothing-open (m .parent) (link-of (container-at (tape-of unbounded ts) (m .parent))))
+      by-bool (nothing-open (m .parent) (parent-of (container-at (tape-of unbounded ts) (m .parent))))
       (λ e. rw (array-close, e) (refuses (StackEmpty (m .at)) (omega arith)))
       (λ e. rw (array-close, e)
-      (close-same text budget k (kind-of (container-at (tape-of unbounded ts) (m .parent))) (link-of (container-at (tape-of unbounded ts) (m .parent))) ts m (m .count) sized here (omega arith)))
+      (close-same text budget k (own-kind (container-at (tape-of unbounded ts) (m .parent))) (parent-of (container-at (tape-of unbounded ts) (m .parent))) ts m (m .count) sized here (omega arith)))
 
   operator-same : (us : List Token) (m′ : Machine) → length us ≡ m′ .count → m .at ≤ m′ .at → m′ .count ≤ m .count + 1
       → Same text budget k (m′ .count) (m′ .count) (λ t. operator-then text t m′) us
@@ -429,7 +429,7 @@ end-same text budget k ts m sized small =
     by-bool (is-key (m .state))
     (λ e. by-bool (eqb (m .parent) 0)
     (λ f. rw (text-end, e, key-end, f) (alike-done text budget k ts (m .count) sized (omega arith)))
-    (λ f. by-bool (eqb (link-of (container-at (tape-of unbounded ts) (m .parent))) 0)
+    (λ f. by-bool (eqb (parent-of (container-at (tape-of unbounded ts) (m .parent))) 0)
     (λ g. rw (text-end, e, key-end, f, g)
     (close-at-same text budget k (m .parent) Object false ts m _ (λ n t. done n t)
     (alike-done text budget k _ (m .count + 1) (closed-sized (m .parent) _ _ ts (m .count) sized) (omega arith))))

@@ -57,11 +57,11 @@ inside t p some (inr o) =
     record { kind = r .0; up = o .0; mixed = r .1; read = r .2; link = o .1; before = o .2 }
 
 -- where something is open by the parent and the parent's own, the machine is in a container
-pub in-container : (t : Tape) (p : ℕ) → Kept (t .tokens) p → nothing-open p (C.link-of (container-at t p)) ≡ false → Inside t p
+pub in-container : (t : Tape) (p : ℕ) → Kept (t .tokens) p → nothing-open p (C.parent-of (container-at t p)) ≡ false → Inside t p
 unfolding token-at
 in-container t p s e = inside t p (λ z. let n = none z in let y : _≡_ {A = ℕ} 0 1 = cc in omega arith) (s .links .parent)
   where
-    none : p ≡ 0 → nothing-open p (C.link-of (container-at t p)) ≡ true
+    none : p ≡ 0 → nothing-open p (C.parent-of (container-at t p)) ≡ true
     none z =
         by-container (container-of (nth (t .tokens) p))
         (λ k l f c. absurd (s .links .top l (rw z at (reads-opener (t .tokens) s p c))))
@@ -117,10 +117,10 @@ module _ (t : Tape) (m : Machine) (r : Resting-at (m .count) (m .parent) (t .tok
       by-bool (eqb (m .parent) 0)
       (λ f. let z : m .parent ≡ 0 = eqb-true (m .parent) 0 f in
       rw (key-end, f) (record { counted = r .counted; tokens = tied (t .tokens) (rw z at (r .resting)) }))
-      (λ f. by-bool (eqb (C.link-of (container-at t (m .parent))) 0)
+      (λ f. by-bool (eqb (C.parent-of (container-at t (m .parent))) 0)
       (λ g. rw (key-end, f, g)
       (let o = inside t (m .parent) (eqb-false (m .parent) 0 f) (r .resting .kept .links .parent) in
-      let z : o .up ≡ 0 = ap C.link-of (sym (o .read)) ∙ eqb-true (C.link-of (container-at t (m .parent))) 0 g in
+      let z : o .up ≡ 0 = ap C.parent-of (sym (o .read)) ∙ eqb-true (C.parent-of (container-at t (m .parent))) 0 g in
       all-close-at Held (m .parent) Object false t m (λ n t′. done n t′)
       (λ t′ e. let k = closed-rests o Object false e .rest in
       record { counted = k .counted; tokens = tied (t′ .tokens) (rw z at (k .resting)) })))

@@ -59,7 +59,7 @@ module _ (text : List ℕ) (t : Tape) (m : Machine) (r : Resting-at (m .count) (
   key-close-held : All Held (key-close t m)
   unfolding key-close
   key-close-held =
-      by-bool (nothing-open (m .parent) (C.link-of (container-at t (m .parent))))
+      by-bool (nothing-open (m .parent) (C.parent-of (container-at t (m .parent))))
       (λ e. rw (key-close, e) (record { counted = r .counted; shaped = r .resting }))
       (λ e. let o = in-container t (m .parent) (r .resting .kept) e in
       rw (key-close, e, o .read) (close-held t m r o Object))
@@ -182,7 +182,7 @@ module _ (text : List ℕ) (t : Tape) (m : Machine) (g : Ready (m .count) (m .pa
   array-close-held : All Held (array-close t m)
   unfolding array-close
   array-close-held =
-      by-bool (nothing-open (m .parent) (C.link-of (container-at t (m .parent))))
+      by-bool (nothing-open (m .parent) (C.parent-of (container-at t (m .parent))))
       (λ e. rw (array-close, e) tt)
       (λ e. let o = in-container t (m .parent) (g .rest .resting .kept) e in
       rw (array-close, e, o .read) (close-held t m (g .rest) o (o .kind)))

@@ -15,7 +15,7 @@ use Rattle.tape.specs.declared.token.ContainerKind.{ContainerKind}
 use Rattle.tape.specs.declared.token.ContainerKind.the-variants.{Array, Object}
 use Rattle.tape.specs.Token.{no-token, mixed-container-token, opener-of, end-of, container-of}
 use Rattle.tape.specs.Tape.{before-last}
-use Rattle.parse.specs.Containers.{link-of}
+use Rattle.parse.specs.Containers.{parent-of}
 use Rattle.sheet.specs.Sound.{nth}
 use Rattle.promises.proofs.Rising.Spans.{span-of, mixed-bare, end-bare, opener-bare}
 
@@ -54,7 +54,7 @@ each-map P Q (t ∷ ts) f e = (f t (e .0), each-map P Q ts f (e .1))
 
 -- a token's link, 0 where it opens nothing
 abbrev pub link : Token → ℕ
-link t = link-of (container-of t)
+link t = parent-of (container-of t)
 
 -- the tokens of a machine with a count and a parent: as many as counted, and the parent and every link stand
 pub record Linked (count parent : ℕ) (ts : List Token) : Type 0 where

@@ -35,7 +35,7 @@ use Rattle.parse.specs.declared.machine.Machine.{Machine}
 use Rattle.parse.specs.declared.machine.Refusal.the-variants.{Eof}
 use Rattle.parse.specs.Machine.{After, next, done, refused, and-then, byte-at, to, within, or-full, lay-then}
 use Rattle.parse.specs.Scalars.{scalar-then}
-use Rattle.parse.specs.Containers.{open-then, container-at, link-of, kind-of, state-in, resumed, close-at, close, nothing-open, key-end, is-key, text-end}
+use Rattle.parse.specs.Containers.{open-then, container-at, parent-of, own-kind, state-in, resumed, close-at, close, nothing-open, key-end, is-key, text-end}
 use Rattle.parse.specs.Parameter.{parameter-object, value-or-object, parameter-value, parameter-named, parameter-name, parameter}
 use Rattle.parse.specs.Key.{key-byte, key-close, open-header, key-header, key-brace, key-turn}
 use Rattle.parse.specs.KeyValueSeparator.{mixed-on, mix-then, separator-then, separator-turn}
@@ -182,12 +182,12 @@ module _ (text : List ℕ) where
 
   -- ---- closing
   -- the container that the machine is in
-  close-leaves : (kind : ContainerKind) (t : Tape) (m : Machine) → nothing-open (m .parent) (link-of (container-at t (m .parent))) ≡ false
-      → Holds L m t → Leaves L (close kind (link-of (container-at t (m .parent))) t m)
+  close-leaves : (kind : ContainerKind) (t : Tape) (m : Machine) → nothing-open (m .parent) (parent-of (container-at t (m .parent))) ≡ false
+      → Holds L m t → Leaves L (close kind (parent-of (container-at t (m .parent))) t m)
   unfolding close token-at add replace
   close-leaves kind t m e b =
       let ts = t .tokens in
-      let up : ℕ = link-of (container-at t (m .parent)) in
+      let up : ℕ = parent-of (container-at t (m .parent)) in
       let bare : span-of (nth ts (m .parent)) ≡ [] = open-bare b e in
       let us = set ts (m .parent) (opener-of kind (m .count) (m .mixed)) ++ (end-of (m .parent) ∷ []) in
       let shut : Base L (m .at) (m .count + 1) (m .parent) us = base-close b (m .parent) kind (m .mixed) bare in
@@ -298,7 +298,7 @@ module _ (text : List ℕ) where
     key-close-leaves : Leaves L (key-close t m)
     unfolding key-close
     key-close-leaves =
-        by-bool (nothing-open (m .parent) (link-of (container-at t (m .parent))))
+        by-bool (nothing-open (m .parent) (parent-of (container-at t (m .parent))))
         (λ e. rw (key-close, e) (on-leaves (m .at + 1) Key tt (omega arith)))
         (λ e. rw (key-close, e) (close-leaves Object t m e b))
 
@@ -376,9 +376,9 @@ module _ (text : List ℕ) where
     array-close-leaves : Leaves L (array-close t m)
     unfolding array-close
     array-close-leaves =
-        by-bool (nothing-open (m .parent) (link-of (container-at t (m .parent))))
+        by-bool (nothing-open (m .parent) (parent-of (container-at t (m .parent))))
         (λ e. rw (array-close, e) tt)
-        (λ e. rw (array-close, e) (close-leaves (kind-of (container-at t (m .parent))) t m e b))
+        (λ e. rw (array-close, e) (close-leaves (own-kind (container-at t (m .parent))) t m e b))
 
     operator-leaves : Leaves L (operator-then text t m)
     unfolding operator-then
@@ -435,7 +435,7 @@ module _ (text : List ℕ) where
         (λ e. by-container (container-at t (m .parent))
         (λ kind up mixed f.
         let x = opener-of kind up true in
-        let here : link (nth ts (m .parent)) ≡ up = ap link-of f in
+        let here : link (nth ts (m .parent)) ≡ up = ap parent-of f in
         let above : Stands ts (link x) = rw (opener-link kind up true, ← here) (stands-up (m .parent) (b .linked)) in
         rw (flag-parent, e, f) (base-set b (m .parent) x (opener-bare kind up true ∙ sym (opened-bare (nth ts (m .parent)) kind up mixed f)) above))
         (λ f. rw (flag-parent, e, f) b))
@@ -551,7 +551,7 @@ module _ (text : List ℕ) where
   key-end-leaves t m b =
       by-bool (eqb (m .parent) 0)
       (λ f. rw (key-end, f) (finished t m (m .count) (t .tokens) b))
-      (λ f. by-bool (eqb (link-of (container-at t (m .parent))) 0)
+      (λ f. by-bool (eqb (parent-of (container-at t (m .parent))) 0)
       (λ g.
       let bare : span-of (nth (t .tokens) (m .parent)) ≡ [] = b .linked .inside (λ z. eqb-false (m .parent) 0 f z) .1 in
       rw (key-end, f, g)

@@ -8,8 +8,8 @@ use Rattle.parse.proofs.array_value.array_close.Tie as tie
 container-at-requires : tie.Need-container-at-requires
 container-at-requires c κs = search needs
 
-link-of-requires : tie.Need-link-of-requires
-link-of-requires c κs = search needs
+parent-of-requires : tie.Need-parent-of-requires
+parent-of-requires c κs = search needs
 
 nothing-open-requires : tie.Need-nothing-open-requires
 nothing-open-requires c κs = search needs
@@ -19,10 +19,10 @@ same-length c = search needs
 
 returns : tie.Need-returns
 unfolding array-close
-returns c = rw (array-close, ← (c .before .before .before .container-at .ensures), ← (c .before .before .link-of .ensures), ← (c .before .nothing-open .ensures), c .if1 .taken)
+returns c = rw (array-close, ← (c .before .before .before .container-at .ensures), ← (c .before .before .parent-of .ensures), ← (c .before .nothing-open .ensures), c .if1 .taken)
 
-kind-of-requires : tie.Need-kind-of-requires
-kind-of-requires c κs = search needs
+own-kind-requires : tie.Need-own-kind-requires
+own-kind-requires c κs = search needs
 
 close-requires : tie.Need-close-requires
 close-requires c κs = search needs
@@ -32,18 +32,18 @@ same-length-2 c = search needs
 
 returns-2 : tie.Need-returns-2
 unfolding array-close
-returns-2 c = rw (array-close, ← (c .before .before .before .before .before .before .before .before .container-at .ensures), ← (c .before .before .before .before .before .before .before .link-of .ensures), ← (c .before .before .before .before .before .before .nothing-open .ensures), c .before .before .before .before .before .if1 .left, c .before .before .close .ensures, c .before .before .before .kind-of .ensures, c .before .before .before .before .before .before .before .link-of .ensures, c .before .before .before .before .before .before .before .before .container-at .ensures)
+returns-2 c = rw (array-close, ← (c .before .before .before .before .before .before .before .before .container-at .ensures), ← (c .before .before .before .before .before .before .before .parent-of .ensures), ← (c .before .before .before .before .before .before .nothing-open .ensures), c .before .before .before .before .before .if1 .left, c .before .before .close .ensures, c .before .before .before .own-kind .ensures, c .before .before .before .before .before .before .before .parent-of .ensures, c .before .before .before .before .before .before .before .before .container-at .ensures)
 
 pub array-close-spec : {M : Type 1} → statement M
 array-close-spec =
     tie.close
     (tie.spec
     container-at-requires
-    link-of-requires
+    parent-of-requires
     nothing-open-requires
     same-length
     returns
-    kind-of-requires
+    own-kind-requires
     close-requires
     same-length-2
     returns-2)

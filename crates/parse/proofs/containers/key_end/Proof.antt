@@ -13,15 +13,15 @@ returns c = rw (key-end, eq-eqb _ _ (c .if1 .taken))
 container-at-requires : tie.Need-container-at-requires
 container-at-requires c κs = search needs
 
-link-of-requires : tie.Need-link-of-requires
-link-of-requires c κs = search needs
+parent-of-requires : tie.Need-parent-of-requires
+parent-of-requires c κs = search needs
 
 same-length : tie.Need-same-length
 same-length c = search needs
 
 returns-2 : tie.Need-returns-2
 unfolding key-end
-returns-2 c = rw (key-end, ne-eqb _ _ (c .before .before .before .before .if1 .left), ← (c .before .before .container-at .ensures), ← (c .before .link-of .ensures), ne-eqb _ _ (c .if2 .taken))
+returns-2 c = rw (key-end, ne-eqb _ _ (c .before .before .before .before .if1 .left), ← (c .before .before .container-at .ensures), ← (c .before .parent-of .ensures), ne-eqb _ _ (c .if2 .taken))
 
 close-at-requires : tie.Need-close-at-requires
 close-at-requires c κs = search needs
@@ -37,14 +37,14 @@ same-length-2 c = search needs
 
 returns-3 : tie.Need-returns-3
 unfolding key-end close-at
-returns-3 c = rw (key-end, ne-eqb _ _ (c .before .before .before .before .before .before .before .before .before .before .before .if1 .left), ← (c .before .before .before .before .before .before .before .before .before .container-at .ensures), ← (c .before .before .before .before .before .before .before .before .link-of .ensures), eq-eqb _ _ (c .before .before .before .before .before .before .before .if2 .left), close-at, ← (c .before .before .before .before .before .close-at .ensures), c .before .end .given .1)
+returns-3 c = rw (key-end, ne-eqb _ _ (c .before .before .before .before .before .before .before .before .before .before .before .if1 .left), ← (c .before .before .before .before .before .before .before .before .before .container-at .ensures), ← (c .before .before .before .before .before .before .before .before .parent-of .ensures), eq-eqb _ _ (c .before .before .before .before .before .before .before .if2 .left), close-at, ← (c .before .before .before .before .before .close-at .ensures), c .before .end .given .1)
 
 same-length-3 : tie.Need-same-length-3
 same-length-3 c = search needs
 
 returns-4 : tie.Need-returns-4
 unfolding key-end close-at
-returns-4 c = rw (key-end, ne-eqb _ _ (c .before .before .before .before .before .before .before .before .before .before .if1 .left), ← (c .before .before .before .before .before .before .before .before .container-at .ensures), ← (c .before .before .before .before .before .before .before .link-of .ensures), eq-eqb _ _ (c .before .before .before .before .before .before .if2 .left), close-at, ← (c .before .before .before .before .close-at .ensures), c .enum-told .given .1)
+returns-4 c = rw (key-end, ne-eqb _ _ (c .before .before .before .before .before .before .before .before .before .before .if1 .left), ← (c .before .before .before .before .before .before .before .before .container-at .ensures), ← (c .before .before .before .before .before .before .before .parent-of .ensures), eq-eqb _ _ (c .before .before .before .before .before .before .if2 .left), close-at, ← (c .before .before .before .before .close-at .ensures), c .enum-told .given .1)
 
 pub key-end-spec : {M : Type 1} → statement M
 key-end-spec =
@@ -52,7 +52,7 @@ key-end-spec =
     (tie.spec
     returns
     container-at-requires
-    link-of-requires
+    parent-of-requires
     same-length
     returns-2
     close-at-requires

@@ -8,8 +8,8 @@ use Rattle.parse.proofs.key.key_close.Tie as tie
 container-at-requires : tie.Need-container-at-requires
 container-at-requires c κs = search needs
 
-link-of-requires : tie.Need-link-of-requires
-link-of-requires c κs = search needs
+parent-of-requires : tie.Need-parent-of-requires
+parent-of-requires c κs = search needs
 
 nothing-open-requires : tie.Need-nothing-open-requires
 nothing-open-requires c κs = search needs
@@ -25,7 +25,7 @@ same-length c = search needs
 
 returns : tie.Need-returns
 unfolding key-close
-returns c = rw (key-close, ← (c .before .before .before .before .before .container-at .ensures), ← (c .before .before .before .before .link-of .ensures), ← (c .before .before .before .nothing-open .ensures), c .before .before .if1 .taken, c .to .ensures)
+returns c = rw (key-close, ← (c .before .before .before .before .before .container-at .ensures), ← (c .before .before .before .before .parent-of .ensures), ← (c .before .before .before .nothing-open .ensures), c .before .before .if1 .taken, c .to .ensures)
 
 close-requires : tie.Need-close-requires
 close-requires c κs = search needs
@@ -35,14 +35,14 @@ same-length-2 c = search needs
 
 returns-2 : tie.Need-returns-2
 unfolding key-close
-returns-2 c = rw (key-close, ← (c .before .before .before .before .before .before .before .container-at .ensures), ← (c .before .before .before .before .before .before .link-of .ensures), ← (c .before .before .before .before .before .nothing-open .ensures), c .before .before .before .before .if1 .left, c .before .before .close .ensures, c .before .before .before .before .before .before .link-of .ensures, c .before .before .before .before .before .before .before .container-at .ensures)
+returns-2 c = rw (key-close, ← (c .before .before .before .before .before .before .before .container-at .ensures), ← (c .before .before .before .before .before .before .parent-of .ensures), ← (c .before .before .before .before .before .nothing-open .ensures), c .before .before .before .before .if1 .left, c .before .before .close .ensures, c .before .before .before .before .before .before .parent-of .ensures, c .before .before .before .before .before .before .before .container-at .ensures)
 
 pub key-close-spec : {M : Type 1} → statement M
 key-close-spec =
     tie.close
     (tie.spec
     container-at-requires
-    link-of-requires
+    parent-of-requires
     nothing-open-requires
     add-to
     to-requires
