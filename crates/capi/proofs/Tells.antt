@@ -9,9 +9,10 @@ use Rattle.parse.specs.declared.Parsed.the-variants.{Tokens, Refused}
 use Rattle.parse.specs.declared.machine.Refusal.{Refusal}
 use Rattle.parse.specs.Refusals.{number, place}
 use Rattle.parse.specs.Parse.{Outcome, outcome}
+use Rattle.parse.specs.Told.{bit, parse-told, tell-parse}
 use Rattle.sheet.specs.declared.views.Viewed.{Viewed}
 use Rattle.sheet.specs.declared.views.Viewed.the-variants.{At, NoScalar}
-use Rattle.capi.specs.Told.{bit, read-told, parse-told, tell-parse, view-told, tell-view}
+use Rattle.capi.specs.Told.{read-told, view-told, tell-view}
 
 -- the refusal and the value of a reading, told as they are
 pub reads : {Read Value : Type 0} (refusal : Read → ℕ) (value : Read → Value) {told said : ℕ} {v : Value} {read spec : Read} →

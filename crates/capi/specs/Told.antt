@@ -1,12 +1,9 @@
 -- What the calls tell C: a number for the refusal, 0 for none, and beside it what is written through each pointer.
+-- What a parse tells stands beside the parse: `tell-parse` of crates/parse/specs/Told.antt.
 use Prim.Native.Nat.{ℕ}
-use mathlib.Core.Bool.{Bool, true, false}
-use mathlib.Core.List.{List}
 use lib.Ieee.{Float}
 use lib.IntN.{ℤ}
-use Rattle.parse.specs.declared.Parsed.the-variants.{Tokens, Refused}
-use Rattle.parse.specs.Refusals.{number, place}
-use Rattle.parse.specs.Parse.{Outcome, outcome}
+use Rattle.parse.specs.Told.{bit}
 use Rattle.scalar.specs.Numbers.{bool-refusal-of, bool-value-of, u64-refusal-of, u64-value-of, i64-refusal-of, i64-value-of, f64-refusal-of, f64-value-of}
 use Rattle.scalar.specs.declared.truth.BoolRead.{BoolRead}
 use Rattle.scalar.specs.declared.whole.U64Read.{U64Read}
@@ -16,20 +13,6 @@ use Rattle.sheet.specs.declared.views.Viewed.{Viewed}
 use Rattle.sheet.specs.declared.views.Viewed.the-variants.{At, NoScalar}
 use Rattle.sheet.specs.Views.{refusal-of}
 use Rattle.tape.specs.declared.token.Token.{Token}
-
--- 1 for yes and 0 for no
-abbrev pub bit : Bool → ℕ
-bit true = 1
-bit false = 0
-
--- a parse: its refusal, the count, the BOM, the place, and the words that it leaves
-pub data ParseTold : Type 0 where
-  parse-told : (refusal count bom place : ℕ) → List ℕ → ParseTold
-
--- a refused text has no token and no BOM, and a parsed one no place
-abbrev pub tell-parse : Outcome → ParseTold
-tell-parse (outcome (Tokens count bom) words) = parse-told 0 count (bit bom) 0 words
-tell-parse (outcome (Refused r) words) = parse-told (number r) 0 0 (place r) words
 
 -- a view: its refusal, its offset and its length
 pub data ViewTold : Type 0 where

@@ -10,6 +10,7 @@ ghost use mathlib.Core.Bool.{true};
 ghost use mathlib.Core.Logic.{_↔_};
 ghost use lib.ListN.{length};
 ghost use Rattle.parse.specs.Parse.{parse-of};
+ghost use Rattle.parse.specs.Told.{bit, parse-told, tell-parse};
 ghost use Rattle.scalar.specs.Truth.{bool-read};
 ghost use Rattle.scalar.specs.Whole.{u64-read, i64-read};
 ghost use Rattle.scalar.specs.Float.{f64-read};
@@ -18,7 +19,7 @@ ghost use Rattle.scalar.specs.Numbers.{kind-number-of};
 ghost use Rattle.sheet.specs.Sound.{Sound};
 ghost use Rattle.sheet.specs.Views.{viewed};
 ghost use Rattle.tape.specs.Words.{token-in};
-ghost use Rattle.capi.specs.Told.{bit, parse-told, tell-parse, view-told, tell-view, read-told, tell-bool, tell-u64, tell-i64, tell-f64, token-told};
+ghost use Rattle.capi.specs.Told.{view-told, tell-view, read-told, tell-bool, tell-u64, tell-i64, tell-f64, token-told};
 
 // 1 for yes and 0 for no.
 fn bit_of(yes: bool) -> u32

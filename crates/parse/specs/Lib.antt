@@ -9,3 +9,4 @@ pub mod ObjectValue
 pub mod ParseOpen
 pub mod ArrayValue
 pub mod Parse
+pub mod Told

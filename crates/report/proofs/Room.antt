@@ -15,7 +15,8 @@ use Rattle.tape.specs.Words.{tokens-in, token-in}
 use Rattle.tape.specs.Token.{no-token}
 use Rattle.report.proofs.Digits.{decimal-one, decimal-more}
 use Rattle.report.specs.Digits.{decimal}
-use Rattle.report.specs.Dump.{Named, names, named, name-of, line-of, lines-from, bit, header-of}
+use Rattle.parse.specs.Told.{bit}
+use Rattle.report.specs.Dump.{Named, names, named, name-of, line-of, lines-from, header-of}
 
 quotient-below : (n m : ℕ) → n < m * 10 → n / 10 < m
 quotient-below n m h = div-lt-iff-lt-mul {k = 10} {x = n} {y = m} (omega arith) .1 h

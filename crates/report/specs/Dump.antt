@@ -13,6 +13,7 @@ use Rattle.parse.specs.declared.Parsed.the-variants.{Tokens, Refused}
 use Rattle.parse.specs.declared.machine.Refusal.{Refusal}
 use Rattle.parse.specs.Parse.{Outcome, outcome, parse-of}
 use Rattle.parse.specs.Refusals.{number, place}
+use Rattle.parse.specs.Told.{bit}
 use Rattle.report.specs.Digits.{decimal}
 use Rattle.report.specs.Words as words
 
@@ -56,11 +57,6 @@ line-of i t = decimal i ++ (space ∷ []) ++ name-of (t .code) ++ field (t .a) +
 unfoldable pub lines-from : List ℕ → ℕ → ℕ → ℕ → List ℕ
 lines-from ws n i zero = []
 lines-from ws n i (suc k) = line-of i (token-in ws n i) ++ lines-from ws n (i + 1) k
-
--- 1 or 0
-abbrev pub bit : Bool → ℕ
-bit true = 1
-bit false = 0
 
 -- a header with count and BOM as 0 or 1
 unfoldable pub header-of : ℕ → Bool → List ℕ

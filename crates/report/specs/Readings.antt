@@ -17,7 +17,7 @@ use Rattle.scalar.specs.declared.whole.I64Read.{I64Read}
 use Rattle.scalar.specs.declared.whole.U64Read.the-variants as U64
 use Rattle.scalar.specs.declared.whole.U64Read.{U64Read}
 use Rattle.report.specs.Digits.{decimal, hex}
-use Rattle.report.specs.Dump.{bit}
+use Rattle.parse.specs.Told.{bit}
 
 -- what stands between a refusal and the bits that it carries
 abbrev pub colon : ℕ

@@ -7,7 +7,8 @@ use tape::token::Token;
 use tape::words;
 ghost use mathlib.Core.Path.{_≡_};
 ghost use Rattle.report.specs.Append.{wrote, append};
-ghost use Rattle.report.specs.Dump.{name-of, field, line-of, lines-from, bit, header-of, refused-of};
+ghost use Rattle.parse.specs.Told.{bit};
+ghost use Rattle.report.specs.Dump.{name-of, field, line-of, lines-from, header-of, refused-of};
 
 // Puts the name of the tokens that have a code, nothing for a code that none has.
 pub fn put_name(out: &mut [u8], at: usize, code: u32) -> usize

@@ -2,7 +2,7 @@
 -- Assumes nothing.
 use borrow.Author.Needs.{needs}
 use mathlib.Core.Path.{_∙_, ap}
-use Rattle.capi.specs.Told.{bit}
+use Rattle.parse.specs.Told.{bit}
 use Rattle.scalar.specs.declared.truth.BoolRead.{BoolRead}
 use Rattle.scalar.specs.Numbers.{bool-refusal-of, bool-value-of}
 use Rattle.capi.proofs.Tells.{reads}
