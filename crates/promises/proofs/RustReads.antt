@@ -21,7 +21,7 @@ use Rattle.tape.specs.Tape.{unbounded, token-at}
 use Rattle.tape.proofs.Shapes.{end-link}
 use Rattle.sheet.specs.Sound.{nth, Form, container, mixed-container, scalar, operator, closing}
 use Rattle.parse.specs.declared.machine.State.{State}
-use Rattle.parse.specs.Containers.{container-at, link-of, kind-of, state-in, mixed-in, nothing-open}
+use Rattle.parse.specs.Containers.{container-at, parent-of, own-kind, state-in, mixed-in, nothing-open}
 use Rattle.parse.proofs.Splits.{by-container}
 use Rattle.promises.specs.Room.{tape-of}
 use Rattle.promises.specs.Mixed.{Scalar}
@@ -32,7 +32,7 @@ use Rattle.promises.proofs.Links.Closing.{in-container}
 use Rattle.promises.specs.RustTape.{last, get, its-end, is-array, opens, mixed-of, state-of, as-scalar}
 
 -- ---- a container, by the Rust's matches and by ours
-pub ends-same : (c : Containers.Container) → its-end c ≡ link-of c
+pub ends-same : (c : Containers.Container) → its-end c ≡ parent-of c
 ends-same (Containers.the-variants.Opened Array end mixed) = refl
 ends-same (Containers.the-variants.Opened Object end mixed) = refl
 ends-same Containers.the-variants.Nothing = refl
@@ -51,7 +51,7 @@ state-same Containers.the-variants.Nothing = refl
 abbrev pub array-or-object : Bool → ContainerKind
 array-or-object b = elim b [ true ↦ Array | false ↦ Object ]
 
-pub kind-same : (c : Containers.Container) → array-or-object (is-array c) ≡ kind-of c
+pub kind-same : (c : Containers.Container) → array-or-object (is-array c) ≡ own-kind c
 kind-same (Containers.the-variants.Opened Array end mixed) = refl
 kind-same (Containers.the-variants.Opened Object end mixed) = refl
 kind-same Containers.the-variants.Nothing = refl
@@ -103,13 +103,13 @@ module _ (ts : List Token) {p : ℕ} (s : Kept ts p) where
   top-nothing = by-container (get ts 0) (λ k l f c. absurd (s .links .top l (reads-opener 0 c))) (λ c. c)
 
   -- where something is open, the parent is one of the tokens
-  pub parent-within : nothing-open p (link-of (get ts p)) ≡ false → p < length ts
+  pub parent-within : nothing-open p (parent-of (get ts p)) ≡ false → p < length ts
   unfolding token-at
   parent-within e = opener-below (s .links) (in-container (tape-of unbounded ts) p s e .link)
 
   -- where nothing is, the parent is 0
-  pub parent-none : nothing-open p (link-of (get ts p)) ≡ true → p ≡ 0
-  parent-none e = eqb-true p 0 (both (eqb p 0) (eqb (link-of (get ts p)) 0) e)
+  pub parent-none : nothing-open p (parent-of (get ts p)) ≡ true → p ≡ 0
+  parent-none e = eqb-true p 0 (both (eqb p 0) (eqb (parent-of (get ts p)) 0) e)
 
   container-few : (k : ContainerKind) → container-code k ≤ 2
   container-few Array = omega arith

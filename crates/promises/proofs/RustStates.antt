@@ -31,7 +31,7 @@ use Rattle.parse.specs.declared.machine.Machine.{Machine}
 use Rattle.parse.specs.declared.machine.Refusal.the-variants.{Eof, StackEmpty, NoHeader, MixedParameter, NothingPrecedes, UnknownOperator}
 use Rattle.parse.specs.Machine.{After, next, done, refused, and-then, byte-at, to, within, lay-then}
 use Rattle.parse.specs.Scalars.{scalar-then}
-use Rattle.parse.specs.Containers.{open-then, container-at, link-of, kind-of, state-in, mixed-in, resumed, close-at, close, nothing-open, key-end, is-key, text-end}
+use Rattle.parse.specs.Containers.{open-then, container-at, parent-of, own-kind, state-in, mixed-in, resumed, close-at, close, nothing-open, key-end, is-key, text-end}
 use Rattle.parse.specs.Parameter.{parameter}
 use Rattle.parse.specs.Key.{key-byte, key-close, open-header, key-header, key-brace, key-turn}
 use Rattle.parse.specs.KeyValueSeparator.{mixed-on, mix-then}
@@ -63,19 +63,19 @@ module _ (text : List ℕ) (ts : List Token) (m : Machine) (sized : length ts �
 
   -- ---- Key
   -- nothing open, by the Rust and by us
-  open-test : (b : Bool) → nothing-open (m .parent) (link-of (get ts (m .parent))) ≡ b → (eqb (m .parent) 0 && eqb (its-end (get ts (m .parent))) 0) ≡ b
+  open-test : (b : Bool) → nothing-open (m .parent) (parent-of (get ts (m .parent))) ≡ b → (eqb (m .parent) 0 && eqb (its-end (get ts (m .parent))) 0) ≡ b
   open-test b e = ap (λ (x : ℕ). eqb (m .parent) 0 && eqb x 0) (ends-same (get ts (m .parent))) ∙ e
 
   key-close-same : m .mixed ≡ false → Kept ts (m .parent) → Same text (m .count) (rust-key-close parser) (key-close tape m)
   unfolding rust-key-close key-close close close-at lay add replace token-at
   key-close-same off s =
-      by-bool (nothing-open (m .parent) (link-of (get ts (m .parent))))
+      by-bool (nothing-open (m .parent) (parent-of (get ts (m .parent))))
       (λ e.
       let z : m .parent ≡ 0 = parent-none ts s e in
       let up : its-end (get ts (m .parent)) ≡ 0 = ap (λ (i : ℕ). its-end (get ts i)) z ∙ ap its-end (top-nothing ts s) in
       rw (rust-key-close, open-test true e, key-close, e, part-next text (m .at) 1, up, top-nothing ts s, off))
       (λ e.
-      let grand : ℕ = link-of (get ts (m .parent)) in
+      let grand : ℕ = parent-of (get ts (m .parent)) in
       rw (
         rust-key-close,
         open-test false e,
@@ -287,10 +287,10 @@ module _ (text : List ℕ) (ts : List Token) (m : Machine) (sized : length ts �
   array-close-same : Kept ts (m .parent) → Same text (m .count) (rust-array-close (length text) parser′) (array-close tape′ m)
   unfolding rust-array-close array-close close close-at lay add replace token-at
   array-close-same s =
-      by-bool (nothing-open (m .parent) (link-of (get ts (m .parent))))
+      by-bool (nothing-open (m .parent) (parent-of (get ts (m .parent))))
       (λ e. rw (rust-array-close, open-test text ts m sized here true e, array-close, e) (ap StackEmpty (offset-there text (m .at) (omega arith)), sized))
       (λ e.
-      let grand : ℕ = link-of (get ts (m .parent)) in
+      let grand : ℕ = parent-of (get ts (m .parent)) in
       rw (
         rust-array-close,
         open-test text ts m sized here false e,
@@ -349,10 +349,10 @@ end-same text ts m sized s =
     by-state (m .state)
     (λ st. by-bool (eqb (m .parent) 0)
     (λ e. rw (at-end, st, e, text-end, key-end))
-    (λ e. by-bool (eqb (link-of (get ts (m .parent))) 0)
+    (λ e. by-bool (eqb (parent-of (get ts (m .parent))) 0)
     (λ f.
     let up : eqb (its-end (get ts (m .parent))) 0 ≡ true = ap (λ (x : ℕ). eqb x 0) (ends-same (get ts (m .parent))) ∙ f in
-    let some-open : nothing-open (m .parent) (link-of (get ts (m .parent))) ≡ false = rw e in
+    let some-open : nothing-open (m .parent) (parent-of (get ts (m .parent))) ≡ false = rw e in
     rw (
       at-end,
       st,

@@ -37,7 +37,7 @@ use Rattle.parse.specs.declared.machine.Refusal.{Refusal}
 use Rattle.parse.specs.declared.machine.Refusal.the-variants.{NoValue}
 use Rattle.parse.specs.Machine.{After, next, done, refused, and-then, byte-at, to, within, lay-then}
 use Rattle.parse.specs.Scalars.{scalar-then}
-use Rattle.parse.specs.Containers.{open-then, container-at, link-of, kind-of, state-in, mixed-in, resumed, close-at, close, nothing-open, key-end, is-key, text-end}
+use Rattle.parse.specs.Containers.{open-then, container-at, parent-of, own-kind, state-in, mixed-in, resumed, close-at, close, nothing-open, key-end, is-key, text-end}
 use Rattle.parse.specs.KeyValueSeparator.{mixed-on, mix-then, separator-then, separator-turn}
 use Rattle.parse.specs.ObjectValue.{object-value-turn}
 use Rattle.parse.proofs.Splits.{by-skipped, by-cut, by-sighted, by-standing, by-container, by-state}
