@@ -2,10 +2,11 @@
  *
  * BEFORE YOU BOOK FROM A SAVE
  *
- *  - A save that was cut short may parse. Where the text ends inside an object at the top level, the
- *    object counts as closed there: "GER={ fighter=19" is 5 tokens and no refusal, though the file may
- *    have said 190. The Rust does the same. Of all places where a save can be cut, about one in forty
- *    is such. Hold the length or a checksum of the file against what was sent; parsing does not tell.
+ *  - A save that was cut short may parse. A text may end behind any value at the top level, and inside
+ *    an object that stands there, which then counts as closed: "GER={ fighter=19" is 5 tokens and no
+ *    refusal, though the file may have said 190. The Rust does the same. Of the places where a deep save
+ *    can be cut about one in forty is such, of a flat one far more. Hold the length or a checksum of the
+ *    file against what was sent; parsing does not tell.
  *  - tackacorn_to_f64 takes "18446744073709551616.5" for 0.5. See there for why, and for what to do.
  *  - A text save of the game begins with a line like "HOI4txt", which is no part of the format: the
  *    parser takes it for a key, and what follows for something else than it is. Before you parse, write

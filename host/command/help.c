@@ -3,9 +3,9 @@
 
 /* What every help begins with: the one thing that an owner of saves must know. */
 static void print_warning(void) {
-    fputs("A save that was cut short may parse: where it ends inside an object at the top level, the\n"
-          "object counts as closed there, and nothing is refused. Hold its length or a checksum against\n"
-          "what was sent before you book from it.\n\n",
+    fputs("A save that was cut short may parse: it may end behind any value at the top level, and inside\n"
+          "an object that stands there, which then counts as closed. Nothing is refused. Hold its length\n"
+          "or a checksum against what was sent before you book from it.\n\n",
           stdout);
 }
 
