@@ -120,9 +120,11 @@ const SCALARS: [&str; 26] = [
     "1844674407370955161.6f",
 ];
 
-/// Both sides of each sentence of 'When a sheet is sound': a text length, and each
-/// token's code, a and b.
-const SHEETS: [(u32, &[(u32, u32, u32)]); 33] = [
+/// A token's code, a and b.
+type Told = (u32, u32, u32);
+
+/// Both sides of each sentence of 'When a sheet is sound': a text length and the tokens.
+const SHEETS: [(u32, &[Told]); 33] = [
     (0, &[]),
     // a=rgb{1}, whole, over a text just long enough and one too short
     (8, &[(UNQUOTED, 0, 1), (HEADER, 2, 3), (ARRAY, 4, 0), (UNQUOTED, 6, 1), (END, 2, 0)]),

@@ -87,7 +87,7 @@ impl Iterator for Generator {
         }
         let every = if self.made < HEAD { 2 } else { 4 };
         self.made += 1;
-        if self.made % every == 0
+        if self.made.is_multiple_of(every)
             && let Some(record) = self.short()
         {
             return Some(record);
