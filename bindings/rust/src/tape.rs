@@ -38,9 +38,10 @@ impl<'a> TextTape<'a> {
     ///
     /// # A save that was cut short may parse
     ///
-    /// Where a text ends inside an object at the top level, the object counts as closed there, as in the
-    /// Rust. Of all places where a save can be cut, about one in forty is such, and nothing in the
-    /// answer shows it. Hold the length or a checksum of the file against what was sent.
+    /// A text may end behind any value at the top level, and inside an object that stands there, which
+    /// then counts as closed, as in the Rust. Of the places where a deep save can be cut about one in
+    /// forty is such, of a flat one far more, and nothing in the answer shows it. Hold the length or a
+    /// checksum of the file against what was sent.
     ///
     /// ```
     /// use tackacorn::TextTape;
