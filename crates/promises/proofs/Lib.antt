@@ -7,6 +7,7 @@ pub mod Demand3
 pub mod Domain
 pub mod Links
 pub mod Mixed
+pub mod PaperF64
 pub mod Rising
 pub mod Room
 pub mod RustCases
@@ -15,6 +16,7 @@ pub mod RustParameter
 pub mod RustParse
 pub mod RustParts
 pub mod RustPlain
+pub mod RustReadings
 pub mod RustReads
 pub mod RustSafe
 pub mod RustStates

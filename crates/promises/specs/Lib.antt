@@ -1,7 +1,10 @@
 pub mod Cases
 pub mod Mixed
+pub mod PaperF64
 pub mod Room
 pub mod RustCuts
 pub mod RustDomain
+pub mod RustReadings
+pub mod RustReadingsAlike
 pub mod RustSafe
 pub mod RustTape

@@ -166,7 +166,7 @@ pub past-point : (d : List ℕ) (at start : ℕ) (g : Gathered) → g ≡ gather
 past-point d at start g e = sym (drop-drop 1 (g .at) d) ∙ ap (drop 1) (rest-at d at start g e)
 
 -- n digits and m more write a number below ten to the n + m
-both-below : (s t : List ℕ) (m : ℕ) → m ≤ value 0 (run s) → value m (run t) < 10 ^ (length (run s) + length (run t))
+pub both-below : (s t : List ℕ) (m : ℕ) → m ≤ value 0 (run s) → value m (run t) < 10 ^ (length (run s) + length (run t))
 both-below s t m h =
     lt-of-lt-of-le (value-below t m)
     (rw (pow-add 10 (length (run s)) (length (run t)))
