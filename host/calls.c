@@ -7,6 +7,7 @@
 
 static int wrong;
 
+/* Tells of an answer that is not right. */
 static void expect(const char *what, bool right) {
     if (!right) {
         fprintf(stderr, "calls: %s\n", what);
@@ -14,10 +15,12 @@ static void expect(const char *what, bool right) {
     }
 }
 
+/* Words as the bytes that they are. */
 static const uint8_t *bytes(const char *words) {
     return (const uint8_t *)words;
 }
 
+/* The readings and the kind, both sides of their edges. */
 static void readings(void) {
     uint32_t yes = 7;
     uint64_t whole = 7;
@@ -65,6 +68,7 @@ static void surprises(void) {
 
 enum { ROOM = 10 * TACKACORN_WORDS_PER_TOKEN };
 
+/* A parse that succeeds, and what is asked of its tape. */
 static void tokens(void) {
     const char *text = "a=\"b c\" }";
     const size_t length = strlen(text), two = 2 * TACKACORN_WORDS_PER_TOKEN;
@@ -86,6 +90,7 @@ static void tokens(void) {
     expect("cut short", tackacorn_parse(bytes("GER={ fighter=19"), 16, tape, ROOM, &count, &bom, &place) == TACKACORN_OK && count == 5);
 }
 
+/* Parses that are refused, and what they leave. */
 static void refused(void) {
     const char *text = "a=\"b c\" }";
     uint32_t tape[ROOM], count = 7, bom = 7;

@@ -31,7 +31,7 @@
  *    other thread reads or writes it during the call. What a call only reads may be shared.
  *
  * Nothing is kept and nothing is allocated: all memory is the caller's, before, during and after a call.
- * A call takes less than 2 KB of stack. The library needs nothing but memset.
+ * A call takes less than 2 KB of stack. The library is for x86-64 Linux, and needs nothing but memset.
  *
  * Refusals are numbers, 0 for none, and every number that a call writes is written on a refusal too.
  */

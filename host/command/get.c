@@ -21,6 +21,7 @@ struct entry {
     size_t value;
 };
 
+/* Whether a token opens a container. */
 static bool is_container(struct token token) {
     return token.code == TACKACORN_ARRAY || token.code == TACKACORN_OBJECT;
 }

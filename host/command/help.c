@@ -9,6 +9,7 @@ static void print_warning(void) {
           stdout);
 }
 
+/* How a subcommand is called. */
 static void print_usage(const struct subcommand *subcommand) {
     printf("usage: tackacorn %s %s\n", subcommand->name, subcommand->usage);
 }

@@ -64,6 +64,7 @@ static bool take_option(struct call *call, const char *word) {
     return false;
 }
 
+/* Whether a word asks for help. */
 static bool asks_for_help(const char *word) {
     return strcmp(word, "--help") == 0 || strcmp(word, "-h") == 0;
 }

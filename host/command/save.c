@@ -49,6 +49,7 @@ static enum status read_file(struct save *save, const char *file) {
     return status;
 }
 
+/* Whether a byte may stand in such a first line. */
 static bool letter_or_digit(uint8_t byte) {
     return (byte >= '0' && byte <= '9') || (byte >= 'A' && byte <= 'Z') || (byte >= 'a' && byte <= 'z');
 }
