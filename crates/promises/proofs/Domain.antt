@@ -17,15 +17,18 @@ use lib.Seq.{drop-drop}
 use Rattle.data.proofs.Cases.{by-bool}
 use Rattle.data.specs.Bytes.{quote, backslash}
 use Rattle.data.specs.Classes.{among, is-boundary, boundary-bytes}
-use Rattle.cut.specs.Runs.{stop-from, run-of, run-end-of, classed, unquoted-run, run-end}
+use Rattle.cut.specs.Runs.{stop-from, run-of, run-end-of, unquoted-run, run-end}
 use Rattle.cut.specs.Quotes.{quoted-from, quoted-run}
 use Rattle.cut.specs.declared.Quoted.{Quoted}
-use Rattle.cut.specs.declared.Quoted.the-variants.{Closed}
+use Rattle.cut.specs.declared.Quoted.the-variants.{Closed, Unclosed}
 use Rattle.cut.proofs.Places.{drop-here, by-place}
 use Rattle.cut.proofs.Runs.{Run, run-of-run, run-only, unquoted-run-run}
 use Rattle.cut.proofs.Quotes.{quoted-past, quoted-closes, quoted-escapes, quoted-goes-on}
-use Rattle.promises.specs.RustCuts.{stride-bytes, stride-stops, table-bytes, doubted-bytes, character-class, has-class, forward-search, Look, loop-size, stride, strides-from, strides, scalar-look, scalar-strides, split-at-scalar-fallback, split-at-scalar, quote-look, quote-strides, quote-from, parse-quote-scalar-fallback, parse-quote-scalar, Undoubted, InDomain}
+use Rattle.promises.specs.RustCuts.{stride-bytes, stride-stops, table-bytes, character-class, has-class, forward-search, Look, loop-size, stride}
+use Rattle.promises.specs.RustCuts.{strides-from, strides, scalar-look, scalar-strides, split-at-scalar-fallback, split-at-scalar}
+use Rattle.promises.specs.RustCuts.{quote-look, quote-strides, quote-from, parse-quote-scalar-fallback, parse-quote-scalar}
 use Rattle.promises.specs.RustCuts.Look.{ends, next, leave}
+use Rattle.promises.specs.RustDomain.{doubted-bytes, Undoubted, In-domain}
 
 -- The tables
 
@@ -83,8 +86,8 @@ unfolding is-boundary every
 past-boundary b h = no-byte boundary-bytes b refl h
 
 past-table : (b : ℕ) → 256 ≤ b → has-class b ≡ false
-unfolding classed character-class
-past-table b h = rw (classed, List·getD-eq-default character-class 0 {n = b} h)
+unfolding has-class character-class
+past-table b h = rw (has-class, List·getD-eq-default character-class 0 {n = b} h)
 
 -- a stride is compared with the thirteen boundary bytes
 pub stride-thirteen : (b : ℕ) → stride-stops b ≡ is-boundary b
@@ -93,19 +96,19 @@ stride-thirteen = byte-rule stride-stops is-boundary refl (λ b h. no-byte strid
 
 -- the table has sixteen classes
 pub table-sixteen : (b : ℕ) → has-class b ≡ among b table-bytes
-unfolding classed character-class every numbers
+unfolding has-class character-class every numbers
 table-sixteen = byte-rule has-class (λ b. among b table-bytes) refl past-table (λ b h. no-byte table-bytes b refl h)
 
 -- they are the thirteen boundary bytes and the three that the Rust's comment doubts
 pub table-adds : (b : ℕ) → has-class b ≡ (is-boundary b || among b doubted-bytes)
-unfolding classed character-class is-boundary every numbers
+unfolding has-class character-class is-boundary every numbers
 table-adds =
     byte-rule has-class (λ b. is-boundary b || among b doubted-bytes) refl past-table
     (λ b h. rw (past-boundary b h) (no-byte doubted-bytes b refl h))
 
 -- so it disagrees with the thirteen exactly at those three
 pub table-differs : (b : ℕ) → xor (has-class b) (is-boundary b) ≡ among b doubted-bytes
-unfolding classed character-class is-boundary every numbers xor
+unfolding has-class character-class is-boundary every numbers xor
 table-differs =
     byte-rule (λ b. xor (has-class b) (is-boundary b)) (λ b. among b doubted-bytes) refl
     (λ b h. rw (past-table b h, past-boundary b h)) (λ b h. no-byte doubted-bytes b refl h)
@@ -272,23 +275,19 @@ by-table d h u =
           (λ f. wider (getD d (unquoted-run d) 0) (o .halted f l));
     }
 
--- the Rust cuts as we do wherever the run that we cut has one byte or holds none of the three
-pub undoubted-alike : (d : List ℕ) → 0 < length d → Undoubted d (unquoted-run d) → split-at-scalar d ≡ unquoted-run d
-undoubted-alike d h u =
+-- the Rust cuts as we do wherever the run that we cut has one byte or holds none of the three: on every part in the domain
+pub unquoted-alike : (d : List ℕ) → 0 < length d → Undoubted d (unquoted-run d) → split-at-scalar d ≡ unquoted-run d
+unquoted-alike d h u =
     by-option (scalar-strides d)
     (λ at e. found-run d at h e)
     (λ e. missed-run d h e ∙ sym (table-run-only d (unquoted-run d) h (by-table d h u)))
 
--- there the Rust's run is so too: the domain is told from our cut alone
-pub in-domain : (d : List ℕ) → 0 < length d → Undoubted d (unquoted-run d) → InDomain d
-in-domain d h u = record { cut-by-rust = subst (λ (n : ℕ). Undoubted d n) (sym (undoubted-alike d h u)) u; cut-by-us = u }
-
--- so it cuts as we do on every part in the domain
-pub unquoted-alike : (d : List ℕ) → 0 < length d → InDomain d → split-at-scalar d ≡ unquoted-run d
-unquoted-alike d h i = undoubted-alike d h (i .cut-by-us)
+-- there the Rust's run is so too: the domain is told by our cut alone
+pub undoubted-both : (d : List ℕ) → 0 < length d → Undoubted d (unquoted-run d) → Undoubted d (split-at-scalar d)
+undoubted-both d h u = subst (λ (n : ℕ). Undoubted d n) (sym (unquoted-alike d h u)) u
 
 -- and the place after its run is ours at every place of a text
-pub unquoted-end-alike : (text : List ℕ) (at : ℕ) → at < length text → InDomain (drop at text) → at + split-at-scalar (drop at text) ≡ run-end text at
+pub unquoted-end-alike : (text : List ℕ) (at : ℕ) → at < length text → In-domain text at → at + split-at-scalar (drop at text) ≡ run-end text at
 unfolding run-end run-end-of unquoted-run
 unquoted-end-alike text at h i = ap (λ (n : ℕ). at + n) (unquoted-alike (drop at text) (rw length-drop (omega arith)) i)
 
@@ -306,10 +305,15 @@ alike-undoubted d h e alike =
 
 -- The quoted cut
 
+-- how many bytes our cut finds between the quotes, if one closes: what the Rust answers
+abbrev pub as-found : Quoted → Option ℕ
+as-found (Closed n) = some n
+as-found Unclosed = none
+
 -- the fallback's loop, at a position one past a place of the part after the quote, goes by bytes as our cut does
-quote-bytewise : (q : ℕ) (bytes : List ℕ) (turns n : ℕ) → length bytes ≤ n + turns → quote-from (q ∷ bytes) turns (n + 1) ≡ quoted-from (drop n bytes) n
+quote-bytewise : (q : ℕ) (bytes : List ℕ) (turns n : ℕ) → length bytes ≤ n + turns → quote-from (q ∷ bytes) turns (n + 1) ≡ as-found (quoted-from (drop n bytes) n)
 unfolding quote-from
-quote-bytewise q bytes zero n enough = sym (quoted-past bytes n (omega arith))
+quote-bytewise q bytes zero n enough = sym (ap as-found (quoted-past bytes n (omega arith)))
 quote-bytewise q bytes (suc turns) n enough =
     let test : (b : ℕ) → eqb (getD (q ∷ bytes) (n + 1) 0) b ≡ eqb (getD bytes n 0) b = λ b. rw add-one in
     by-place bytes n
@@ -318,13 +322,14 @@ quote-bytewise q bytes (suc turns) n enough =
     (λ b. rw (quote-from, more, test backslash ∙ b)
     (ap (quote-from (q ∷ bytes) turns) {x = n + 1 + 2} {y = n + 2 + 1} (omega arith)
     ∙ quote-bytewise q bytes turns (n + 2) (omega arith)
-    ∙ sym (quoted-escapes bytes n inside (eqb-true _ _ b))))
+    ∙ sym (ap as-found (quoted-escapes bytes n inside (eqb-true _ _ b)))))
     (λ other. by-bool (eqb (getD bytes n 0) quote)
     (λ t. rw (quote-from, more, test backslash ∙ other, test quote ∙ t)
-    (ap Closed {x = n + 1 - 1} {y = n} (omega arith) ∙ sym (quoted-closes bytes n inside (eqb-true _ _ t))))
+    (ap some {x = n + 1 - 1} {y = n} (omega arith) ∙ sym (ap as-found (quoted-closes bytes n inside (eqb-true _ _ t)))))
     (λ f. rw (quote-from, more, test backslash ∙ other, test quote ∙ f)
-    (quote-bytewise q bytes turns (n + 1) (omega arith) ∙ sym (quoted-goes-on bytes n inside (eqb-false _ _ f) (eqb-false _ _ other))))))
-    (λ past. rw (quote-from, le-ltb (n + 1) (length (q ∷ bytes)) (omega arith)) (sym (quoted-past bytes n past)))
+    (quote-bytewise q bytes turns (n + 1) (omega arith)
+    ∙ sym (ap as-found (quoted-goes-on bytes n inside (eqb-false _ _ f) (eqb-false _ _ other)))))))
+    (λ past. rw (quote-from, le-ltb (n + 1) (length (q ∷ bytes)) (omega arith)) (sym (ap as-found (quoted-past bytes n past))))
 
 -- a quoted run over some bytes with no backslash, and more: closed where a search of the first finds a quote, and else on through the others
 abbrev closed-or : Option ℕ → Quoted → Quoted
@@ -368,7 +373,7 @@ found-quote d at e =
     (λ f. rw (quote-look, b, f) (quote-stride d ptr b ∙ rw f (stride-past d ptr)))))
     (length d / loop-size * loop-size) 0 at e
 
-fallback-quote : (q : ℕ) (bytes : List ℕ) → parse-quote-scalar-fallback (q ∷ bytes) ≡ quoted-run bytes
+fallback-quote : (q : ℕ) (bytes : List ℕ) → parse-quote-scalar-fallback (q ∷ bytes) ≡ as-found (quoted-run bytes)
 unfolding parse-quote-scalar-fallback quoted-run
 fallback-quote q bytes = quote-bytewise q bytes (length (q ∷ bytes)) 0 (omega arith)
 
@@ -378,13 +383,13 @@ unfolding quoted-run
 quote-settles q bytes more = quote-bytewise q bytes (length (q ∷ bytes) + more) 0 (omega arith) ∙ sym (fallback-quote q bytes)
 
 -- the Rust cuts a quoted run as we do, whatever its bytes
-pub quoted-alike : (q : ℕ) (bytes : List ℕ) → parse-quote-scalar (q ∷ bytes) ≡ quoted-run bytes
+pub quoted-alike : (q : ℕ) (bytes : List ℕ) → parse-quote-scalar (q ∷ bytes) ≡ as-found (quoted-run bytes)
 unfolding parse-quote-scalar
 quoted-alike q bytes =
     by-option (quote-strides bytes)
-    (λ at e. rw (parse-quote-scalar, e) (sym (found-quote bytes at e)))
+    (λ at e. rw (parse-quote-scalar, e) (sym (ap as-found (found-quote bytes at e))))
     (λ e. rw (parse-quote-scalar, e) (fallback-quote q bytes))
 
 -- so it does at every place of a text
-pub quoted-end-alike : (text : List ℕ) (at : ℕ) → at < length text → parse-quote-scalar (drop at text) ≡ quoted-run (drop (at + 1) text)
+pub quoted-end-alike : (text : List ℕ) (at : ℕ) → at < length text → parse-quote-scalar (drop at text) ≡ as-found (quoted-run (drop (at + 1) text))
 quoted-end-alike text at h = rw (drop-here text at h) (quoted-alike (getD text at 0) (drop (at + 1) text))

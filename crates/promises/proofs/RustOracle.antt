@@ -1,16 +1,21 @@
 -- The definition of the Rust's parser beside the real one: texts, in the domain and past it, with what the Rust (release build, x86-64, its files compiled
--- unchanged) answered: refusal number, place and BOM, and then the words of all tokens that its `Vec` held when it returned, at a refusal too.
--- Written by a program from a run of the Rust. Assumes nothing.
+-- unchanged) answered: refusal number, place and BOM, and then code, a and b of all tokens that its `Vec` held when it returned, at a refusal too.
+-- Written by compare/src/bin/rust_cases.rs from a run of the Rust. Assumes nothing.
 use Prim.Native.Nat.{ℕ}
 use mathlib.Core.Path.{_≡_, refl}
 use mathlib.Core.Bool.{Bool, true, false}
 use mathlib.Core.List.{List, [], _∷_, map}
-use Rattle.cut.specs.Runs.{classed}
-use Rattle.tape.specs.Token.{container-of}
-use Rattle.tape.specs.Words.{words-of}
-use Rattle.parse.specs.Refusals.{number, place}
-use Rattle.promises.specs.RustCuts.{stride-stops, character-class, forward-search, stride, strides-from, strides, scalar-look, scalar-strides, split-at-scalar-fallback, split-at-scalar, quote-look, quote-strides, quote-from, parse-quote-scalar-fallback, parse-quote-scalar}
-use Rattle.promises.specs.RustTape.{Flow, loop, ok, err, skip-ws-t, skip-comment-t, parse-quote, parse-scalar, parse-variable, parse-any, at-end, parameter-rest, rust-parameter-name, parameter-from, parse-parameter-definition, rust-key-close, rust-key-header, rust-key-brace, key, separator-at, object-value, open-close, rust-open-brace, flagged, open-first, parse-open, rust-array-close, operator-at, array-sign, array-value, by-its-state, rust-turn, rust-loop, utf8-bom, begin, rust-turns, rust-parse}
+use Rattle.promises.specs.RustCuts.{stride-stops, character-class, has-class, forward-search, stride, strides-from, strides, scalar-look}
+use Rattle.promises.specs.RustCuts.{scalar-strides, split-at-scalar-fallback, split-at-scalar, quote-look, quote-strides, quote-from}
+use Rattle.promises.specs.RustCuts.{parse-quote-scalar-fallback, parse-quote-scalar}
+use Rattle.promises.specs.RustTape as Rust
+use Rattle.promises.specs.RustTape.{Operator, Variant, TextToken, Flow, minus, index, slice-from, assign, insert, get, skip-ws-t, skip-comment-t}
+use Rattle.promises.specs.RustTape.{parse-quote, split-scalar, parse-scalar, parse-variable, parse-by, at-end, parameter-value, parameter-rest}
+use Rattle.promises.specs.RustTape.{parameter-name, parameter-from, parse-parameter-definition, key-close, key-header, key-brace, key-arm}
+use Rattle.promises.specs.RustTape.{separator-by, value-arm, open-close, open-brace, flagged, open-first, open-bracket, open-arm, array-close}
+use Rattle.promises.specs.RustTape.{operator-by, after-end, array-sign, array-arm, by-its-state, rust-turn, rust-loop, utf8-bom, begin}
+use Rattle.promises.specs.RustTape.{rust-turns, rust-parse}
+use Rattle.promises.specs.AsRust.{error-number, error-place}
 
 pub record Row : Type 0 where
   pub text : List ℕ
@@ -19,14 +24,45 @@ pub record Row : Type 0 where
 abbrev row : List ℕ → List ℕ → Row
 row text answer = record { text = text; answer = answer }
 
+-- ---- the Rust's tokens by document 01's numbers
 abbrev bit : Bool → ℕ
 bit true = 1
 bit false = 0
 
+abbrev variant-code : Variant → ℕ
+variant-code Rust.Unquoted = 4
+variant-code Rust.Quoted = 5
+variant-code Rust.Parameter = 6
+variant-code Rust.UndefinedParameter = 7
+variant-code Rust.Header = 10
+
+abbrev operator-number : Operator → ℕ
+operator-number Rust.LessThan = 1
+operator-number Rust.LessThanEqual = 2
+operator-number Rust.GreaterThan = 3
+operator-number Rust.GreaterThanEqual = 4
+operator-number Rust.NotEqual = 5
+operator-number Rust.Exact = 6
+operator-number Rust.Equal = 7
+operator-number Rust.Exists = 8
+
+abbrev then-words : TextToken → List ℕ → List ℕ
+then-words (Rust.Array end mixed) words = 1 ∷ end ∷ bit mixed ∷ words
+then-words (Rust.Object end mixed) words = 2 ∷ end ∷ bit mixed ∷ words
+then-words Rust.MixedContainer words = 3 ∷ 0 ∷ 0 ∷ words
+then-words (Rust.OfScalar variant start size) words = variant-code variant ∷ start ∷ size ∷ words
+then-words (Rust.OfOperator operator) words = 8 ∷ operator-number operator ∷ 0 ∷ words
+then-words (Rust.End start-idx) words = 9 ∷ start-idx ∷ 0 ∷ words
+
+abbrev words-of : List TextToken → List ℕ
+words-of [] = []
+words-of (t ∷ ts) = then-words t (words-of ts)
+
 abbrev shown : Bool → Flow → List ℕ
-shown bom (loop p) = []
-shown bom (ok ts) = 0 ∷ 0 ∷ bit bom ∷ words-of ts
-shown bom (err r ts) = number r ∷ place r ∷ 0 ∷ words-of ts
+shown bom (Rust.loop p) = []
+shown bom (Rust.ok ts) = 0 ∷ 0 ∷ bit bom ∷ words-of ts
+shown bom (Rust.err e ts) = error-number e ∷ error-place e ∷ 0 ∷ words-of ts
+shown bom Rust.panic = []
 
 unfoldable pub shown-of : Row → List ℕ
 shown-of r = shown (utf8-bom (r .text)) (rust-parse (r .text))
@@ -270,5 +306,5 @@ asked =
     ∷ []
 
 pub rust-answers : map shown-of asked ≡ map (λ r. r .answer) asked
-unfolding asked shown-of words-of container-of classed stride-stops character-class forward-search stride strides-from strides scalar-look scalar-strides split-at-scalar-fallback split-at-scalar quote-look quote-strides quote-from parse-quote-scalar-fallback parse-quote-scalar skip-ws-t skip-comment-t parse-quote parse-scalar parse-variable parse-any at-end parameter-rest rust-parameter-name parameter-from parse-parameter-definition rust-key-close rust-key-header rust-key-brace key separator-at object-value open-close rust-open-brace flagged open-first parse-open rust-array-close operator-at array-sign array-value by-its-state rust-turn rust-loop utf8-bom begin rust-turns rust-parse
+unfolding asked shown-of stride-stops character-class has-class forward-search stride strides-from strides scalar-look scalar-strides split-at-scalar-fallback split-at-scalar quote-look quote-strides quote-from parse-quote-scalar-fallback parse-quote-scalar minus index slice-from assign insert get skip-ws-t skip-comment-t parse-quote split-scalar parse-scalar parse-variable parse-by at-end parameter-value parameter-rest parameter-name parameter-from parse-parameter-definition key-close key-header key-brace key-arm separator-by value-arm open-close open-brace flagged open-first open-bracket open-arm array-close operator-by after-end array-sign array-arm by-its-state rust-turn rust-loop utf8-bom begin rust-turns rust-parse
 rust-answers = refl

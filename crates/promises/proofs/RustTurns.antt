@@ -1,74 +1,69 @@
--- Each turn of the Rust's loop is ours, on a machine that a run reaches.
+-- What it is that a turn of the Rust's loop is ours; and the turns in KeyValueSeparator and ObjectValue.
 -- Assumes nothing.
 use Prim.Native.Nat.{ℕ, zero, suc, _+_, _-_, _≤_, _<_}
-use mathlib.Core.Path.{_≡_, refl, sym, _∙_, ap, subst}
-use mathlib.Core.Bool.{Bool, true, false, _&&_, false≢true}
+use mathlib.Core.Path.{_≡_, refl, sym, _∙_, ap}
+use mathlib.Core.Bool.{Bool, true, false, _&&_}
 use mathlib.Core.List.{List, [], _∷_, _++_}
 use mathlib.Core.Option.{Option, none, some}
-use native.Mathlib.Nat.{add-zero}
 use native.Mathlib.Omega.{arith}
-use borrow.Author.Tests.{eqb-true, eqb-false, ltb-true, ltb-false, lt-ltb, le-ltb, eq-eqb}
+use borrow.Author.Tests.{eqb-true, eqb-false, ltb-true, ltb-false}
 use lib.Dec.{eqb, ltb}
-use lib.ListN.{length, getD, drop, set, length-set, length-drop, List·getD-eq-default}
-use lib.Seq.{set-append-left}
+use lib.ListN.{length, getD, drop, List·getD-eq-default}
 use Rattle.data.proofs.Cases.{by-bool}
-use Rattle.data.specs.Bytes.{exclamation, quote, less-than, equals, greater-than, question, at-sign, bracket-open, bracket-close, brace-open, brace-close}
-use Rattle.data.specs.Classes.{among}
-use Rattle.cut.specs.Blanks.{skip-ws}
-use Rattle.cut.specs.Runs.{run-end}
+use Rattle.data.specs.Bytes.{exclamation, less-than, equals, greater-than, question, brace-open, brace-close}
 use Rattle.cut.specs.Scalars.{scalar-cut}
-use Rattle.cut.proofs.Blanks.{skip-lands}
-use Rattle.cut.proofs.Runs.{run-end-run}
+use Rattle.operator.specs.declared.Operator as Ours
 use Rattle.operator.specs.declared.Sighted as Signs
-use Rattle.operator.specs.Operators.{is-equal, number-of, sighted}
+use Rattle.operator.specs.Operators.{number-of, sighted}
 use Rattle.tape.specs.declared.token.Token.{Token}
-use Rattle.tape.specs.declared.token.ContainerKind.{ContainerKind}
-use Rattle.tape.specs.declared.token.ContainerKind.the-variants.{Array, Object}
-use Rattle.tape.specs.declared.token.ScalarKind.{ScalarKind}
-use Rattle.tape.specs.declared.token.ScalarKind.the-variants.{Unquoted}
-use Rattle.tape.specs.declared.token.Container as Containers
-use Rattle.tape.specs.declared.token.Standing as Standings
-use Rattle.tape.specs.Token.{no-token, mixed-container-token, opener-of, scalar-of, end-of, container-of, standing-of, unquoted-code, quoted-code, parameter-code, undefined-parameter-code, header-code, end-code, container-code}
-use Rattle.tape.specs.Tape.{Tape, unbounded, token-at, replace, add, before-last, add-before-last, lay, lay-mixed}
+use Rattle.tape.specs.declared.token.ContainerKind.the-variants.{Array}
+use Rattle.tape.specs.declared.token.ScalarKind.the-variants.{Unquoted, Quoted}
+use Rattle.tape.specs.Token.{mixed-container-token}
+use Rattle.tape.specs.Tape.{Tape, unbounded, add, before-last, add-before-last, lay, lay-mixed}
 use Rattle.parse.specs.declared.machine.State.{State}
 use Rattle.parse.specs.declared.machine.State.the-variants.{Key, KeyValueSeparator, ObjectValue, ParseOpen, ArrayValue}
 use Rattle.parse.specs.declared.machine.Machine.{Machine}
 use Rattle.parse.specs.declared.machine.Refusal.{Refusal}
 use Rattle.parse.specs.declared.machine.Refusal.the-variants.{NoValue}
-use Rattle.parse.specs.Machine.{After, next, done, refused, and-then, byte-at, to, within, lay-then}
+use Rattle.parse.specs.Refusals.{number, place}
+use Rattle.parse.specs.Machine.{After, next, done, refused, byte-at, to, lay-then}
 use Rattle.parse.specs.Scalars.{scalar-then}
-use Rattle.parse.specs.Containers.{open-then, container-at, parent-of, own-kind, state-in, mixed-in, resumed, close-at, close, nothing-open, key-end, is-key, text-end}
+use Rattle.parse.specs.Containers.{open-then}
 use Rattle.parse.specs.KeyValueSeparator.{mixed-on, mix-then, separator-then, separator-turn}
 use Rattle.parse.specs.ObjectValue.{object-value-turn}
-use Rattle.parse.proofs.Splits.{by-skipped, by-cut, by-sighted, by-standing, by-container, by-state}
+use Rattle.parse.proofs.Splits.{by-cut}
 use Rattle.promises.specs.Room.{tape-of}
-use Rattle.promises.specs.RustTape.{Parser, Flow, loop, ok, err, offset, has, push, insert, last, get, its-end, is-array, opens, mixed-of, state-of, as-scalar, Taken, taken, failed, parse-any, then-in, with-data, separator-at, key-value-separator, object-value}
-use Rattle.promises.specs.RustDomain.{any-cuts, value-cuts, Each}
-use Rattle.promises.proofs.RustParts.{byte-there, byte-next, part-next, test-there, test-next, offset-there, skip-same, split-same, split-rest, taken-by, any-same}
+use Rattle.promises.specs.RustTape as Rust
+use Rattle.promises.specs.RustTape.{Parser, Flow, TextToken}
+use Rattle.promises.specs.RustDomain.{scalar-runs, object-runs, Each}
+use Rattle.promises.specs.AsRust.{error-number, error-place}
+use Rattle.promises.proofs.RustParts.{byte-there, byte-next, minus-there, index-there, slice-there, offset-there, taken-by, any-same}
+use Rattle.promises.proofs.RustReads.{rust-tape, as-state, tape-length, laid-scalar, laid-opener, laid-operator, insert-read}
 
 -- a machine and its tokens as the Rust has them
 abbrev pub parser-of : List ℕ → Machine → List Token → Parser
-parser-of text m ts = record { rest = drop (m .at) text; state = m .state; parent-ind = m .parent; mixed-mode = m .mixed; token-tape = ts }
+parser-of text m ts =
+    record { rest = drop (m .at) text; state = as-state (m .state); parent-ind = m .parent; mixed-mode = m .mixed; token-tape = rust-tape ts }
 
--- what the Rust's turn comes to is what ours comes to; a refusal leaves w tokens
+-- what the Rust's turn comes to is what ours comes to; a refusal leaves w tokens, and nothing panics
 abbrev pub Same : List ℕ → ℕ → Flow → After → Type 0
-Same text w (loop p) (next m t) = p ≡ parser-of text m (t .tokens)
-Same text w (loop p) (done n t) = ⊥
-Same text w (loop p) (refused r) = ⊥
-Same text w (ok ts) (next m t) = ⊥
-Same text w (ok ts) (done n t) = ts ≡ t .tokens
-Same text w (ok ts) (refused r) = ⊥
-Same text w (err s ts) (next m t) = ⊥
-Same text w (err s ts) (done n t) = ⊥
-Same text w (err s ts) (refused r) = (s ≡ r) × (length ts ≡ w)
+Same text w (Rust.loop p) (next m t) = p ≡ parser-of text m (t .tokens)
+Same text w (Rust.loop p) (done n t) = ⊥
+Same text w (Rust.loop p) (refused r) = ⊥
+Same text w (Rust.ok us) (next m t) = ⊥
+Same text w (Rust.ok us) (done n t) = us ≡ rust-tape (t .tokens)
+Same text w (Rust.ok us) (refused r) = ⊥
+Same text w (Rust.err e us) (next m t) = ⊥
+Same text w (Rust.err e us) (done n t) = ⊥
+Same text w (Rust.err e us) (refused r) = (error-number e ≡ number r) × (error-place e ≡ place r) × (length us ≡ w)
+Same text w Rust.panic x = ⊥
 
--- what is put in at one less than the length goes in before the last
-pub insert-before : (ts : List Token) (x : Token) → insert ts (length ts - 1) x ≡ before-last ts x
-insert-before [] x = refl
-insert-before (t ∷ []) x = refl
-insert-before (t ∷ u ∷ ts) x =
-    let e : length (t ∷ u ∷ ts) - 1 ≡ suc (length (u ∷ ts) - 1) = omega arith in
-    rw e (ap (λ (r : List Token). t ∷ r) (insert-before (u ∷ ts) x))
+-- where a byte other than 0 is read, a byte stands
+pub byte-stands : (text : List ℕ) (at b : ℕ) → byte-at text at ≡ b → (b ≡ 0 → ⊥) → at < length text
+byte-stands text at b e some-byte =
+    by-bool (ltb at (length text))
+    (λ t. omega (arith, ltb-true at (length text) t))
+    (λ f. absurd (some-byte (sym e ∙ List·getD-eq-default text 0 {n = at} (ltb-false at (length text) f))))
 
 -- our turn in KeyValueSeparator by its two bytes
 unfoldable separator-on : ℕ → ℕ → Tape → Machine → After
@@ -81,12 +76,13 @@ separator-on b c t m =
       ]
     ]
 
-separator-by : (text : List ℕ) (t : Tape) (m : Machine) → separator-turn text t m ≡ separator-on (byte-at text (m .at)) (byte-at text (m .at + 1)) t m
+separator-two : (text : List ℕ) (t : Tape) (m : Machine)
+    → separator-turn text t m ≡ separator-on (byte-at text (m .at)) (byte-at text (m .at + 1)) t m
 unfolding separator-turn separator-on
-separator-by text t m = refl
+separator-two text t m = refl
 
 module _ (text : List ℕ) (ts : List Token) (m : Machine) (sized : length ts ≡ m .count) (here : m .at < length text) where
-  -- the rest of the text there, and our tape
+  -- the rest of the text there, our tape, and the Rust's tokens
   abbrev there : List ℕ
   there = drop (m .at) text
 
@@ -96,70 +92,86 @@ module _ (text : List ℕ) (ts : List Token) (m : Machine) (sized : length ts �
   abbrev parser : Parser
   parser = parser-of text m ts
 
-  first : (b : ℕ) → has there 0 b ≡ eqb (byte-at text (m .at)) b
-  first b = test-there text (m .at) b
+  abbrev us : List TextToken
+  us = rust-tape ts
 
   -- ---- a scalar
-  pub scalar-same : (state : State) → Each (any-cuts there) → Same text (m .count) (then-in parser state (parse-any (length text) there ts)) (scalar-then text state tape m)
+  pub scalar-same : (state : State) → Each text (scalar-runs text (m .at))
+      → Same text (m .count)
+      (Rust.parse-by (byte-at text (m .at)) (length text) there us (λ rest vs. Rust.loop (Rust.with-data parser rest (as-state state) vs)))
+      (scalar-then text state tape m)
   unfolding scalar-then lay-then lay add
   scalar-same state i =
-      rw (any-same text (m .at) ts here i)
+      rw (any-same text (m .at) us (λ rest vs. Rust.loop (Rust.with-data parser rest (as-state state) vs)) here i)
       (by-cut (scalar-cut text (m .at))
-      (λ st en r q. rw (q, scalar-then))
-      (λ st en r q. rw (q, scalar-then))
-      (λ q. rw (q, scalar-then) (refl, sized)))
+      (λ start end rest q. rw (q, scalar-then, laid-scalar ts Unquoted start (end - start)))
+      (λ start end rest q. rw (q, scalar-then, laid-scalar ts Quoted start (end - start)))
+      (λ q. rw (q, scalar-then) (refl, refl, tape-length ts (m .count) sized)))
 
   -- ---- KeyValueSeparator
-  pub separator-same : m .mixed ≡ false → Same text (m .count) (key-value-separator parser) (separator-turn text tape m)
-  unfolding separator-at separator-on separator-then sighted lay-then lay add mix-then lay-mixed add-before-last
-  separator-same off =
+  mix-same : 1 ≤ length ts → Same text (m .count) (Rust.mix parser (λ q. Rust.loop q)) (mix-then tape m (λ t′ m′. next m′ t′))
+  unfolding mix-then lay-mixed add-before-last
+  mix-same some-token =
+      let long : length us ≡ length ts = tape-length ts (length ts) refl in
+      rw (minus-there (length us) 1 (omega arith), insert-read ts some-token)
+
+  pub separator-same : m .mixed ≡ false → 1 ≤ length ts → Same text (m .count) (Rust.separator-arm parser) (separator-turn text tape m)
+  unfolding Rust.separator-by separator-on separator-then sighted lay-then lay add
+  separator-same off some-token =
       let b : ℕ = byte-at text (m .at) in
       let c : ℕ = byte-at text (m .at + 1) in
-      rw (byte-there text (m .at), byte-next text (m .at) 1, separator-by text tape m)
+      let one : Rust.slice-from there 1 ≡ some (drop (m .at + 1) text) = slice-there text (m .at) 1 (omega arith) in
+      rw (byte-there text (m .at), byte-next text (m .at) 1, separator-two text tape m)
       (by-bool (eqb c equals)
-      (λ g. let z : c ≡ equals = eqb-true c equals g in
+      (λ g.
+      let z : c ≡ equals = eqb-true c equals g in
+      let second : m .at + 1 < length text = byte-stands text (m .at + 1) equals z (λ n. omega arith) in
+      let two : Rust.slice-from there 2 ≡ some (drop (m .at + 2) text) = slice-there text (m .at) 2 (omega arith) in
       by-bool (eqb b less-than)
-      (λ e. rw (eqb-true b less-than e, z, part-next text (m .at) 2))
+      (λ e. rw (eqb-true b less-than e, z, two, laid-operator ts Ours.the-variants.LessThanEqual))
       (λ e1. by-bool (eqb b greater-than)
-      (λ e. rw (eqb-true b greater-than e, z, part-next text (m .at) 2))
+      (λ e. rw (eqb-true b greater-than e, z, two, laid-operator ts Ours.the-variants.GreaterThanEqual))
       (λ e2. by-bool (eqb b exclamation)
-      (λ e. rw (eqb-true b exclamation e, z, part-next text (m .at) 2))
+      (λ e. rw (eqb-true b exclamation e, z, two, laid-operator ts Ours.the-variants.NotEqual))
       (λ e3. by-bool (eqb b question)
-      (λ e. rw (eqb-true b question e, z, part-next text (m .at) 2))
+      (λ e. rw (eqb-true b question e, z, two, laid-operator ts Ours.the-variants.Exists))
       (λ e4. by-bool (eqb b equals)
-      (λ e. rw (eqb-true b equals e, z, part-next text (m .at) 2))
+      (λ e. rw (eqb-true b equals e, z, two, laid-operator ts Ours.the-variants.Exact))
       (λ e5. others e1 e2 e3 e4 e5))))))
       (λ g. by-bool (eqb b less-than)
-      (λ e. rw (eqb-true b less-than e) (rw (separator-at, separator-on, g, part-next text (m .at) 1)))
+      (λ e. rw (eqb-true b less-than e) (rw (Rust.separator-by, separator-on, g, one, laid-operator ts Ours.the-variants.LessThan)))
       (λ e1. by-bool (eqb b greater-than)
-      (λ e. rw (eqb-true b greater-than e) (rw (separator-at, separator-on, g, part-next text (m .at) 1)))
+      (λ e. rw (eqb-true b greater-than e) (rw (Rust.separator-by, separator-on, g, one, laid-operator ts Ours.the-variants.GreaterThan)))
       (λ e2. by-bool (eqb b exclamation)
-      (λ e. rw (eqb-true b exclamation e) (rw (separator-at, separator-on, g, insert-before ts mixed-container-token)))
+      (λ e. rw (eqb-true b exclamation e) (rw (Rust.separator-by, separator-on, g) (mix-same some-token)))
       (λ e3. by-bool (eqb b question)
-      (λ e. rw (eqb-true b question e) (rw (separator-at, separator-on, g, insert-before ts mixed-container-token)))
+      (λ e. rw (eqb-true b question e) (rw (Rust.separator-by, separator-on, g) (mix-same some-token)))
       (λ e4. by-bool (eqb b equals)
-      (λ e. rw (eqb-true b equals e) (rw (separator-at, separator-on, g, off, part-next text (m .at) 1, off)))
+      (λ e. rw (eqb-true b equals e) (rw (Rust.separator-by, separator-on, g, off, one, off)))
       (λ e5. others e1 e2 e3 e4 e5)))))))
     where
-      others : eqb (byte-at text (m .at)) less-than ≡ false → eqb (byte-at text (m .at)) greater-than ≡ false → eqb (byte-at text (m .at)) exclamation ≡ false
-          → eqb (byte-at text (m .at)) question ≡ false → eqb (byte-at text (m .at)) equals ≡ false
-          → Same text (m .count) (separator-at (byte-at text (m .at)) (byte-at text (m .at + 1)) parser) (separator-on (byte-at text (m .at)) (byte-at text (m .at + 1)) tape m)
+      others : eqb (byte-at text (m .at)) less-than ≡ false → eqb (byte-at text (m .at)) greater-than ≡ false
+          → eqb (byte-at text (m .at)) exclamation ≡ false → eqb (byte-at text (m .at)) question ≡ false → eqb (byte-at text (m .at)) equals ≡ false
+          → Same text (m .count) (Rust.separator-by (byte-at text (m .at)) (byte-at text (m .at + 1)) parser)
+          (separator-on (byte-at text (m .at)) (byte-at text (m .at + 1)) tape m)
       others e1 e2 e3 e4 e5 =
-          rw (separator-on, separator-at, e1, e2, e3, e4, e5)
+          rw (separator-on, Rust.separator-by, e1, e2, e3, e4, e5)
           (by-bool (eqb (byte-at text (m .at)) brace-open)
           (λ e. rw e)
           (λ e. rw e
           (by-bool (eqb (byte-at text (m .at)) brace-close)
-          (λ f. rw (f, insert-before ts mixed-container-token))
-          (λ f. rw (f, insert-before ts mixed-container-token)))))
+          (λ f. rw f (mix-same some-token))
+          (λ f. rw f (mix-same some-token)))))
 
   -- ---- ObjectValue
-  pub object-value-same : Each (value-cuts there) → Same text (m .count) (object-value (length text) parser) (object-value-turn text tape m)
-  unfolding object-value object-value-turn open-then lay-then lay add value-cuts
+  pub object-value-same : Each text (object-runs text (m .at)) → Same text (m .count) (Rust.value-arm (length text) parser) (object-value-turn text tape m)
+  unfolding Rust.value-arm object-value-turn open-then lay-then lay add object-runs
   object-value-same i =
+      let byte : Rust.index there 0 ≡ some (byte-at text (m .at)) = index-there text (m .at) here in
+      let one : Rust.slice-from there 1 ≡ some (drop (m .at + 1) text) = slice-there text (m .at) 1 (omega arith) in
       by-bool (eqb (byte-at text (m .at)) brace-open)
-      (λ e. rw (object-value, first brace-open ∙ e, object-value-turn, e, part-next text (m .at) 1))
+      (λ e. rw (Rust.value-arm, object-value-turn, byte, e, one, laid-opener ts Array 0 false))
       (λ e. by-bool (eqb (byte-at text (m .at)) brace-close)
-      (λ f. rw (object-value, first brace-open ∙ e, first brace-close ∙ f, object-value-turn, e, f) (ap NoValue (offset-there text (m .at) (omega arith)), sized))
-      (λ f. rw (object-value, first brace-open ∙ e, first brace-close ∙ f, object-value-turn, e, f)
-      (scalar-same Key (rw (value-cuts, first brace-open ∙ e, first brace-close ∙ f) at i))))
+      (λ f. rw (Rust.value-arm, object-value-turn, byte, e, f, offset-there text (m .at) (omega arith))
+      (refl, refl, tape-length ts (m .count) sized))
+      (λ f. rw (Rust.value-arm, object-value-turn, byte, e, f) (scalar-same Key (rw (object-runs, e, f) at i))))

@@ -1,4 +1,6 @@
+pub mod AsRust
 pub mod Cases
+pub mod Demand2
 pub mod Mixed
 pub mod PaperF64
 pub mod Room
@@ -6,5 +8,4 @@ pub mod RustCuts
 pub mod RustDomain
 pub mod RustReadings
 pub mod RustReadingsAlike
-pub mod RustSafe
 pub mod RustTape

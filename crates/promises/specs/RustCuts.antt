@@ -1,18 +1,14 @@
 -- The Rust's own cuts on x86-64, in the words of its text/tape.rs and data.rs: strides of sixteen bytes, and a bytewise fallback that starts again.
 -- A loop is given at least as many turns as it takes: more would leave its answer (`strides-settle` and `quote-settles` of proofs/Domain.antt).
-use Prim.Native.Nat.{ℕ, zero, suc, _+_, _-_, _*_, _/_, _<_, min, max}
-use mathlib.Core.Path.{_≡_}
-use mathlib.Core.Bool.{Bool, true, false}
+use Prim.Native.Nat.{ℕ, zero, suc, _+_, _-_, _*_, _/_, min, max}
+use mathlib.Core.Bool.{Bool, true, false, not}
 use mathlib.Core.List.{List, [], _∷_}
-use mathlib.Core.Logic.{_⊎_}
 use mathlib.Core.Option.{Option, none, some, Option·getD}
 use lib.Dec.{eqb, ltb}
 use lib.ListN.{length, getD, take, drop, set, replicate}
-use Rattle.data.specs.Bytes.{tab, line-feed, carriage-return, space, exclamation, quote, hash, semicolon, less-than, equals, greater-than, bracket-open, backslash, bracket-close, brace-open, brace-close}
+use Rattle.data.specs.Bytes.{tab, line-feed, carriage-return, space, exclamation, quote, hash, semicolon, less-than, equals, greater-than}
+use Rattle.data.specs.Bytes.{bracket-open, backslash, bracket-close, brace-open, brace-close}
 use Rattle.data.specs.Classes.{among}
-use Rattle.cut.specs.Runs.{classed, unquoted-run}
-use Rattle.cut.specs.declared.Quoted.{Quoted}
-use Rattle.cut.specs.declared.Quoted.the-variants.{Closed, Unclosed}
 
 -- `\x0b` and `\x0c`, which the format gives no meaning to and the Rust's table a class
 abbrev pub vertical-tab : ℕ
@@ -23,14 +19,18 @@ form-feed = 12
 
 -- the thirteen bytes that a stride of `split_at_scalar` is compared with, in its order
 abbrev pub stride-bytes : List ℕ
-stride-bytes = tab ∷ line-feed ∷ carriage-return ∷ space ∷ hash ∷ semicolon ∷ less-than ∷ equals ∷ greater-than ∷ brace-open ∷ brace-close ∷ bracket-open ∷ bracket-close ∷ []
+stride-bytes =
+    tab ∷ line-feed ∷ carriage-return ∷ space ∷ hash ∷ semicolon ∷ less-than ∷ equals ∷ greater-than
+    ∷ brace-open ∷ brace-close ∷ bracket-open ∷ bracket-close ∷ []
 
 unfoldable pub stride-stops : ℕ → Bool
 stride-stops b = among b stride-bytes
 
 -- the sixteen bytes that `create_character_class_table` gives a class, in its order
 abbrev pub table-bytes : List ℕ
-table-bytes = tab ∷ line-feed ∷ vertical-tab ∷ form-feed ∷ carriage-return ∷ space ∷ exclamation ∷ hash ∷ semicolon ∷ less-than ∷ equals ∷ greater-than ∷ bracket-open ∷ bracket-close ∷ brace-close ∷ brace-open ∷ []
+table-bytes =
+    tab ∷ line-feed ∷ vertical-tab ∷ form-feed ∷ carriage-return ∷ space ∷ exclamation ∷ hash ∷ semicolon ∷ less-than ∷ equals ∷ greater-than
+    ∷ bracket-open ∷ bracket-close ∷ brace-close ∷ brace-open ∷ []
 
 -- a table with a class written at each of some bytes
 abbrev pub with-classes : List ℕ → List ℕ → List ℕ
@@ -41,8 +41,8 @@ with-classes table (b ∷ bs) = with-classes (set table b 1) bs
 unfoldable pub character-class : List ℕ
 character-class = with-classes (replicate 256 0) table-bytes
 
-abbrev pub has-class : ℕ → Bool
-has-class = classed character-class
+unfoldable pub has-class : ℕ → Bool
+has-class b = not (eqb (getD character-class b 0) 0)
 
 -- `forward_search`: the place of the first byte that is looked for, of the bytes that start at a place. The trailing zeros of a stride's mask say no other
 unfoldable pub forward-search : (ℕ → Bool) → List ℕ → ℕ → Option ℕ
@@ -102,34 +102,21 @@ quote-look bytes ptr =
 unfoldable pub quote-strides : List ℕ → Option ℕ
 quote-strides haystack = strides quote-look haystack (length haystack / loop-size * loop-size)
 
--- `parse_quote_scalar_fallback`, at a position of a part whose byte 0 is the quote
-unfoldable pub quote-from : List ℕ → ℕ → ℕ → Quoted
-quote-from d zero pos = Unclosed
+-- `parse_quote_scalar_fallback`, at a position of a part whose byte 0 is the quote: how many bytes stand between the quotes, if one closes
+unfoldable pub quote-from : List ℕ → ℕ → ℕ → Option ℕ
+quote-from d zero pos = none
 quote-from d (suc turns) pos =
     elim (ltb pos (length d)) [
       | true ↦ elim (eqb (getD d pos 0) backslash) [
         | true ↦ quote-from d turns (pos + 2)
-        | false ↦ elim (eqb (getD d pos 0) quote) [ true ↦ Closed (pos - 1) | false ↦ quote-from d turns (pos + 1) ]
+        | false ↦ elim (eqb (getD d pos 0) quote) [ true ↦ some (pos - 1) | false ↦ quote-from d turns (pos + 1) ]
       ]
-      | false ↦ Unclosed
+      | false ↦ none
     ]
 
-unfoldable pub parse-quote-scalar-fallback : List ℕ → Quoted
+unfoldable pub parse-quote-scalar-fallback : List ℕ → Option ℕ
 parse-quote-scalar-fallback d = quote-from d (length d) 1
 
 -- `parse_quote_scalar`: how many bytes stand between a part's first byte, the quote, and the one that closes it
-unfoldable pub parse-quote-scalar : List ℕ → Quoted
-parse-quote-scalar d = elim (quote-strides (drop 1 d)) [ some at ↦ Closed at | none ↦ parse-quote-scalar-fallback d ]
-
--- the bytes that have a class in the Rust's table and are none of the thirteen
-abbrev pub doubted-bytes : List ℕ
-doubted-bytes = vertical-tab ∷ form-feed ∷ exclamation ∷ []
-
--- a run of n bytes at the head of a part has one byte, or holds none of the three
-abbrev pub Undoubted : List ℕ → ℕ → Type 0
-Undoubted d n = (n ≡ 1) ⊎ ((k : ℕ) → k < n → among (getD d k 0) doubted-bytes ≡ false)
-
--- a part with a byte is in the domain of demand 2 where its run is so, cut by the Rust and by us
-pub record InDomain (d : List ℕ) : Type 0 where
-  pub cut-by-rust : Undoubted d (split-at-scalar d)
-  pub cut-by-us : Undoubted d (unquoted-run d)
+unfoldable pub parse-quote-scalar : List ℕ → Option ℕ
+parse-quote-scalar d = elim (quote-strides (drop 1 d)) [ some at ↦ some at | none ↦ parse-quote-scalar-fallback d ]

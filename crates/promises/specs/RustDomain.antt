@@ -1,107 +1,139 @@
--- The domain of demand 2, of a whole text: at every place where the Rust's run cuts an unquoted run, that run is in it, cut by the Rust and by us.
-use Prim.Native.Nat.{ℕ, zero, suc, _*_, _+_}
-use mathlib.Core.Bool.{Bool, true, false, _&&_}
+-- The domain of demand 2: no unquoted run of two or more bytes holds a byte on which the Rust's two tables disagree. Told of a whole text by our own cuts
+-- alone, along our own parse with no bound on tokens: the Rust's runs are then the same (`unquoted-alike`), so nothing has to be asked of them.
+use Prim.Native.Nat.{ℕ, zero, suc, _+_, _<_}
+use mathlib.Core.Path.{_≡_}
+use mathlib.Core.Bool.{Bool, true, false}
 use mathlib.Core.List.{List, [], _∷_}
-use mathlib.Core.Option.{none, some}
-use lib.Dec.{eqb}
+use mathlib.Core.Logic.{_⊎_}
+use lib.Dec.{eqb, ltb}
 use lib.ListN.{length, getD, drop}
-use Rattle.data.specs.Bytes.{exclamation, quote, less-than, equals, greater-than, at-sign, bracket-open, bracket-close, brace-open, brace-close}
+use Rattle.data.specs.Bytes.{exclamation, quote, bracket-open, bracket-close, brace-open, brace-close}
 use Rattle.data.specs.Classes.{among}
+use Rattle.cut.specs.declared.Skipped.the-variants.{At, End}
+use Rattle.cut.specs.Blanks.{skip-ws}
+use Rattle.cut.specs.Runs.{unquoted-run, run-end}
+use Rattle.cut.specs.Scalars.{opens-variable}
+use Rattle.tape.specs.Tape.{Tape, unbounded}
 use Rattle.parse.specs.declared.machine.State.the-variants.{Key, KeyValueSeparator, ObjectValue, ParseOpen, ArrayValue}
-use Rattle.promises.specs.RustCuts.{split-at-scalar, InDomain}
-use Rattle.promises.specs.RustTape.{Parser, Flow, loop, ok, err, has, skip-ws-t, with-data, rust-turn, begin}
+use Rattle.parse.specs.declared.machine.Machine.{Machine}
+use Rattle.parse.specs.declared.key.KeyByte as KeyByte
+use Rattle.parse.specs.declared.parse_open.OpenByte as OpenByte
+use Rattle.parse.specs.declared.array_value.ValueByte as ValueByte
+use Rattle.parse.specs.Machine.{After, next, done, refused, byte-at, to}
+use Rattle.parse.specs.Key.{key-byte}
+use Rattle.parse.specs.ParseOpen.{open-byte}
+use Rattle.parse.specs.ArrayValue.{value-byte}
+use Rattle.parse.specs.Parse.{turn, has-bom, start, enough}
+use Rattle.promises.specs.Room.{tape-of}
+use Rattle.promises.specs.RustCuts.{vertical-tab, form-feed}
 
--- the parts that a turn calls `split_at_scalar` on
--- in the arms `"`, `@` and `_`
-unfoldable pub any-cuts : List ℕ → List (List ℕ)
-any-cuts d =
-    elim (has d 0 quote) [
+-- ---- a run
+-- the bytes that have a class in the Rust's table and are none of the thirteen
+abbrev pub doubted-bytes : List ℕ
+doubted-bytes = vertical-tab ∷ form-feed ∷ exclamation ∷ []
+
+-- a run of n bytes at the head of a part has one byte, or holds none of the three
+abbrev pub Undoubted : List ℕ → ℕ → Type 0
+Undoubted d n = (n ≡ 1) ⊎ ((k : ℕ) → k < n → among (getD d k 0) doubted-bytes ≡ false)
+
+-- the run that we cut at a place of a text
+abbrev pub In-domain : List ℕ → ℕ → Type 0
+In-domain text at = Undoubted (drop at text) (unquoted-run (drop at text))
+
+-- ---- the places at which a turn of ours cuts an unquoted run
+-- a scalar that is neither quoted nor `@[`
+unfoldable pub scalar-runs : List ℕ → ℕ → List ℕ
+scalar-runs text at =
+    elim (eqb (byte-at text at) quote) [
       | true ↦ []
-      | false ↦ elim (has d 0 at-sign) [
-        | true ↦ elim (has d 1 bracket-open) [ true ↦ [] | false ↦ d ∷ [] ]
-        | false ↦ d ∷ []
-      ]
+      | false ↦ elim (opens-variable text at) [ true ↦ [] | false ↦ at ∷ [] ]
     ]
 
--- in `parse_parameter_definition`: the name, and the key or value where blanks do not end the text
-unfoldable pub rest-cuts : List ℕ → List (List ℕ)
-rest-cuts rest = elim (skip-ws-t rest) [ some d ↦ d ∷ [] | none ↦ [] ]
+-- a parameter's value or first key, after blanks
+unfoldable pub value-runs : List ℕ → ℕ → List ℕ
+value-runs text at = elim (skip-ws text at) [ At p ↦ p ∷ [] | End ↦ [] ]
 
-unfoldable pub name-cuts : List ℕ → List (List ℕ)
-name-cuts d =
-    elim (eqb (length d) 0) [
-      | true ↦ []
-      | false ↦ d ∷ elim (has (drop (split-at-scalar d) d) 0 bracket-close) [ true ↦ rest-cuts (drop 1 (drop (split-at-scalar d) d)) | false ↦ [] ]
-    ]
-
-unfoldable pub parameter-cuts : List ℕ → List (List ℕ)
-parameter-cuts d =
-    elim (has d 1 bracket-open) [
-      | true ↦ elim (has d 2 exclamation) [ true ↦ name-cuts (drop 3 d) | false ↦ name-cuts (drop 2 d) ]
+-- a parameter's name, and what follows it where `]` ends it
+unfoldable pub name-runs : List ℕ → ℕ → List ℕ
+name-runs text at =
+    elim (ltb at (length text)) [
+      | true ↦ at ∷ elim (eqb (byte-at text (run-end text at)) bracket-close) [ true ↦ value-runs text (run-end text at + 1) | false ↦ [] ]
       | false ↦ []
     ]
 
-unfoldable pub key-cuts : List ℕ → List (List ℕ)
-key-cuts d =
-    elim (has d 0 brace-close) [
-      | true ↦ []
-      | false ↦ elim (has d 0 bracket-close) [
-        | true ↦ []
-        | false ↦ elim (has d 0 brace-open) [
-          | true ↦ []
-          | false ↦ elim (has d 0 bracket-open) [ true ↦ parameter-cuts d | false ↦ any-cuts d ]
-        ]
-      ]
+-- `[[` or `[[!`
+unfoldable pub parameter-runs : List ℕ → ℕ → List ℕ
+parameter-runs text at =
+    elim (eqb (byte-at text (at + 1)) bracket-open) [
+      | true ↦ elim (eqb (byte-at text (at + 2)) exclamation) [ true ↦ name-runs text (at + 3) | false ↦ name-runs text (at + 2) ]
+      | false ↦ []
     ]
 
-unfoldable pub value-cuts : List ℕ → List (List ℕ)
-value-cuts d = elim (has d 0 brace-open) [ true ↦ [] | false ↦ elim (has d 0 brace-close) [ true ↦ [] | false ↦ any-cuts d ] ]
-
-unfoldable pub open-cuts : Bool → List ℕ → List (List ℕ)
-open-cuts mixed d =
-    elim (has d 0 brace-close) [
-      | true ↦ []
-      | false ↦ elim (has d 0 bracket-open) [
-        | true ↦ elim mixed [ true ↦ [] | false ↦ parameter-cuts d ]
-        | false ↦ elim (has d 0 brace-open) [ true ↦ [] | false ↦ any-cuts d ]
-      ]
+unfoldable pub key-runs : List ℕ → ℕ → List ℕ
+key-runs text at =
+    elim (key-byte (byte-at text at)) [
+      | KeyByte.the-variants.Closer ↦ []
+      | KeyByte.the-variants.Brace ↦ []
+      | KeyByte.the-variants.Bracket ↦ parameter-runs text at
+      | KeyByte.the-variants.Other ↦ scalar-runs text at
     ]
 
-unfoldable pub array-cuts : List ℕ → List (List ℕ)
-array-cuts d =
-    elim (has d 0 brace-open) [
+unfoldable pub object-runs : List ℕ → ℕ → List ℕ
+object-runs text at =
+    elim (eqb (byte-at text at) brace-open) [
       | true ↦ []
-      | false ↦ elim (has d 0 brace-close) [
-        | true ↦ []
-        | false ↦ elim (among (getD d 0 0) (less-than ∷ greater-than ∷ exclamation ∷ equals ∷ [])) [ true ↦ [] | false ↦ any-cuts d ]
-      ]
+      | false ↦ elim (eqb (byte-at text at) brace-close) [ true ↦ [] | false ↦ scalar-runs text at ]
     ]
 
-unfoldable pub state-cuts : Parser → List (List ℕ)
-state-cuts p =
-    elim (p .state) [
-      | Key ↦ key-cuts (p .rest)
+unfoldable pub open-runs : List ℕ → Bool → ℕ → List ℕ
+open-runs text mixed at =
+    elim (open-byte (byte-at text at)) [
+      | OpenByte.the-variants.Closer ↦ []
+      | OpenByte.the-variants.Bracket ↦ elim mixed [ true ↦ [] | false ↦ parameter-runs text at ]
+      | OpenByte.the-variants.Brace ↦ []
+      | OpenByte.the-variants.Other ↦ scalar-runs text at
+    ]
+
+unfoldable pub array-runs : List ℕ → ℕ → List ℕ
+array-runs text at =
+    elim (value-byte (byte-at text at)) [
+      | ValueByte.the-variants.Brace ↦ []
+      | ValueByte.the-variants.Closer ↦ []
+      | ValueByte.the-variants.Sign ↦ []
+      | ValueByte.the-variants.Other ↦ scalar-runs text at
+    ]
+
+-- by the state, at a byte that is no blank
+unfoldable pub state-runs : List ℕ → Machine → List ℕ
+state-runs text m =
+    elim (m .state) [
+      | Key ↦ key-runs text (m .at)
       | KeyValueSeparator ↦ []
-      | ObjectValue ↦ value-cuts (p .rest)
-      | ParseOpen ↦ open-cuts (p .mixed-mode) (p .rest)
-      | ArrayValue ↦ array-cuts (p .rest)
+      | ObjectValue ↦ object-runs text (m .at)
+      | ParseOpen ↦ open-runs text (m .mixed) (m .at)
+      | ArrayValue ↦ array-runs text (m .at)
     ]
 
-unfoldable pub turn-cuts : Parser → List (List ℕ)
-turn-cuts p = elim (skip-ws-t (p .rest)) [ some d ↦ state-cuts (with-data p d (p .state) (p .token-tape)) | none ↦ [] ]
+unfoldable pub turn-runs : List ℕ → Machine → List ℕ
+turn-runs text m = elim (skip-ws text (m .at)) [ At p ↦ state-runs text (to m p (m .state) (m .count)) | End ↦ [] ]
 
--- each of some parts is in the domain
-abbrev pub Each : List (List ℕ) → Type 0
-Each [] = Unit {0}
-Each (d ∷ ds) = InDomain d × Each ds
+-- ---- a text
+-- the runs at some places are in the domain
+abbrev pub Each : List ℕ → List ℕ → Type 0
+Each text [] = Unit {0}
+Each text (at ∷ places) = In-domain text at × Each text places
 
--- along so many turns of the loop
-abbrev pub Along : ℕ → ℕ → Flow → Type 0
-Along n zero x = Unit {0}
-Along n (suc turns) (loop p) = Each (turn-cuts p) × Along n turns (rust-turn n p)
-Along n (suc turns) (ok ts) = Unit {0}
-Along n (suc turns) (err r ts) = Unit {0}
+-- and so on along so many turns of ours, or fewer where they end before
+abbrev pub Along : List ℕ → ℕ → After → Type 0
+Along text zero x = Unit {0}
+Along text (suc turns) (next m t) = Each text (turn-runs text m) × Along text turns (turn text t m)
+Along text (suc turns) (done n t) = Unit {0}
+Along text (suc turns) (refused r) = Unit {0}
 
--- a text is in the domain
+-- a text is in the domain where each unquoted run that its parse with no bound on tokens cuts is
 abbrev pub Domain : List ℕ → Type 0
-Domain text = Along (length text) (2 * length text + 2) (loop (begin text))
+Domain text = Along text (enough text) (next (start (has-bom text)) (tape-of unbounded []))
+
+-- none of the three bytes stands in a text at all; such a text is in the domain (`plain-in-domain`)
+abbrev pub Plain : List ℕ → Type 0
+Plain text = (k : ℕ) → among (getD text k 0) doubted-bytes ≡ false
