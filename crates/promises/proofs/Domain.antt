@@ -226,7 +226,9 @@ fallback-run d h = rw (search-scan has-class d) (scan-run has-class d h)
 -- where a stride finds the run's end, the scan by the thirteen ends
 scan-stride : (d : List ℕ) (ptr : ℕ) → stop-from stride-stops (drop ptr d) ptr
     ≡ Option·getD (forward-search stride-stops (stride d ptr) ptr) (stop-from stride-stops (drop (ptr + loop-size) d) (ptr + length (stride d ptr)))
-scan-stride d ptr = ap (λ (bs : List ℕ). stop-from stride-stops bs ptr) (part-stride d ptr) ∙ scan-search stride-stops (stride d ptr) (drop (ptr + loop-size) d) ptr
+scan-stride d ptr =
+    ap (λ (bs : List ℕ). stop-from stride-stops bs ptr) (part-stride d ptr)
+    ∙ scan-search stride-stops (stride d ptr) (drop (ptr + loop-size) d) ptr
 
 found-stop : (d : List ℕ) (at : ℕ) → scalar-strides d ≡ some at → stop-from stride-stops d 0 ≡ at
 unfolding scalar-strides strides scalar-look
@@ -311,7 +313,8 @@ as-found (Closed n) = some n
 as-found Unclosed = none
 
 -- the fallback's loop, at a position one past a place of the part after the quote, goes by bytes as our cut does
-quote-bytewise : (q : ℕ) (bytes : List ℕ) (turns n : ℕ) → length bytes ≤ n + turns → quote-from (q ∷ bytes) turns (n + 1) ≡ as-found (quoted-from (drop n bytes) n)
+quote-bytewise : (q : ℕ) (bytes : List ℕ) (turns n : ℕ) → length bytes ≤ n + turns
+    → quote-from (q ∷ bytes) turns (n + 1) ≡ as-found (quoted-from (drop n bytes) n)
 unfolding quote-from
 quote-bytewise q bytes zero n enough = sym (ap as-found (quoted-past bytes n (omega arith)))
 quote-bytewise q bytes (suc turns) n enough =
@@ -355,7 +358,8 @@ quote-stride : (d : List ℕ) (ptr : ℕ) → forward-search (λ b. eqb b backsl
 quote-stride d ptr e = ap (λ (bs : List ℕ). quoted-from bs ptr) (part-stride d ptr) ∙ quote-search (stride d ptr) (drop (ptr + loop-size) d) ptr e
 
 -- a stride that reaches past the end leaves nothing, wherever the count goes on
-stride-past : (d : List ℕ) (ptr : ℕ) → quoted-from (drop (ptr + loop-size) d) (ptr + length (stride d ptr)) ≡ quoted-from (drop (ptr + loop-size) d) (ptr + loop-size)
+stride-past : (d : List ℕ) (ptr : ℕ)
+    → quoted-from (drop (ptr + loop-size) d) (ptr + length (stride d ptr)) ≡ quoted-from (drop (ptr + loop-size) d) (ptr + loop-size)
 unfolding quoted-from
 stride-past d ptr =
     by-place d (ptr + loop-size)

@@ -121,7 +121,8 @@ module _ (text : List ℕ) (ts : List Token) (m : Machine) (sized : length ts �
       (λ e.
       let grand : ℕ = parent-of parent in
       let within : m .parent < length us = let l = long in omega (arith, parent-within ts s e) in
-      let kind : Rust.closed-as (Rust.is-array (Rust.container (Rust.get us (m .parent)))) (length us) (m .mixed) ≡ opener-as (own-kind parent) (m .count) (m .mixed) =
+      let own : Rust.Container = Rust.container (Rust.get us (m .parent)) in
+      let kind : Rust.closed-as (Rust.is-array own) (length us) (m .mixed) ≡ opener-as (own-kind parent) (m .count) (m .mixed) =
       rw (container-read ts (m .parent), long) (kind-same parent (m .count) (m .mixed)) in
       let closed : List Token = set ts (m .parent) (opener-of (own-kind parent) (m .count) (m .mixed)) in
       rw (

@@ -263,7 +263,8 @@ state-same (Containers.the-variants.Opened Object end true) = refl
 state-same (Containers.the-variants.Opened Object end false) = refl
 state-same Containers.the-variants.Nothing = refl
 
-pub kind-same : (c : Containers.Container) (end : ℕ) (mixed : Bool) → Rust.closed-as (Rust.is-array (as-container c)) end mixed ≡ opener-as (own-kind c) end mixed
+pub kind-same : (c : Containers.Container) (end : ℕ) (mixed : Bool)
+    → Rust.closed-as (Rust.is-array (as-container c)) end mixed ≡ opener-as (own-kind c) end mixed
 kind-same (Containers.the-variants.Opened Array link flag) end mixed = refl
 kind-same (Containers.the-variants.Opened Object link flag) end mixed = refl
 kind-same Containers.the-variants.Nothing end mixed = refl

@@ -8,4 +8,5 @@ pub mod RustCuts
 pub mod RustDomain
 pub mod RustReadings
 pub mod RustReadingsAlike
+pub mod RustRows
 pub mod RustTape
