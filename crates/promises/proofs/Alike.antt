@@ -3,21 +3,21 @@
 use mathlib.Core.Path.{_≡_, refl, _∙_}
 use mathlib.Core.Bool.{Bool, true, false}
 use mathlib.Core.List.{List, [], _∷_, _++_}
-use Prim.Native.Nat.{ℕ, _+_, _-_, _*_, _≤_, _<_}
+use Prim.Native.Nat.{ℕ, zero, suc, _+_, _-_, _*_, _≤_, _<_}
 use native.Mathlib.Omega.{arith}
 use borrow.Author.Tests.{ltb-true, ltb-false}
 use lib.Dec.{ltb}
 use lib.ListN.{length, length-append}
 use Rattle.tape.specs.declared.token.Token.{Token}
-use Rattle.tape.specs.Token.{mixed-container-token}
-use Rattle.tape.specs.Tape.{Tape, holds, unbounded, Laying, laid, full, add, before-last, add-before-last, lay, lay-mixed}
+use Rattle.tape.specs.Tape.{Tape, holds, unbounded, before-last}
 use Rattle.parse.specs.declared.machine.State.{State}
 use Rattle.parse.specs.declared.machine.State.the-variants.{Key, KeyValueSeparator, ObjectValue, ParseOpen, ArrayValue}
 use Rattle.parse.specs.declared.machine.Machine.{Machine}
-use Rattle.parse.specs.declared.machine.Refusal.{Refusal}
 use Rattle.parse.specs.declared.machine.Refusal.the-variants.{Full}
 use Rattle.parse.specs.Refusals.{number}
-use Rattle.parse.specs.Machine.{After, next, done, refused, and-then, to, or-full, lay-then}
+use Rattle.parse.specs.Machine.{After, next, done, refused}
+use Rattle.promises.proofs.Moves.{Result, goes, ends, stops}
+use Rattle.promises.proofs.Walk.{told, if-room, laying}
 use Rattle.promises.specs.Mixed.{Mixes}
 use Rattle.promises.specs.Room.{tape-of, laid-by}
 
@@ -64,20 +64,15 @@ pub record Alike (text : List ℕ) (budget k c w : ℕ) (bounded free : After) :
   pub told : laid-by w free ≡ w
   pub known : Known text budget free
 
+-- ---- a result that is told in as much room as there is
+-- what is known of a result by which so many tokens have been laid down
+abbrev pub Paid : List ℕ → ℕ → ℕ → Result → Type 0
+Paid text budget w (goes m ts) =
+    (m .count ≡ w) × (length ts ≡ m .count) × Mixes (m .state) (m .mixed) × (m .count + spare (m .state) + 2 * (length text - m .at) ≤ budget)
+Paid text budget w (ends n ts) = (n ≡ w) × (length ts ≡ n) × (n ≤ budget + 1)
+Paid text budget w (stops r) = (number r < 11) × (w ≤ budget)
+
 module _ (text : List ℕ) (budget k : ℕ) where
-  -- an answer that lays down nothing more
-  pub alike-next : (ts : List Token) (m : Machine) → length ts ≡ m .count → Mixes (m .state) (m .mixed) → m .count + spare (m .state) + 2 * (length text - m .at) ≤ budget
-      → Alike text budget k (m .count) (m .count) (next m (tape-of (holds k) ts)) (next m (tape-of unbounded ts))
-  alike-next ts m e x h =
-      record { grows = omega arith; most = omega arith; fits = λ f. refl; full = λ f g. absurd (omega arith); told = refl; known = record { free = refl; sized = e; mixes = x; paid = h } }
-
-  pub alike-done : (ts : List Token) (n : ℕ) → length ts ≡ n → n ≤ budget + 1
-      → Alike text budget k n n (done n (tape-of (holds k) ts)) (done n (tape-of unbounded ts))
-  alike-done ts n e h = record { grows = omega arith; most = h; fits = λ f. refl; full = λ f g. absurd (omega arith); told = refl; known = e }
-
-  pub alike-refused : (c : ℕ) (r : Refusal) → c ≤ budget → number r < 11 → Alike text budget k c c (refused r) (refused r)
-  alike-refused c r h n = record { grows = omega arith; most = omega arith; fits = λ f. refl; full = λ f g. absurd (omega arith); told = refl; known = n }
-
   -- one token more, with the room that there is
   laid-more : (c w : ℕ) (ok : Bool) (x y z : After) → ltb c k ≡ ok → Alike text budget k (c + 1) w x y → (ok ≡ true → z ≡ x) → (ok ≡ false → z ≡ refused Full)
       → Alike text budget k c w z y
@@ -102,23 +97,28 @@ module _ (text : List ℕ) (budget k : ℕ) where
         known = a .known;
       }
 
-  pub alike-lay : (ts : List Token) (c w : ℕ) (x : Token) (go : ℕ → Tape → After) (y : After)
-      → Alike text budget k (c + 1) w (go (c + 1) (tape-of (holds k) (ts ++ (x ∷ [])))) y
-      → Alike text budget k c w (or-full (lay (tape-of (holds k) ts) c x) go) y
-  unfolding lay add
-  alike-lay ts c w x go y a =
-      laid-more c w (ltb c k) (go (c + 1) (tape-of (holds k) (ts ++ (x ∷ [])))) y _ refl a
-      (λ e. rw (lay, e))
-      (λ e. rw (lay, e))
+  told-alike : (c : ℕ) (x : Result) → Paid text budget c x → Alike text budget k c c (told (holds k) x) (told unbounded x)
+  told-alike c (goes m ts) h =
+      let known : Going text budget m (tape-of unbounded ts) = record { free = refl; sized = h .1; mixes = h .2; paid = h .3 } in
+      record { grows = omega arith; most = omega (arith, h .0, h .3); fits = λ f. refl; full = λ f g. absurd (omega arith); told = h .0; known = known }
+  told-alike c (ends n ts) h =
+      record { grows = omega arith; most = omega (arith, h .0, h .2); fits = λ f. refl; full = λ f g. absurd (omega arith); told = h .0; known = h .1 }
+  told-alike c (stops r) h =
+      record { grows = omega arith; most = omega (arith, h .1); fits = λ f. refl; full = λ f g. absurd (omega arith); told = refl; known = h .0 }
 
-  pub alike-mix : (ts : List Token) (c w : ℕ) (go : ℕ → Tape → After) (y : After)
-      → Alike text budget k (c + 1) w (go (c + 1) (tape-of (holds k) (before-last ts mixed-container-token))) y
-      → Alike text budget k c w (or-full (lay-mixed (tape-of (holds k) ts) c) go) y
-  unfolding lay-mixed add-before-last
-  alike-mix ts c w go y a =
-      laid-more c w (ltb c k) (go (c + 1) (tape-of (holds k) (before-last ts mixed-container-token))) y _ refl a
-      (λ e. rw (lay-mixed, e))
-      (λ e. rw (lay-mixed, e))
+  -- so many tokens laid down after c others, and then the result
+  pub laying-alike : (c n w : ℕ) (x : Result) → c + n ≡ w → Paid text budget w x → Alike text budget k c w (laying (holds k) c n x) (laying unbounded c n x)
+  laying-alike c zero w x e h = let z : c ≡ w = omega arith in rw (← z) (told-alike c x (rw z h))
+  laying-alike c (suc n) w x e h =
+      laid-more c w (ltb c k) (laying (holds k) (c + 1) n x) (laying unbounded (c + 1) n x) (laying (holds k) c (suc n) x) refl
+      (laying-alike (c + 1) n w x (omega arith) h)
+      (λ f. rw (laying, if-room, f))
+      (λ f. rw (laying, if-room, f))
+
+-- with no bound all are laid down
+pub laying-free : (c n : ℕ) (x : Result) → laying unbounded c n x ≡ told unbounded x
+laying-free c zero x = refl
+laying-free c (suc n) x = laying-free (c + 1) n x
 
 -- one token more is one more to count
 pub added-sized : (ts : List Token) (c : ℕ) (x : Token) → length ts ≡ c → length (ts ++ (x ∷ [])) ≡ c + 1
@@ -128,28 +128,3 @@ pub mixed-sized : (ts : List Token) (c : ℕ) (x : Token) → length ts ≡ c �
 mixed-sized [] c x e = rw (← e)
 mixed-sized (t ∷ []) c x e = rw (← e)
 mixed-sized (t ∷ u ∷ ts) c x e = omega (arith, mixed-sized (u ∷ ts) (length (u ∷ ts)) x refl)
-
--- what follows a token that is laid down
-bind : (l : Laying) (f : ℕ → Machine) (go : Tape → Machine → After)
-    → and-then (or-full l (λ n t. next (f n) t)) go ≡ or-full l (λ n t. go t (f n))
-bind (laid n t) f go = refl
-bind full f go = refl
-
-module _ (text : List ℕ) (budget k : ℕ) where
-  -- a token, and on to a place in a state
-  pub alike-lay-then : (ts : List Token) (x : Token) (at : ℕ) (state : State) (m : Machine) → length ts ≡ m .count → Mixes state (m .mixed)
-      → m .count + 1 + spare state + 2 * (length text - at) ≤ budget
-      → Alike text budget k (m .count) (m .count + 1) (lay-then x at state (tape-of (holds k) ts) m) (lay-then x at state (tape-of unbounded ts) m)
-  unfolding lay-then lay add
-  alike-lay-then ts x at state m e g h =
-      alike-lay text budget k ts (m .count) (m .count + 1) x (λ n t′. next (to m at state n) t′) _
-      (alike-next text budget k (ts ++ (x ∷ [])) (to m at state (m .count + 1)) (added-sized ts (m .count) x e) g h)
-
-  -- a token, and then more of the same turn
-  pub alike-lay-and : (ts : List Token) (x : Token) (at : ℕ) (state : State) (m : Machine) (w : ℕ) (go : Tape → Machine → After) (y : After)
-      → Alike text budget k (m .count + 1) w (go (tape-of (holds k) (ts ++ (x ∷ []))) (to m at state (m .count + 1))) y
-      → Alike text budget k (m .count) w (and-then (lay-then x at state (tape-of (holds k) ts) m) go) y
-  unfolding lay-then
-  alike-lay-and ts x at state m w go y a =
-      rw (lay-then, bind (lay (tape-of (holds k) ts) (m .count) x) (λ n. to m at state n) go)
-      (alike-lay text budget k ts (m .count) w x (λ n t. go t (to m at state n)) y a)

@@ -16,25 +16,27 @@ use Rattle.parse.specs.Parse.{outcome, parse-of}
 use Rattle.parse.proofs.parse.Reads as parse
 use Rattle.promises.specs.Room.{laid-down}
 use Rattle.promises.proofs.Room.{laid-most}
+use Rattle.promises.proofs.Demand1.{success-zeroes-past}
 use Rattle.promises.proofs.Demand2.{parse-full-exactly}
 use Rattle.promises.proofs.Links.Parse.{parse-tied}
 use Rattle.promises.proofs.Rising.{parse-viewed}
 
 pub parse-sound : (text : List ℕ) (len count : ℕ) (bom : Bool) (words : List ℕ) → parse-of text len ≡ outcome (Tokens count bom) words → Sound (length text) words count
 parse-sound text len count bom words e =
+    let out = success-zeroes-past text len count bom words (sym e) in
     let v = parse-viewed text len count bom words e in
     let s = parse-tied text len count bom words e .tokens in
     record {
-      fits = v .0;
+      fits = rw (out .kept) (out .within);
       tokens = record {
         forms = s .forms;
         closed = s .closed;
         opened = s .opened;
         nested = s .nested;
-        within = v .1 .within;
-        rising = v .1 .rising;
-        apart = v .1 .apart;
-        filled = v .1 .filled;
+        within = v .within;
+        rising = v .rising;
+        apart = v .apart;
+        filled = v .filled;
         top = s .top;
         headed = s .headed;
       };

@@ -7,6 +7,7 @@ pub mod Demand3
 pub mod Domain
 pub mod Links
 pub mod Mixed
+pub mod Moves
 pub mod PaperF64
 pub mod Rising
 pub mod Room
@@ -22,3 +23,4 @@ pub mod RustReadings
 pub mod RustReads
 pub mod RustTurns
 pub mod Uniqueness
+pub mod Walk

@@ -4,7 +4,6 @@ pub mod Flags
 pub mod Kept
 pub mod Held
 pub mod Closing
-pub mod Parameters
 pub mod Opening
 pub mod Turns
 pub mod Parse

@@ -6,10 +6,7 @@ use mathlib.Core.List.{List, [], _∷_, _++_}
 use mathlib.Core.Logic.{inl, inr}
 use Prim.Native.Nat.{ℕ, _+_, _≤_, _<_}
 use native.Mathlib.Omega.{arith}
-use borrow.Author.Tests.{eqb-true, eqb-false}
-use lib.Dec.{eqb}
 use lib.ListN.{length, set, length-set, List·getD-eq-default}
-use Rattle.data.proofs.Cases.{by-bool}
 use Rattle.tape.specs.declared.token.Token.{Token}
 use Rattle.tape.specs.declared.token.ContainerKind.{ContainerKind}
 use Rattle.tape.specs.declared.token.ContainerKind.the-variants.{Array, Object}
@@ -17,18 +14,19 @@ use Rattle.tape.specs.declared.token.Container as Containers
 use Rattle.tape.specs.declared.shape.Link.the-variants.{ToEnd}
 use Rattle.tape.specs.Token.{no-token, opener-of, end-of, container-of}
 use Rattle.tape.specs.Shape.{link-of}
-use Rattle.tape.specs.Tape.{Tape, token-at}
+use Rattle.tape.specs.Tape.{Tape, unbounded, token-at}
 use Rattle.sheet.specs.Sound.{nth}
 use Rattle.parse.specs.declared.machine.Machine.{Machine}
-use Rattle.parse.specs.Machine.{done}
 use Rattle.parse.specs.Containers as C
-use Rattle.parse.specs.Containers.{container-at, state-in, mixed-in, close, nothing-open, key-end, text-end}
-use Rattle.parse.proofs.Splits.{by-container, by-state}
+use Rattle.parse.specs.Containers.{container-at, state-in, mixed-in, resumed, nothing-open}
+use Rattle.parse.proofs.Splits.{by-container}
+use Rattle.promises.proofs.Moves.{Result, on-tape, container-in, above, closed-as, Over, done-bare, done-closed, too-early}
+use Rattle.promises.proofs.Walk.{Meets}
 use Rattle.promises.proofs.Links.Nest.{by-below, Parent}
 use Rattle.promises.proofs.Links.Rows.{add-length, add-last, scalar-coded, Apart, apart-unscaled}
 use Rattle.promises.proofs.Links.Flags.{codes-differ}
 use Rattle.promises.proofs.Links.Kept.{link-at, Kept, Resting, container-link, link-container, kept-close, tied}
-use Rattle.promises.proofs.Links.Held.{Signed, Shaped, Held, Resting-at, Ready, All, all-close-at}
+use Rattle.promises.proofs.Links.Held.{Signed, Shaped, Held, Finished, Resting-at, Ready}
 
 -- what is read as an opener is one
 pub reads-opener : (ts : List Token) {p : ℕ} → Kept ts p → (i : ℕ) {kind : ContainerKind} {link : ℕ} {mixed : Bool} → container-of (nth ts i) ≡ Containers.the-variants.Opened kind link mixed → link-at ts i ≡ ToEnd link
@@ -89,50 +87,46 @@ resumes c ts p opener r = go c
 pub closed-length : (ts : List Token) (p : ℕ) (x y : Token) → length (set ts p x ++ (y ∷ [])) ≡ length ts + 1
 closed-length ts p x y = add-length (set ts p x) y ∙ ap (λ (k : ℕ). k + 1) (length-set ts p x)
 
-module _ (t : Tape) (m : Machine) (r : Resting-at (m .count) (m .parent) (t .tokens)) where
-  -- the tokens with the machine's container closed, inside its parent
-  closed-rests : (o : Inside t (m .parent)) (kind : ContainerKind) (mixed : Bool) {us : List Token} → us ≡ set (t .tokens) (m .parent) (opener-of kind (m .count) mixed) ++ (end-of (m .parent) ∷ [])
-      → Ready (m .count + 1) (o .up) us
-  closed-rests o kind mixed e =
-      let ts : List Token = t .tokens in
+module _ (m : Machine) (ts : List Token) (r : Resting-at (m .count) (m .parent) ts) where
+  -- the container that the machine is in
+  pub held-inside : (m .parent ≡ 0 → ⊥) → Inside (on-tape unbounded ts) (m .parent)
+  held-inside some = inside (on-tape unbounded ts) (m .parent) some (r .resting .kept .links .parent)
+
+  -- the tokens with that container closed, inside its parent
+  pub closed-rests : (o : Inside (on-tape unbounded ts) (m .parent)) (kind : ContainerKind) (mixed : Bool)
+      → Ready (m .count + 1) (o .up) (closed-as ts (m .parent) (opener-of kind (m .count) mixed))
+  closed-rests o kind mixed =
       let l = closed-length ts (m .parent) (opener-of kind (length ts) mixed) (end-of (m .parent)) in
       record {
         rest = record {
-          counted = rw (e, r .counted, l);
-          resting = rw (e, r .counted) (kept-close ts (m .parent) (o .up) kind mixed (r .resting) (o .link) (o .before));
+          counted = rw (r .counted, l);
+          resting = rw (r .counted) (kept-close ts (m .parent) (o .up) kind mixed (r .resting) (o .link) (o .before));
         };
-        some = rw (e, r .counted, l) (omega arith);
+        some = rw (r .counted, l) (omega arith);
       }
 
-  pub close-held : (o : Inside t (m .parent)) (kind : ContainerKind) → All Held (close kind (o .up) t m)
-  unfolding close
-  close-held o kind =
-      all-close-at Held (m .parent) kind (m .mixed) t m _
-      (λ t′ e. let g = closed-rests o kind (m .mixed) e .rest in
-      record { counted = g .counted; shaped = rw e (resumes (container-at t (o .up)) (set (t .tokens) (m .parent) (opener-of kind (m .count) (m .mixed))) (o .up) (m .parent) (rw e at (g .resting))) })
-
-  key-end-held : All Held (key-end t m)
-  unfolding key-end
-  key-end-held =
-      by-bool (eqb (m .parent) 0)
-      (λ f. let z : m .parent ≡ 0 = eqb-true (m .parent) 0 f in
-      rw (key-end, f) (record { counted = r .counted; tokens = tied (t .tokens) (rw z at (r .resting)) }))
-      (λ f. by-bool (eqb (C.parent-of (container-at t (m .parent))) 0)
-      (λ g. rw (key-end, f, g)
-      (let o = inside t (m .parent) (eqb-false (m .parent) 0 f) (r .resting .kept .links .parent) in
-      let z : o .up ≡ 0 = ap C.parent-of (sym (o .read)) ∙ eqb-true (C.parent-of (container-at t (m .parent))) 0 g in
-      all-close-at Held (m .parent) Object false t m (λ n t′. done n t′)
-      (λ t′ e. let k = closed-rests o Object false e .rest in
-      record { counted = k .counted; tokens = tied (t′ .tokens) (rw z at (k .resting)) })))
-      (λ g. rw (key-end, f, g) tt))
+  pub close-held : (kind : ContainerKind) → nothing-open (m .parent) (above ts (m .parent)) ≡ false
+      → Held (resumed (container-in ts (above ts (m .parent))) (above ts (m .parent)) (m .at + 1) (m .count + 1))
+      (closed-as ts (m .parent) (opener-of kind (m .count) (m .mixed)))
+  unfolding token-at
+  close-held kind e =
+      let o = in-container (on-tape unbounded ts) (m .parent) (r .resting .kept) e in
+      let g = closed-rests o kind (m .mixed) .rest in
+      let up : o .up ≡ above ts (m .parent) = ap C.parent-of (sym (o .read)) in
+      rw (← up)
+      record {
+        counted = g .counted;
+        shaped = resumes (container-in ts (o .up)) (set ts (m .parent) (opener-of kind (m .count) (m .mixed))) (o .up) (m .parent) (g .resting);
+      }
 
 -- the text's end leaves the tokens tied, or is refused
-pub end-held : (t : Tape) (m : Machine) → Held m (t .tokens) → All Held (text-end t m)
-unfolding text-end
-end-held t m h =
-    by-state (m .state)
-    (λ e. rw (text-end, e) (key-end-held t m (record { counted = h .counted; resting = rw e at (h .shaped) })))
-    (λ e. rw (text-end, e) tt)
-    (λ e. rw (text-end, e) tt)
-    (λ e. rw (text-end, e) tt)
-    (λ e. rw (text-end, e) tt)
+pub end-held : (m : Machine) (ts : List Token) → Held m ts → {n : ℕ} {x : Result} → Over m ts n x → Meets Held Finished x
+unfolding token-at
+end-held m ts h (done-bare e z) = record { counted = h .counted; tokens = tied ts (rw z at (rw e at (h .shaped))) }
+end-held m ts h (done-closed e some top) =
+    let r : Resting-at (m .count) (m .parent) ts = record { counted = h .counted; resting = rw e at (h .shaped) } in
+    let o = held-inside m ts r some in
+    let z : o .up ≡ 0 = ap C.parent-of (sym (o .read)) ∙ top in
+    let k = closed-rests m ts r o Object false .rest in
+    record { counted = k .counted; tokens = tied _ (rw z at (k .resting)) }
+end-held m ts h too-early = tt

@@ -1,27 +1,21 @@
 -- What holds of a machine with its tokens, by its state, and what laying a token down keeps of it.
 -- Assumes nothing.
-use mathlib.Core.Path.{_≡_, refl}
+use mathlib.Core.Path.{_≡_}
 use mathlib.Core.Bool.{Bool, true, false}
 use mathlib.Core.List.{List, [], _∷_, _++_}
 use Prim.Native.Nat.{ℕ, _+_, _-_, _≤_}
 use native.Mathlib.Omega.{arith}
-use lib.ListN.{length, set}
-use Rattle.data.proofs.Cases.{by-bool}
-use Rattle.cut.specs.Scalars.{scalar-cut}
+use lib.ListN.{length}
 use Rattle.tape.specs.declared.token.Token.{Token}
 use Rattle.tape.specs.declared.token.ScalarKind.the-variants.{Unquoted, Quoted}
-use Rattle.tape.specs.declared.token.ContainerKind.{ContainerKind}
 use Rattle.tape.specs.declared.token.ContainerKind.the-variants.{Array}
-use Rattle.tape.specs.Token.{mixed-container-token, opener-of, end-of}
-use Rattle.tape.specs.Tape.{Tape, has-room, replace, add, before-last, add-before-last, lay, lay-mixed}
+use Rattle.tape.specs.Token.{opener-of}
 use Rattle.parse.specs.declared.machine.State.{State}
 use Rattle.parse.specs.declared.machine.State.the-variants.{Key, KeyValueSeparator, ObjectValue, ParseOpen, ArrayValue}
 use Rattle.parse.specs.declared.machine.Machine.{Machine}
-use Rattle.parse.specs.Machine.{After, next, done, refused, and-then, to, lay-then}
-use Rattle.parse.specs.Scalars.{scalar-then}
-use Rattle.parse.specs.Containers.{close-at}
-use Rattle.parse.specs.KeyValueSeparator.{mixed-on, mix-then}
-use Rattle.parse.proofs.Splits.{by-cut}
+use Rattle.parse.specs.Machine.{After, to}
+use Rattle.promises.proofs.Moves.{Taken, unquoted, quoted}
+use Rattle.promises.proofs.Walk as Walk
 use Rattle.promises.specs.Mixed.{Scalar, equal-token}
 use Rattle.promises.proofs.Links.Rows.{last, add-length, add-last, scalar-made, Plain, plain-scalar, Apart, apart-add}
 use Rattle.promises.proofs.Links.Flags.{scalar-no-equal}
@@ -65,50 +59,14 @@ pub record Ready (count p : ℕ) (ts : List Token) : Type 0 where
   pub rest : Resting-at count p ts
   pub some : 1 ≤ length ts
 
--- ---- what holds of every machine that goes on, with its tokens; what is done is finished
+-- what holds of every machine that goes on, with its tokens; what is done is finished
 abbrev pub All : (Machine → List Token → Type 0) → After → Type 0
-All P (next m t) = P m (t .tokens)
-All P (done n t) = Finished n (t .tokens)
-All P (refused r) = Unit {0}
+All P x = Walk.All P Finished x
 
-pub all-and-then : (P Q : Machine → List Token → Type 0) (x : After) (go : Tape → Machine → After) → All P x → ((t : Tape) (m : Machine) → P m (t .tokens) → All Q (go t m)) → All Q (and-then x go)
-all-and-then P Q (next m t) go a h = h t m a
-all-and-then P Q (done n t) go a h = a
-all-and-then P Q (refused r) go a h = tt
-
-module _ (P : Machine → List Token → Type 0) where
-  pub all-lay-then : (x : Token) (at : ℕ) (state : State) (t : Tape) (m : Machine) → P (to m at state (m .count + 1)) (t .tokens ++ (x ∷ [])) → All P (lay-then x at state t m)
-  unfolding lay-then lay add
-  all-lay-then x at state t m h =
-      by-bool (has-room (t .room) (m .count))
-      (λ e. rw (lay-then, lay, e) h)
-      (λ e. rw (lay-then, lay, e) tt)
-
-  pub all-mix-then : (t : Tape) (m : Machine) (go : Tape → Machine → After)
-      → ((t′ : Tape) → t′ .tokens ≡ before-last (t .tokens) mixed-container-token → All P (go t′ (mixed-on m (m .count + 1)))) → All P (mix-then t m go)
-  unfolding mix-then lay-mixed add-before-last
-  all-mix-then t m go h =
-      by-bool (has-room (t .room) (m .count))
-      (λ e. rw (mix-then, lay-mixed, e) (h (add-before-last t mixed-container-token) refl))
-      (λ e. rw (mix-then, lay-mixed, e) tt)
-
-  pub all-close-at : (i : ℕ) (kind : ContainerKind) (mixed : Bool) (t : Tape) (m : Machine) (go : ℕ → Tape → After)
-      → ((t′ : Tape) → t′ .tokens ≡ set (t .tokens) i (opener-of kind (m .count) mixed) ++ (end-of i ∷ []) → All P (go (m .count + 1) t′)) → All P (close-at i kind mixed t m go)
-  unfolding close-at lay add replace
-  all-close-at i kind mixed t m go h =
-      by-bool (has-room (t .room) (m .count))
-      (λ e. rw (close-at, lay, replace, e) (h (add (replace t i (opener-of kind (m .count) mixed)) (end-of i)) refl))
-      (λ e. rw (close-at, lay, replace, e) tt)
-
--- what follows a scalar follows a plain token that is one
-pub all-scalar-then : (P : Machine → List Token → Type 0) (text : List ℕ) (state : State) (t : Tape) (m : Machine)
-    → ((x : Token) (at : ℕ) → Plain x → Scalar x → P (to m at state (m .count + 1)) (t .tokens ++ (x ∷ []))) → All P (scalar-then text state t m)
-unfolding scalar-then
-all-scalar-then P text state t m h =
-    by-cut (scalar-cut text (m .at))
-    (λ from to rest q. rw (scalar-then, q) (all-lay-then P _ rest state t m (h _ rest (plain-scalar Unquoted from (to - from) tt) (scalar-made Unquoted from (to - from)))))
-    (λ from to rest q. rw (scalar-then, q) (all-lay-then P _ rest state t m (h _ rest (plain-scalar Quoted from (to - from) tt) (scalar-made Quoted from (to - from)))))
-    (λ q. rw (scalar-then, q) tt)
+-- a scalar that is cut is a plain token
+pub taken-plain : {text : List ℕ} {at : ℕ} {x : Token} {rest : ℕ} → Taken text at x rest → Plain x × Scalar x
+taken-plain (unquoted start end rest q) = (plain-scalar Unquoted start (end - start) tt, scalar-made Unquoted start (end - start))
+taken-plain (quoted start end rest q) = (plain-scalar Quoted start (end - start) tt, scalar-made Quoted start (end - start))
 
 -- ---- a plain token laid down
 -- one more token, counted
@@ -147,12 +105,7 @@ rest-add ts x p r plain ObjectValue mixed d = (kept-plain ts x r plain, omega (a
 rest-add ts x p r plain ParseOpen mixed d = absurd d
 rest-add ts x p r plain ArrayValue mixed d = (kept-plain ts x r plain, omega (arith, add-length ts x), rw (add-last ts x) d, λ e. apart-add ts x (r .kept .row))
 
-module _ (t : Tape) (m : Machine) (r : Resting-at (m .count) (m .parent) (t .tokens)) where
-  added : (x : Token) (at : ℕ) (state : State) → Plain x → Before state (m .mixed) x → Held (to m at state (m .count + 1)) (t .tokens ++ (x ∷ []))
-  added x at state plain d = record { counted = counted-add (t .tokens) x (r .counted); shaped = rest-add (t .tokens) x (m .parent) (r .resting) plain state (m .mixed) d }
-
-  pub lay-plain : (x : Token) (at : ℕ) (state : State) → Plain x → Before state (m .mixed) x → All Held (lay-then x at state t m)
-  lay-plain x at state plain d = all-lay-then Held x at state t m (added x at state plain d)
-
-  pub scalar-held : (text : List ℕ) (state : State) → Settled state → All Held (scalar-then text state t m)
-  scalar-held text state d = all-scalar-then Held text state t m (λ x at plain s. added x at state plain (settled-before state (m .mixed) x d s))
+-- a machine that has laid one down
+pub added : (m : Machine) (ts : List Token) (x : Token) (at : ℕ) (state : State) → Resting-at (m .count) (m .parent) ts → Plain x → Before state (m .mixed) x
+    → Held (to m at state (m .count + 1)) (ts ++ (x ∷ []))
+added m ts x at state r plain d = record { counted = counted-add ts x (r .counted); shaped = rest-add ts x (m .parent) (r .resting) plain state (m .mixed) d }

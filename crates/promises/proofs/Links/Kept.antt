@@ -20,6 +20,7 @@ use Rattle.tape.specs.Token.{no-token, mixed-container-token, opener-of, scalar
 use Rattle.tape.specs.Shape.{linked, link-of, Opens}
 use Rattle.tape.specs.Tape.{before-last}
 use Rattle.tape.proofs.Shapes.{scalar-shape, opens-link, end-link, link-made, unlinked-opens}
+use Rattle.promises.proofs.Moves.{ScalarStands}
 use Rattle.sheet.specs.Sound.{nth, Form, container, mixed-container, scalar, operator, closing, Closed, Opened, Nested, Headed}
 use Rattle.promises.specs.Mixed.{Flags, Marked, Scalar, Stored, equal-token}
 use Rattle.promises.proofs.Links.Nest.{by-equal, by-below, Nest, opener-below, end-below, widen, nest-open, nest-close, all-closed}
@@ -112,13 +113,6 @@ container-made {t} {kind} {link} {mixed} form e =
     let same-kind : o .0 ≡ kind = cc in
     let same-flag : o .1 ≡ mixed = cc in
     o .2 ∙ ap (λ (k : ContainerKind). opener-of k link (o .1)) same-kind ∙ ap (λ (b : Bool). opener-of kind link b) same-flag
-
--- what may stand last where a MixedContainer goes in before it
-abbrev pub ScalarStands : Standings.Standing → Type 0
-ScalarStands Standings.the-variants.Unquoted = Unit {0}
-ScalarStands Standings.the-variants.OtherScalar = Unit {0}
-ScalarStands Standings.the-variants.End = ⊥
-ScalarStands Standings.the-variants.Nothing = ⊥
 
 -- a token of a form that is read as a scalar is one
 pub standing-scalar : {t : Token} → Form t → ScalarStands (standing-of t) → Scalar t
