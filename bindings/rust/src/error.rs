@@ -40,7 +40,7 @@ pub enum ErrorKind {
     NoValue = 5,
     /// A `[` that opens a mixed container.
     MixedParameter = 6,
-    /// An operator that nothing may precede. Its place is one before the operator, as in the Rust.
+    /// An operator with no scalar before it. Its place is one before the operator, as in the Rust.
     NothingPrecedes = 7,
     /// Bytes that begin as an operator and are none. Its place is one before them, as in the Rust.
     UnknownOperator = 8,
