@@ -16,14 +16,15 @@ use lib.Seq.{drop-cons, drop-drop}
 use Rattle.data.proofs.Cases.{by-bool}
 use Rattle.data.specs.Bytes.{plus, minus, point, letter-f}
 use Rattle.scalar.specs.Digits.{run, value, gathered, most-u64}
-use Rattle.scalar.specs.Float.{most-safe, most-places, rest, tail-of, lossy, unpointed, divided, quotient, pointed, after-point, f64-digits, begins, f64-read}
+use Rattle.scalar.specs.Float.{most-safe, most-places, rest, tail-of, lossy, unpointed, divided, quotient, pointed, after-point, f64-digits, begins}
+use Rattle.scalar.specs.Float.{f64-read}
 use Rattle.scalar.specs.Whole.{signed, most-i64}
 use Rattle.scalar.specs.declared.digits.Gathered.{Gathered}
 use Rattle.scalar.specs.declared.float.F64Read.the-variants.{Is, AllDigits, Overflow, PrecisionLoss}
 use Rattle.scalar.specs.declared.float.Tail.the-variants.{End, Point, Other}
 use Rattle.scalar.specs.declared.float.Tail.{Tail}
 use Rattle.scalar.proofs.Gathers.{place-is}
-use Rattle.scalar.proofs.Runs.{run-length, value-below}
+use Rattle.scalar.proofs.Runs.{overflow-cutoff, run-length, value-below}
 
 -- ---- what stands after digits
 
@@ -35,7 +36,8 @@ pub tail-point : (d : List ℕ) (at : ℕ) → at < length d → getD d at 0 ≡
 unfolding tail-of
 tail-point d at h e = rw (drop-cons d at 0 h, tail-of, eq-eqb (getD d at 0) point e)
 
-pub tail-other : (d : List ℕ) (at : ℕ) → at < length d → (getD d at 0 ≡ point → ⊥) → (getD d at 0 ≡ letter-f → ⊥) → tail-of (drop at d) ≡ Other
+pub tail-other : (d : List ℕ) (at : ℕ) → at < length d → (getD d at 0 ≡ point → ⊥) → (getD d at 0 ≡ letter-f → ⊥)
+    → tail-of (drop at d) ≡ Other
 unfolding tail-of
 tail-other d at h p f = rw (drop-cons d at 0 h, tail-of, ne-eqb (getD d at 0) point p, ne-eqb (getD d at 0) letter-f f)
 
@@ -79,7 +81,8 @@ pub lossy-past : (negative : Bool) (n : ℕ) → negative ≡ true → most-i64 
 unfolding lossy
 lossy-past negative n e h = ap (λ (b : Bool). lossy b n) e ∙ rw (lossy, lt-ltb most-i64 n h)
 
-pub lossy-negative : (negative : Bool) (n : ℕ) → negative ≡ true → n ≤ most-i64 → lossy negative n ≡ PrecisionLoss (ofInt binary64 (signed true n))
+pub lossy-negative : (negative : Bool) (n : ℕ) → negative ≡ true → n ≤ most-i64
+    → lossy negative n ≡ PrecisionLoss (ofInt binary64 (signed true n))
 unfolding lossy
 lossy-negative negative n e h = ap (λ (b : Bool). lossy b n) e ∙ rw (lossy, le-ltb most-i64 n h)
 
@@ -93,7 +96,8 @@ pub quotient-is : (negative : Bool) (total places : ℕ) → places ≤ most-pla
 unfolding quotient
 quotient-is negative total places h = rw (quotient, le-ltb most-places places h)
 
-pub pointed-past : (negative : Bool) (whole : ℕ) (fraction : List ℕ) → ltb most-u64 (value whole fraction) ≡ true → pointed negative whole fraction ≡ Overflow
+pub pointed-past : (negative : Bool) (whole : ℕ) (fraction : List ℕ) → ltb most-u64 (value whole fraction) ≡ true
+    → pointed negative whole fraction ≡ Overflow
 unfolding pointed
 pointed-past negative whole fraction e = rw (pointed, e)
 
@@ -102,7 +106,8 @@ pub pointed-is : (negative : Bool) (whole : ℕ) (fraction : List ℕ) → ltb m
 unfolding pointed
 pointed-is negative whole fraction e = rw (pointed, e)
 
-pub after-point-end : (negative : Bool) (whole : ℕ) (s : List ℕ) → tail-of (rest s) ≡ End → after-point negative whole s ≡ pointed negative whole (run s)
+pub after-point-end : (negative : Bool) (whole : ℕ) (s : List ℕ) → tail-of (rest s) ≡ End
+    → after-point negative whole s ≡ pointed negative whole (run s)
 unfolding after-point
 after-point-end negative whole s e = rw (after-point, e)
 
@@ -143,7 +148,8 @@ pub f64-plus : (b : ℕ) (s : List ℕ) → (b ≡ minus → ⊥) → b ≡ plus
 unfolding f64-read
 f64-plus b s h e = rw (f64-read, ne-eqb b minus h, eq-eqb b plus e)
 
-pub f64-bare : (b : ℕ) (s : List ℕ) → (b ≡ minus → ⊥) → (b ≡ plus → ⊥) → begins b ≡ true → f64-read (b ∷ s) ≡ f64-digits false (b ∷ s)
+pub f64-bare : (b : ℕ) (s : List ℕ) → (b ≡ minus → ⊥) → (b ≡ plus → ⊥) → begins b ≡ true
+    → f64-read (b ∷ s) ≡ f64-digits false (b ∷ s)
 unfolding f64-read
 f64-bare b s h k e = rw (f64-read, ne-eqb b minus h, ne-eqb b plus k, e)
 
@@ -158,7 +164,8 @@ pub rest-at : (d : List ℕ) (at start : ℕ) (g : Gathered) → g ≡ gathered 
 rest-at d at start g e = ap (λ (n : ℕ). drop n d) (place-is d at start g e) ∙ sym (drop-drop (length (run (drop at d))) at d)
 
 -- so what was found there is found after the digits
-pub tail-told : (d : List ℕ) (at start : ℕ) (g : Gathered) (t : Tail) → g ≡ gathered d at start → tail-of (drop (g .at) d) ≡ t → tail-of (rest (drop at d)) ≡ t
+pub tail-told : (d : List ℕ) (at start : ℕ) (g : Gathered) (t : Tail) → g ≡ gathered d at start → tail-of (drop (g .at) d) ≡ t
+    → tail-of (rest (drop at d)) ≡ t
 tail-told d at start g t e told = ap tail-of (sym (rest-at d at start g e)) ∙ told
 
 -- and what stands after a point there, one place on
@@ -172,8 +179,8 @@ both-below s t m h =
     (rw (pow-add 10 (length (run s)) (length (run t)))
     (mul-le-mul-right (10 ^ length (run t)) (omega (arith, value-below s 0))))
 
--- fewer than twenty bytes with a point among them write no digits past 64 bits
-pub short-pointed : (d : List ℕ) (sign : ℕ) (g : Gathered) → g ≡ gathered d sign 0 → g .at < length d → length d < 20
+-- bytes under the cutoff with a point among them write no digits past 64 bits
+pub short-pointed : (d : List ℕ) (sign : ℕ) (g : Gathered) → g ≡ gathered d sign 0 → g .at < length d → length d < overflow-cutoff
     → value (g .total) (run (drop (g .at + 1) d)) ≤ most-u64
 short-pointed d sign g e within short =
     let s = drop sign d in

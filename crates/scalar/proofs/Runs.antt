@@ -101,6 +101,10 @@ pub value-done : (s : List ℕ) (total : ℕ) → run s ≡ [] → value total (
 unfolding value
 value-done s total e = ap (value total) e
 
--- fewer than twenty bytes write no number past 64 bits
-pub short-number : (d : List ℕ) (at : ℕ) → length d < 20 → value 0 (run (drop at d)) ≤ most-u64
+-- fewer bytes than this cannot write digits past 64 bits, with or without a point
+abbrev pub overflow-cutoff : ℕ
+overflow-cutoff = 20
+
+-- so they write no number past 64 bits
+pub short-number : (d : List ℕ) (at : ℕ) → length d < overflow-cutoff → value 0 (run (drop at d)) ≤ most-u64
 short-number d at h = omega (arith, number-below (drop at d) 19 (rw length-drop (omega arith)))

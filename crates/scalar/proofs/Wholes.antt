@@ -57,7 +57,8 @@ pub i64-plus : (b : ℕ) (s : List ℕ) → (b ≡ minus → ⊥) → b ≡ plus
 unfolding i64-part
 i64-plus b s h e = rw (i64-part, ne-eqb b minus h, eq-eqb b plus e)
 
-pub i64-bare : (b : ℕ) (s : List ℕ) → (b ≡ minus → ⊥) → (b ≡ plus → ⊥) → is-digit b ≡ true → i64-part (b ∷ s) ≡ i64-digits false 0 (b ∷ s)
+pub i64-bare : (b : ℕ) (s : List ℕ) → (b ≡ minus → ⊥) → (b ≡ plus → ⊥) → is-digit b ≡ true
+    → i64-part (b ∷ s) ≡ i64-digits false 0 (b ∷ s)
 unfolding i64-part
 i64-bare b s h k e = rw (i64-part, ne-eqb b minus h, ne-eqb b plus k, e)
 

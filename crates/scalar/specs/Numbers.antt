@@ -82,9 +82,22 @@ f64-value-of F64.AllDigits = fin false 0 (pos 0)
 f64-value-of F64.Overflow = fin false 0 (pos 0)
 f64-value-of (F64.PrecisionLoss x) = x
 
+-- the numbers of the kinds
+abbrev pub kind-bool : ℕ
+kind-bool = 1
+
+abbrev pub kind-whole : ℕ
+kind-whole = 2
+
+abbrev pub kind-decimal : ℕ
+kind-decimal = 3
+
+abbrev pub kind-name : ℕ
+kind-name = 4
+
 -- the number of a kind
 abbrev pub kind-number-of : ReadingKind → ℕ
-kind-number-of Kind.Bool = 1
-kind-number-of Kind.Whole = 2
-kind-number-of Kind.Decimal = 3
-kind-number-of Kind.Name = 4
+kind-number-of Kind.Bool = kind-bool
+kind-number-of Kind.Whole = kind-whole
+kind-number-of Kind.Decimal = kind-decimal
+kind-number-of Kind.Name = kind-name

@@ -14,10 +14,14 @@ ghost use lib.Ieee.{binary64, ofInt};
 ghost use lib.IntN.{pos};
 ghost use lib.ListN.{length, drop};
 ghost use Rattle.scalar.specs.Digits.{run, value, gathered, most-u64};
-ghost use Rattle.scalar.specs.Float.{most-places, tail-of, lossy as lossy-of, unpointed as unpointed-of, factor as factor-of, divided as divided-of, quotient as quotient-of, after-point, f64-digits, begins as begins-number, f64-read, pattern-of};
+ghost use Rattle.scalar.specs.Float.{most-places, tail-of, lossy as lossy-of, unpointed as unpointed-of, factor as factor-of, divided as divided-of};
+ghost use Rattle.scalar.specs.Float.{quotient as quotient-of, after-point, f64-digits, begins as begins-number, f64-read, pattern-of};
+
+// Up to this one a power of ten is an f64 of its own.
+const MOST_PLACES: usize = 22;
 
 // The powers of ten that an f64 holds exactly.
-const POWER_OF_TEN: [f64; 23] = [
+const POWER_OF_TEN: [f64; MOST_PLACES + 1] = [
     1e0,
     1e1,
     1e2,
@@ -45,6 +49,9 @@ const POWER_OF_TEN: [f64; 23] = [
 
 // 2^53 - 1: up to here every whole number is an f64 of its own.
 const SAFE_INTEGER: u64 = 0x1f_ffff_ffff_ffff;
+
+// The pattern that stands for every NaN: a quiet one.
+const NAN_PATTERN: u64 = 0x7ff8_0000_0000_0000;
 
 // What bytes say as an f64. A number that an f64 cannot hold comes with the nearest that can.
 pub enum F64Read {
@@ -190,7 +197,7 @@ fn carries_past(d: &[u8], sign: usize, whole: Gathered) -> bool
 fn quotient(negative: bool, total: u64, places: usize) -> F64Read
     ensures { λ r. ⌜ r ≡ quotient-of negative total places ⌝ }
 {
-    if places > 22 {
+    if places > MOST_PLACES {
         F64Read::Overflow
     } else {
         F64Read::Is(divided(negative, total, places))
@@ -226,9 +233,5 @@ fn power_of_ten(k: usize) -> f64
 pub fn pattern(x: f64) -> u64
     ensures { λ r. ⌜ r ≡ pattern-of x ⌝ }
 {
-    if x != x {
-        0x7ff8_0000_0000_0000
-    } else {
-        f64::to_bits(x)
-    }
+    if x != x { NAN_PATTERN } else { f64::to_bits(x) }
 }

@@ -6,15 +6,40 @@ use crate::truth::BoolRead;
 use crate::whole::I64Read;
 use crate::whole::U64Read;
 ghost use mathlib.Core.Path.{_≡_};
-ghost use Rattle.scalar.specs.Numbers.{bool-refusal-of, bool-value-of, u64-refusal-of, u64-value-of, i64-refusal-of, i64-value-of, f64-refusal-of, f64-value-of, kind-number-of};
+ghost use Rattle.scalar.specs.Numbers.{bool-refusal-of, bool-value-of, u64-refusal-of, u64-value-of, i64-refusal-of, i64-value-of, f64-refusal-of};
+ghost use Rattle.scalar.specs.Numbers.{f64-value-of, kind-number-of};
+
+// No refusal: there is an answer.
+pub const ANSWERED: u8 = 0;
+
+// Bytes that are no number.
+pub const ALL_DIGITS: u8 = 21;
+
+// A number too large.
+pub const OVERFLOW: u8 = 22;
+
+// Neither yes nor no.
+pub const INVALID_BOOL: u8 = 23;
+
+// A number that its f64 does not hold exactly.
+pub const PRECISION_LOSS: u8 = 24;
+
+// The numbers of the kinds.
+pub const KIND_BOOL: u8 = 1;
+
+pub const KIND_WHOLE: u8 = 2;
+
+pub const KIND_DECIMAL: u8 = 3;
+
+pub const KIND_NAME: u8 = 4;
 
 // The refusal's number of a truth, 0 where there is an answer.
 pub fn bool_refusal(r: BoolRead) -> u8
     ensures { λ n. ⌜ n ≡ bool-refusal-of r ⌝ }
 {
     match r {
-        BoolRead::Is(_) => 0,
-        BoolRead::InvalidBool => 23,
+        BoolRead::Is(_) => ANSWERED,
+        BoolRead::InvalidBool => INVALID_BOOL,
     }
 }
 
@@ -33,9 +58,9 @@ pub fn u64_refusal(r: U64Read) -> u8
     ensures { λ n. ⌜ n ≡ u64-refusal-of r ⌝ }
 {
     match r {
-        U64Read::Is(_) => 0,
-        U64Read::AllDigits => 21,
-        U64Read::Overflow => 22,
+        U64Read::Is(_) => ANSWERED,
+        U64Read::AllDigits => ALL_DIGITS,
+        U64Read::Overflow => OVERFLOW,
     }
 }
 
@@ -55,9 +80,9 @@ pub fn i64_refusal(r: I64Read) -> u8
     ensures { λ n. ⌜ n ≡ i64-refusal-of r ⌝ }
 {
     match r {
-        I64Read::Is(_) => 0,
-        I64Read::AllDigits => 21,
-        I64Read::Overflow => 22,
+        I64Read::Is(_) => ANSWERED,
+        I64Read::AllDigits => ALL_DIGITS,
+        I64Read::Overflow => OVERFLOW,
     }
 }
 
@@ -77,10 +102,10 @@ pub fn f64_refusal(r: F64Read) -> u8
     ensures { λ n. ⌜ n ≡ f64-refusal-of r ⌝ }
 {
     match r {
-        F64Read::Is(_) => 0,
-        F64Read::AllDigits => 21,
-        F64Read::Overflow => 22,
-        F64Read::PrecisionLoss(_) => 24,
+        F64Read::Is(_) => ANSWERED,
+        F64Read::AllDigits => ALL_DIGITS,
+        F64Read::Overflow => OVERFLOW,
+        F64Read::PrecisionLoss(_) => PRECISION_LOSS,
     }
 }
 
@@ -101,9 +126,9 @@ pub fn kind_number(k: ReadingKind) -> u8
     ensures { λ n. ⌜ n ≡ kind-number-of k ⌝ }
 {
     match k {
-        ReadingKind::Bool => 1,
-        ReadingKind::Whole => 2,
-        ReadingKind::Decimal => 3,
-        ReadingKind::Name => 4,
+        ReadingKind::Bool => KIND_BOOL,
+        ReadingKind::Whole => KIND_WHOLE,
+        ReadingKind::Decimal => KIND_DECIMAL,
+        ReadingKind::Name => KIND_NAME,
     }
 }

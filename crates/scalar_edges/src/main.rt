@@ -9,9 +9,12 @@ use scalar::U64Read;
 ghost use Prim.Native.Nat.{_≤_};
 ghost use lib.ListN.{length};
 
-// Reads the text, of which only the first 32,768 bytes count.
+// How many bytes of the text count.
+const MOST_BYTES: usize = 32768;
+
+// Reads the text, of which only the first bytes count.
 fn main() {
-    let mut text = [0u8; 32768];
+    let mut text = [0u8; MOST_BYTES];
     let n = io::read_full(STDIN_FILENO, &mut text);
     write_lines(&text[..n]);
 }
@@ -58,7 +61,7 @@ fn write_readings(d: &[u8]) {
 // A truth is 1 or 0.
 fn write_bool(r: BoolRead) {
     let refusal = scalar::bool_refusal(r);
-    if refusal != 0 {
+    if refusal != scalar::ANSWERED {
         io::print_decimal(STDOUT_FILENO, refusal as u64);
         return;
     }
@@ -72,7 +75,7 @@ fn write_bool(r: BoolRead) {
 // A number without a minus, in decimal.
 fn write_u64(r: U64Read) {
     let refusal = scalar::u64_refusal(r);
-    if refusal != 0 {
+    if refusal != scalar::ANSWERED {
         io::print_decimal(STDOUT_FILENO, refusal as u64);
         return;
     }
@@ -83,7 +86,7 @@ fn write_u64(r: U64Read) {
 // A number with a sign, in decimal.
 fn write_i64(r: I64Read) {
     let refusal = scalar::i64_refusal(r);
-    if refusal != 0 {
+    if refusal != scalar::ANSWERED {
         io::print_decimal(STDOUT_FILENO, refusal as u64);
         return;
     }
@@ -99,11 +102,11 @@ fn write_i64(r: I64Read) {
 // An f64 is its bits in hex; a loss of precision is its number and the bits that it carries.
 fn write_f64(r: F64Read) {
     let refusal = scalar::f64_refusal(r);
-    if refusal == 0 {
+    if refusal == scalar::ANSWERED {
         io::write_all(STDOUT_FILENO, b"=");
     } else {
         io::print_decimal(STDOUT_FILENO, refusal as u64);
-        if refusal != 24 {
+        if refusal != scalar::PRECISION_LOSS {
             return;
         }
         io::write_all(STDOUT_FILENO, b":");

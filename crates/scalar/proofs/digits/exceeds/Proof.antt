@@ -12,7 +12,9 @@ overflows-requires : tie.Need-overflows-requires
 overflows-requires c κs = search needs
 
 returns : tie.Need-returns
-returns c = sym (le-ltb most-u64 _ (short-number (c .before .before .args .d .now) (c .before .before .args .at) (c .if1 .taken)))
+returns c =
+    let start = c .before .before in
+    sym (le-ltb most-u64 _ (short-number (start .args .d .now) (start .args .at) (c .if1 .taken)))
 
 returns-2 : tie.Need-returns-2
 returns-2 c = search needs

@@ -46,8 +46,13 @@ shared-slice-read-b c = search needs
 is-digit-requires : tie.Need-is-digit-requires Inv-loop μ-loop
 is-digit-requires c κs = search needs
 
--- the byte at i is a digit
-digit : (c : tie.Then1 Inv-loop μ-loop) → is-digit (getD (c .before .before .before .before .before .before .args .d .now) (c .before .before .before .before .loop .i) 0) ≡ true
+-- the byte at i, which is a digit
+abbrev byte : tie.Then1 Inv-loop μ-loop → ℕ
+byte c =
+    let at-loop = c .before .before .before .before in
+    getD (at-loop .before .before .args .d .now) (at-loop .loop .i) 0
+
+digit : (c : tie.Then1 Inv-loop μ-loop) → is-digit (byte c) ≡ true
 digit c = sym (c .before .is-digit .ensures) ∙ c .if1 .taken
 
 carried-requires : tie.Need-carried-requires Inv-loop μ-loop
@@ -61,9 +66,11 @@ loop-less c = search needs
 
 loop-again : tie.Need-loop-again Inv-loop μ-loop
 loop-again c =
-    let d = c .before .before .before .before .before .before .before .args .d .now in
-    let head = c .before .before .before .before .before .loop in
-    let within = c .before .before .before .before .loop-test .taken in
+    let at-test = c .before .before .before .before in
+    let at-loop = at-test .before in
+    let d = at-loop .before .before .args .d .now in
+    let head = at-loop .loop in
+    let within = at-test .loop-test .taken in
     let byte-is = digit (c .before) in (
       ap (λ (n : ℕ). value n (run (drop (head .i + 1) d)) % 2 ^ 64) (c .carried .ensures)
           ∙ value-wraps (run (drop (head .i + 1) d)) (carry (head .total) (getD d (head .i) 0))

@@ -51,7 +51,9 @@ returns c =
 
 -- the byte at i, which is a digit
 abbrev byte : tie.Else1 Inv-loop μ-loop → ℕ
-byte c = getD (c .before .before .before .before .before .before .args .d .now) (c .before .before .before .before .loop .i) 0
+byte c =
+    let at-loop = c .before .before .before .before in
+    getD (at-loop .before .before .args .d .now) (at-loop .loop .i) 0
 
 digit : (c : tie.Else1 Inv-loop μ-loop) → is-digit (byte c) ≡ true
 digit c = sym (c .before .is-digit .ensures) ∙ not-false _ (c .if1 .left)
@@ -83,7 +85,12 @@ mul-total : tie.Need-mul-total Inv-loop μ-loop
 mul-total c = search needs
 
 -- the total stays within 64 bits
-kept : (c : tie.Else2 Inv-loop μ-loop) → carry (c .before .before .before .before .before .loop .total) (byte (c .before)) < 2 ^ 64
+abbrev carried-on : tie.Else2 Inv-loop μ-loop → ℕ
+carried-on c =
+    let at-loop = c .before .before .before .before .before in
+    carry (at-loop .loop .total) (byte (c .before))
+
+kept : (c : tie.Else2 Inv-loop μ-loop) → carried-on c < 2 ^ 64
 kept c = stays _ (byte (c .before) - 48) (c .if2 .left) (omega (arith, bounds (c .before)))
 
 add-total : tie.Need-add-total Inv-loop μ-loop

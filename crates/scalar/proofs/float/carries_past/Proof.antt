@@ -15,7 +15,10 @@ overflows-requires : tie.Need-overflows-requires
 overflows-requires c κs = search needs
 
 returns : tie.Need-returns
-returns c = sym (le-ltb most-u64 _ (short-pointed (c .before .before .args .d .now) (c .before .before .args .sign) (c .before .before .args .whole) (c .before .before .pre .0) (c .before .before .pre .1) (c .if1 .taken)))
+returns c =
+    let start = c .before .before in
+    let fits = short-pointed (start .args .d .now) (start .args .sign) (start .args .whole) (start .pre .0) (start .pre .1) (c .if1 .taken) in
+    sym (le-ltb most-u64 _ fits)
 
 returns-2 : tie.Need-returns-2
 returns-2 c = search needs

@@ -23,26 +23,33 @@ enum-told-2 : tie.Need-enum-told-2
 enum-told-2 c = search needs
 
 pointed-requires : tie.Need-pointed-requires
-pointed-requires c κs = (c .before .before .before .gather .ensures, point-within _ _ (sym (c .before .before .tail-at .ensures) ∙ c .enum-told2 .given .1))
+pointed-requires c κs =
+    let at-tail = c .before .before in
+    (at-tail .before .gather .ensures, point-within _ _ (sym (at-tail .tail-at .ensures) ∙ c .enum-told2 .given .1))
 
 enum-told-3 : tie.Need-enum-told-3
 enum-told-3 c = search needs
 
 returns : tie.Need-returns
 returns c =
-    c .unpointed .ensures
-    ∙ sym (digits-end _ _ (tail-told _ _ 0 _ _ (c .before .before .before .before .gather .ensures) (sym (c .before .before .before .tail-at .ensures) ∙ c .before .enum-told .given .1)))
+    let at-tail = c .before .before .before in
+    let told = sym (at-tail .tail-at .ensures) ∙ c .before .enum-told .given .1 in
+    c .unpointed .ensures ∙ sym (digits-end _ _ (tail-told _ _ 0 _ _ (at-tail .before .gather .ensures) told))
 
 returns-2 : tie.Need-returns-2
 returns-2 c =
-    let g = c .before .before .before .before .gather .ensures in
+    let at-tail = c .before .before .before in
+    let told = sym (at-tail .tail-at .ensures) ∙ c .before .enum-told2 .given .1 in
+    let g = at-tail .before .gather .ensures in
     c .pointed .ensures
-    ∙ (λ j. after-point (c .before .before .before .before .before .before .args .negative) (g j .total) (past-point _ _ 0 _ g j))
-    ∙ sym (digits-point _ _ (tail-told _ _ 0 _ _ g (sym (c .before .before .before .tail-at .ensures) ∙ c .before .enum-told2 .given .1)))
+    ∙ (λ j. after-point (at-tail .before .before .before .args .negative) (g j .total) (past-point _ _ 0 _ g j))
+    ∙ sym (digits-point _ _ (tail-told _ _ 0 _ _ g told))
 
 returns-3 : tie.Need-returns-3
 returns-3 c =
-    sym (digits-other _ _ (tail-told _ _ 0 _ _ (c .before .before .before .gather .ensures) (sym (c .before .before .tail-at .ensures) ∙ c .enum-told3 .given .1)))
+    let at-tail = c .before .before in
+    let told = sym (at-tail .tail-at .ensures) ∙ c .enum-told3 .given .1 in
+    sym (digits-other _ _ (tail-told _ _ 0 _ _ (at-tail .before .gather .ensures) told))
 
 pub f64-digits-spec : {M : Type 1} → statement M
 f64-digits-spec =

@@ -30,7 +30,9 @@ carries-past-requires : tie.Need-carries-past-requires
 carries-past-requires c κs = search needs
 
 sub-quotient : tie.Need-sub-quotient
-sub-quotient c = omega (arith, place-is _ _ _ _ (c .before .before .before .before .before .gather .ensures))
+sub-quotient c =
+    let at-gather = c .before .before .before .before .before in
+    omega (arith, place-is _ _ _ _ (at-gather .gather .ensures))
 
 quotient-requires : tie.Need-quotient-requires
 quotient-requires c κs = search needs
@@ -43,25 +45,36 @@ enum-told-3 c = search needs
 
 returns : tie.Need-returns
 returns c =
-    sym (after-point-end _ _ _ (tail-told _ _ _ _ _ (c .before .before .before .before .before .gather .ensures) (sym (c .before .before .before .before .tail-at .ensures) ∙ c .before .before .enum-told .given .1))
+    let at-told = c .before .before in
+    let at-tail = at-told .before .before in
+    let told = sym (at-tail .tail-at .ensures) ∙ at-told .enum-told .given .1 in
+    sym (after-point-end _ _ _ (tail-told _ _ _ _ _ (at-tail .before .gather .ensures) told)
     ∙ pointed-past _ _ _ (sym (c .before .carries-past .ensures) ∙ c .if1 .taken))
 
 returns-2 : tie.Need-returns-2
 returns-2 c =
-    let all = c .before .before .before .before .before .before .gather .ensures in
+    let at-told = c .before .before .before in
+    let at-tail = at-told .before .before in
+    let all = at-tail .before .gather .ensures in
+    let told = sym (at-tail .tail-at .ensures) ∙ at-told .enum-told .given .1 in
     let within = sym (c .before .before .carries-past .ensures) ∙ c .before .if1 .left in
     let total = total-is _ _ _ _ all (ltb-false _ _ within) in
     let places = places-is _ _ _ (place-is _ _ _ _ all) in
     c .quotient .ensures
-    ∙ (λ j. quotient (c .before .before .before .before .before .before .before .before .before .args .negative) (total j) (places j))
-    ∙ sym (after-point-end _ _ _ (tail-told _ _ _ _ _ all (sym (c .before .before .before .before .before .tail-at .ensures) ∙ c .before .before .before .enum-told .given .1))
-    ∙ pointed-is _ _ _ within)
+    ∙ (λ j. quotient (at-tail .before .before .before .before .args .negative) (total j) (places j))
+    ∙ sym (after-point-end _ _ _ (tail-told _ _ _ _ _ all told) ∙ pointed-is _ _ _ within)
 
 returns-3 : tie.Need-returns-3
-returns-3 c = sym (after-point-point _ _ _ (tail-told _ _ _ _ _ (c .before .before .before .gather .ensures) (sym (c .before .before .tail-at .ensures) ∙ c .enum-told2 .given .1)))
+returns-3 c =
+    let at-tail = c .before .before in
+    let told = sym (at-tail .tail-at .ensures) ∙ c .enum-told2 .given .1 in
+    sym (after-point-point _ _ _ (tail-told _ _ _ _ _ (at-tail .before .gather .ensures) told))
 
 returns-4 : tie.Need-returns-4
-returns-4 c = sym (after-point-other _ _ _ (tail-told _ _ _ _ _ (c .before .before .before .gather .ensures) (sym (c .before .before .tail-at .ensures) ∙ c .enum-told3 .given .1)))
+returns-4 c =
+    let at-tail = c .before .before in
+    let told = sym (at-tail .tail-at .ensures) ∙ c .enum-told3 .given .1 in
+    sym (after-point-other _ _ _ (tail-told _ _ _ _ _ (at-tail .before .gather .ensures) told))
 
 pub pointed-spec : {M : Type 1} → statement M
 pointed-spec =

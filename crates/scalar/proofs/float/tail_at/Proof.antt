@@ -14,19 +14,33 @@ shared-slice-read-b : tie.Need-shared-slice-read-b
 shared-slice-read-b c = search needs
 
 returns-2 : tie.Need-returns-2
-returns-2 c = sym (tail-point (c .before .before .before .args .d .now) (c .before .before .before .args .at) (c .before .before .if1 .left) (c .if2 .taken))
+returns-2 c =
+    let at-if1 = c .before .before in
+    let start = at-if1 .before in
+    sym (tail-point (start .args .d .now) (start .args .at) (at-if1 .if1 .left) (c .if2 .taken))
 
 returns-3 : tie.Need-returns-3
-returns-3 c = sym (tail-other (c .before .before .before .before .args .d .now) (c .before .before .before .before .args .at) (c .before .before .before .if1 .left) (c .before .if2 .left) (c .if3 .taken))
+returns-3 c =
+    let at-if2 = c .before in
+    let at-if1 = at-if2 .before .before in
+    let start = at-if1 .before in
+    sym (tail-other (start .args .d .now) (start .args .at) (at-if1 .if1 .left) (at-if2 .if2 .left) (c .if3 .taken))
 
 sub-if4 : tie.Need-sub-if4
 sub-if4 c = search needs
 
 returns-4 : tie.Need-returns-4
-returns-4 c = sym (tail-closed (c .before .before .before .before .before .args .d .now) (c .before .before .before .before .before .args .at) (c .before .before .before .before .if1 .left) (c .before .if3 .left) (omega arith))
+returns-4 c =
+    let at-if3 = c .before in
+    let at-if1 = at-if3 .before .before .before in
+    let start = at-if1 .before in
+    sym (tail-closed (start .args .d .now) (start .args .at) (at-if1 .if1 .left) (at-if3 .if3 .left) (omega arith))
 
 returns-5 : tie.Need-returns-5
-returns-5 c = sym (tail-after-f (c .before .before .before .before .before .args .d .now) (c .before .before .before .before .before .args .at) (omega arith) (c .before .if3 .left))
+returns-5 c =
+    let at-if3 = c .before in
+    let start = at-if3 .before .before .before .before in
+    sym (tail-after-f (start .args .d .now) (start .args .at) (omega arith) (at-if3 .if3 .left))
 
 pub tail-at-spec : {M : Type 1} → statement M
 tail-at-spec =

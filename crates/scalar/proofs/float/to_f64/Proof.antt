@@ -19,15 +19,20 @@ f64-digits-requires : tie.Need-f64-digits-requires
 f64-digits-requires c κs = search needs
 
 returns-2 : tie.Need-returns-2
-returns-2 c = c .f64-digits .ensures ∙ sym (ap f64-read (first-byte _ (c .before .before .before .if1 .left)) ∙ f64-minus _ _ (c .before .if2 .taken))
+returns-2 c =
+    let at-if2 = c .before in
+    let bytes = first-byte _ (at-if2 .before .before .if1 .left) in
+    c .f64-digits .ensures ∙ sym (ap f64-read bytes ∙ f64-minus _ _ (at-if2 .if2 .taken))
 
 f64-digits-requires-2 : tie.Need-f64-digits-requires-2
 f64-digits-requires-2 c κs = search needs
 
 returns-3 : tie.Need-returns-3
 returns-3 c =
-    c .f64-digits2 .ensures
-    ∙ sym (ap f64-read (first-byte _ (c .before .before .before .before .if1 .left)) ∙ f64-plus _ _ (c .before .before .if2 .left) (c .before .if3 .taken))
+    let at-if3 = c .before in
+    let at-if2 = at-if3 .before in
+    let bytes = first-byte _ (at-if2 .before .before .if1 .left) in
+    c .f64-digits2 .ensures ∙ sym (ap f64-read bytes ∙ f64-plus _ _ (at-if2 .if2 .left) (at-if3 .if3 .taken))
 
 begins-requires : tie.Need-begins-requires
 begins-requires c κs = search needs
@@ -37,15 +42,22 @@ f64-digits-requires-3 c κs = search needs
 
 returns-4 : tie.Need-returns-4
 returns-4 c =
-    let bytes = first-byte _ (c .before .before .before .before .before .before .if1 .left) in
+    let at-begins = c .before .before in
+    let at-if3 = at-begins .before in
+    let at-if2 = at-if3 .before in
+    let bytes = first-byte _ (at-if2 .before .before .if1 .left) in
+    let begun = sym (at-begins .begins .ensures) ∙ c .before .if4 .taken in
     c .f64-digits3 .ensures
     ∙ ap (f64-digits false) bytes
-    ∙ sym (ap f64-read bytes ∙ f64-bare _ _ (c .before .before .before .before .if2 .left) (c .before .before .before .if3 .left) (sym (c .before .before .begins .ensures) ∙ c .before .if4 .taken))
+    ∙ sym (ap f64-read bytes ∙ f64-bare _ _ (at-if2 .if2 .left) (at-if3 .if3 .left) begun)
 
 returns-5 : tie.Need-returns-5
 returns-5 c =
-    sym (ap f64-read (first-byte _ (c .before .before .before .before .before .if1 .left))
-    ∙ f64-other _ _ (c .before .before .before .if2 .left) (c .before .before .if3 .left) (sym (c .before .begins .ensures) ∙ c .if4 .left))
+    let at-begins = c .before in
+    let at-if3 = at-begins .before in
+    let at-if2 = at-if3 .before in
+    let bytes = first-byte _ (at-if2 .before .before .if1 .left) in
+    sym (ap f64-read bytes ∙ f64-other _ _ (at-if2 .if2 .left) (at-if3 .if3 .left) (sym (at-begins .begins .ensures) ∙ c .if4 .left))
 
 pub to-f64-spec : {M : Type 1} → statement M
 to-f64-spec =

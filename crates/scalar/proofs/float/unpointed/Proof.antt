@@ -19,7 +19,9 @@ use Rattle.scalar.proofs.float.unpointed.Statement.{statement}
 use Rattle.scalar.proofs.float.unpointed.Tie as tie
 
 abbrev written : tie.Else1 → ℕ
-written c = value 0 (run (drop (c .before .before .before .args .sign) (c .before .before .before .args .d .now)))
+written c =
+    let start = c .before .before .before in
+    value 0 (run (drop (start .args .sign) (start .args .d .now)))
 
 within : (c : tie.Else1) → written c ≤ most-u64
 within c = ltb-false _ _ (sym (c .before .exceeds .ensures) ∙ c .if1 .left)
@@ -40,7 +42,7 @@ returns-2 : tie.Need-returns-2
 returns-2 c =
     let at-if1 = c .before .before in
     c .lossy .ensures
-    ∙ ap (lossy (c .before .before .before .before .before .args .negative)) (number at-if1)
+    ∙ ap (lossy (at-if1 .before .before .before .args .negative)) (number at-if1)
     ∙ sym (unpointed-lossy _ _ (within at-if1) (lt-of-lt-of-le (c .before .if2 .taken) (le-of-eq (number at-if1))))
 
 under-sign-requires : tie.Need-under-sign-requires
@@ -51,10 +53,12 @@ nearest-i64-to-f64-requires c κs = search needs
 
 returns-3 : tie.Need-returns-3
 returns-3 c =
-    let at-if1 = c .before .before .before in
-    let number-is = toZ-ofZ w64 _ (record { sfits = c .before .under-sign .ok }) ∙ c .before .under-sign .ensures ∙ ap (signed (c .before .before .before .before .before .before .args .negative)) (number at-if1) in
+    let at-sign = c .before in
+    let at-if1 = at-sign .before .before in
+    let negative = at-if1 .before .before .before .args .negative in
+    let number-is = toZ-ofZ w64 _ (record { sfits = at-sign .under-sign .ok }) ∙ at-sign .under-sign .ensures ∙ ap (signed negative) (number at-if1) in
     ap Is (c .nearest-i64-to-f64 .ensures ∙ ap (ofInt binary64) number-is)
-    ∙ sym (unpointed-is _ _ (le-trans (le-of-eq (sym (number at-if1))) (c .before .before .if2 .left)))
+    ∙ sym (unpointed-is _ _ (le-trans (le-of-eq (sym (number at-if1))) (at-sign .before .if2 .left)))
 
 pub unpointed-spec : {M : Type 1} → statement M
 unpointed-spec =

@@ -35,30 +35,38 @@ decimal-or-name-requires-2 c κs = search needs
 
 returns : tie.Need-returns
 unfolding kind-of
-returns c = sym (ap (kind-by-bool (c .before .before .before .before .args .d .now)) (sym (c .before .before .to-bool .ensures) ∙ c .enum-told .given .1))
+returns c =
+    let at-bool = c .before .before in
+    sym (ap (kind-by-bool (at-bool .before .before .args .d .now)) (sym (at-bool .to-bool .ensures) ∙ c .enum-told .given .1))
 
 returns-2 : tie.Need-returns-2
 unfolding kind-of
 returns-2 c =
-    let d = c .before .before .before .before .before .before .before .args .d .now in
-    sym (ap (kind-by-bool d) (sym (c .before .before .before .before .before .to-bool .ensures) ∙ c .before .before .before .enum-told2 .given .1)
-    ∙ ap (kind-by-i64 d) (sym (c .before .before .to-i64 .ensures) ∙ c .enum-told3 .given .1))
+    let at-i64 = c .before .before in
+    let at-bool = at-i64 .before .before .before in
+    let d = at-bool .before .before .args .d .now in
+    sym (ap (kind-by-bool d) (sym (at-bool .to-bool .ensures) ∙ at-i64 .before .enum-told2 .given .1)
+    ∙ ap (kind-by-i64 d) (sym (at-i64 .to-i64 .ensures) ∙ c .enum-told3 .given .1))
 
 returns-3 : tie.Need-returns-3
 unfolding kind-of
 returns-3 c =
-    let d = c .before .before .before .before .before .before .before .before .args .d .now in
+    let at-i64 = c .before .before .before in
+    let at-bool = at-i64 .before .before .before in
+    let d = at-bool .before .before .args .d .now in
     c .decimal-or-name .ensures
-    ∙ sym (ap (kind-by-bool d) (sym (c .before .before .before .before .before .before .to-bool .ensures) ∙ c .before .before .before .before .enum-told2 .given .1)
-    ∙ ap (kind-by-i64 d) (sym (c .before .before .before .to-i64 .ensures) ∙ c .before .enum-told4 .given .1))
+    ∙ sym (ap (kind-by-bool d) (sym (at-bool .to-bool .ensures) ∙ at-i64 .before .enum-told2 .given .1)
+    ∙ ap (kind-by-i64 d) (sym (at-i64 .to-i64 .ensures) ∙ c .before .enum-told4 .given .1))
 
 returns-4 : tie.Need-returns-4
 unfolding kind-of
 returns-4 c =
-    let d = c .before .before .before .before .before .before .before .before .args .d .now in
+    let at-i64 = c .before .before .before in
+    let at-bool = at-i64 .before .before .before in
+    let d = at-bool .before .before .args .d .now in
     c .decimal-or-name2 .ensures
-    ∙ sym (ap (kind-by-bool d) (sym (c .before .before .before .before .before .before .to-bool .ensures) ∙ c .before .before .before .before .enum-told2 .given .1)
-    ∙ ap (kind-by-i64 d) (sym (c .before .before .before .to-i64 .ensures) ∙ c .before .enum-told5 .given .1))
+    ∙ sym (ap (kind-by-bool d) (sym (at-bool .to-bool .ensures) ∙ at-i64 .before .enum-told2 .given .1)
+    ∙ ap (kind-by-i64 d) (sym (at-i64 .to-i64 .ensures) ∙ c .before .enum-told5 .given .1))
 
 pub kind-spec : {M : Type 1} → statement M
 kind-spec =

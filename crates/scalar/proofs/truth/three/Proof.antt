@@ -8,10 +8,14 @@ use Rattle.scalar.proofs.truth.three.Statement.{statement}
 use Rattle.scalar.proofs.truth.three.Tie as tie
 
 returns : tie.Need-returns
-returns c = sym (read-yes _ (same-on _ _ _ _ (c .before .before .if1 .taken) ∙ same-on _ _ _ _ (c .before .if2 .taken) ∙ same-on _ _ _ _ (c .if3 .taken) ∙ same-done))
+returns c =
+    let first-two = same-on _ _ _ _ (c .before .before .if1 .taken) ∙ same-on _ _ _ _ (c .before .if2 .taken) in
+    sym (read-yes _ (first-two ∙ same-on _ _ _ _ (c .if3 .taken) ∙ same-done))
 
 returns-2 : tie.Need-returns-2
-returns-2 c = sym (read-none _ (same-on _ _ _ _ (c .before .before .if1 .taken) ∙ same-on _ _ _ _ (c .before .if2 .taken) ∙ same-off _ _ _ _ (c .if3 .left)) (not-same _ no (λ e. omega arith)))
+returns-2 c =
+    let first-two = same-on _ _ _ _ (c .before .before .if1 .taken) ∙ same-on _ _ _ _ (c .before .if2 .taken) in
+    sym (read-none _ (first-two ∙ same-off _ _ _ _ (c .if3 .left)) (not-same _ no (λ e. omega arith)))
 
 returns-3 : tie.Need-returns-3
 returns-3 c = sym (read-none _ (same-on _ _ _ _ (c .before .if1 .taken) ∙ same-off _ _ _ _ (c .if2 .left)) (not-same _ no (λ e. omega arith)))

@@ -20,7 +20,9 @@ three-requires : tie.Need-three-requires
 three-requires c κs = search needs
 
 returns : tie.Need-returns
-returns c = c .three .ensures ∙ ap bool-read (sym (three-bytes _ (c .before .before .before .before .if1 .taken)))
+returns c =
+    let at-if1 = c .before .before .before .before in
+    c .three .ensures ∙ ap bool-read (sym (three-bytes _ (at-if1 .if1 .taken)))
 
 shared-slice-read-two : tie.Need-shared-slice-read-two
 shared-slice-read-two c = search needs

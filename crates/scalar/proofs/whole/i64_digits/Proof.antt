@@ -20,9 +20,14 @@ use Rattle.scalar.proofs.whole.i64_digits.Tie as tie
 past-both : (n : ℕ) → most-u64 < n → most-i64 < n
 past-both n h = omega arith
 
--- past the test of the size, the total is the number
-number : (c : tie.Else1)
-    → c .before .before .gather .result .total ≡ value 0 (run (drop (c .before .before .before .before .args .sign) (c .before .before .before .before .args .d .now)))
+-- the number that the digits write
+abbrev written : tie.Else1 → ℕ
+written c =
+    let start = c .before .before .before .before in
+    value 0 (run (drop (start .args .sign) (start .args .d .now)))
+
+-- past the test of the size, the total is that number
+number : (c : tie.Else1) → c .before .before .gather .result .total ≡ written c
 number c = total-is _ _ 0 _ (c .before .before .gather .ensures) (ltb-false _ _ (sym (c .before .exceeds .ensures) ∙ c .if1 .left))
 
 gather-requires : tie.Need-gather-requires
@@ -44,7 +49,8 @@ returns-3 : tie.Need-returns-3
 returns-3 c =
     let at-if1 = c .before .before in
     let total = number at-if1 in
-    let number-is = toZ-ofZ w64 _ (record { sfits = c .under-sign .ok }) ∙ c .under-sign .ensures ∙ ap (signed (c .before .before .before .before .before .before .args .negative)) total in
+    let negative = at-if1 .before .before .before .before .args .negative in
+    let number-is = toZ-ofZ w64 _ (record { sfits = c .under-sign .ok }) ∙ c .under-sign .ensures ∙ ap (signed negative) total in
     let place = place-is _ _ 0 _ (at-if1 .before .before .gather .ensures) in
     (λ j. Is (number-is j) (place j)) ∙ sym (i64-is _ _ _ (le-trans (le-of-eq (sym total)) (c .before .if2 .left)))
 

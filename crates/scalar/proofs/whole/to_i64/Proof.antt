@@ -22,12 +22,16 @@ enum-told-2 : tie.Need-enum-told-2
 enum-told-2 c = search needs
 
 returns : tie.Need-returns
-returns c = sym (read-tail _ _ _ (sym (c .before .before .before .before .to-i64-t .ensures) ∙ c .before .before .i .given .1) (c .if1 .taken))
+returns c =
+    let at-part = c .before .before in
+    let told = sym (at-part .before .before .to-i64-t .ensures) ∙ at-part .i .given .1 in
+    sym (read-tail _ _ _ told (c .if1 .taken))
 
 returns-2 : tie.Need-returns-2
 returns-2 c =
-    ap Is (toZ-ofZ w64 _ (record { sfits = c .before .known-told .given .0 .1 }))
-    ∙ sym (read-is _ _ _ (sym (c .before .before .before .before .to-i64-t .ensures) ∙ c .before .before .i .given .1) (c .if1 .left))
+    let at-part = c .before .before in
+    let told = sym (at-part .before .before .to-i64-t .ensures) ∙ at-part .i .given .1 in
+    ap Is (toZ-ofZ w64 _ (record { sfits = c .before .known-told .given .0 .1 })) ∙ sym (read-is _ _ _ told (c .if1 .left))
 
 returns-3 : tie.Need-returns-3
 returns-3 c = sym (read-none _ (sym (c .before .before .to-i64-t .ensures) ∙ c .enum-told .given .1))

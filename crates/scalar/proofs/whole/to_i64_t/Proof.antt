@@ -19,13 +19,20 @@ i64-digits-requires : tie.Need-i64-digits-requires
 i64-digits-requires c κs = search needs
 
 returns-2 : tie.Need-returns-2
-returns-2 c = c .i64-digits .ensures ∙ sym (ap i64-part (first-byte _ (c .before .before .before .if1 .left)) ∙ i64-minus _ _ (c .before .if2 .taken))
+returns-2 c =
+    let at-if2 = c .before in
+    let bytes = first-byte _ (at-if2 .before .before .if1 .left) in
+    c .i64-digits .ensures ∙ sym (ap i64-part bytes ∙ i64-minus _ _ (at-if2 .if2 .taken))
 
 i64-digits-requires-2 : tie.Need-i64-digits-requires-2
 i64-digits-requires-2 c κs = search needs
 
 returns-3 : tie.Need-returns-3
-returns-3 c = c .i64-digits2 .ensures ∙ sym (ap i64-part (first-byte _ (c .before .before .before .before .if1 .left)) ∙ i64-plus _ _ (c .before .before .if2 .left) (c .before .if3 .taken))
+returns-3 c =
+    let at-if3 = c .before in
+    let at-if2 = at-if3 .before in
+    let bytes = first-byte _ (at-if2 .before .before .if1 .left) in
+    c .i64-digits2 .ensures ∙ sym (ap i64-part bytes ∙ i64-plus _ _ (at-if2 .if2 .left) (at-if3 .if3 .taken))
 
 is-digit-requires : tie.Need-is-digit-requires
 is-digit-requires c κs = search needs
@@ -35,15 +42,22 @@ i64-digits-requires-3 c κs = search needs
 
 returns-4 : tie.Need-returns-4
 returns-4 c =
-    let bytes = first-byte _ (c .before .before .before .before .before .before .if1 .left) in
+    let at-digit = c .before .before in
+    let at-if3 = at-digit .before in
+    let at-if2 = at-if3 .before in
+    let bytes = first-byte _ (at-if2 .before .before .if1 .left) in
+    let digit = sym (at-digit .is-digit .ensures) ∙ c .before .if4 .taken in
     c .i64-digits3 .ensures
     ∙ ap (i64-digits false 0) bytes
-    ∙ sym (ap i64-part bytes ∙ i64-bare _ _ (c .before .before .before .before .if2 .left) (c .before .before .before .if3 .left) (sym (c .before .before .is-digit .ensures) ∙ c .before .if4 .taken))
+    ∙ sym (ap i64-part bytes ∙ i64-bare _ _ (at-if2 .if2 .left) (at-if3 .if3 .left) digit)
 
 returns-5 : tie.Need-returns-5
 returns-5 c =
-    sym (ap i64-part (first-byte _ (c .before .before .before .before .before .if1 .left))
-    ∙ i64-other _ _ (c .before .before .before .if2 .left) (c .before .before .if3 .left) (sym (c .before .is-digit .ensures) ∙ c .if4 .left))
+    let at-digit = c .before in
+    let at-if3 = at-digit .before in
+    let at-if2 = at-if3 .before in
+    let bytes = first-byte _ (at-if2 .before .before .if1 .left) in
+    sym (ap i64-part bytes ∙ i64-other _ _ (at-if2 .if2 .left) (at-if3 .if3 .left) (sym (at-digit .is-digit .ensures) ∙ c .if4 .left))
 
 pub to-i64-t-spec : {M : Type 1} → statement M
 to-i64-t-spec =

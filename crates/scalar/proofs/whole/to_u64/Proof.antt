@@ -21,7 +21,9 @@ u64-digits-requires-2 : tie.Need-u64-digits-requires-2
 u64-digits-requires-2 c κs = search needs
 
 returns-2 : tie.Need-returns-2
-returns-2 c = c .u64-digits .ensures ∙ sym (ap u64-read (first-byte _ (c .before .before .before .if1 .left)) ∙ u64-plus _ _ (c .before .if2 .taken))
+returns-2 c =
+    let bytes = first-byte _ (c .before .before .before .if1 .left) in
+    c .u64-digits .ensures ∙ sym (ap u64-read bytes ∙ u64-plus _ _ (c .before .if2 .taken))
 
 returns-3 : tie.Need-returns-3
 returns-3 c =
