@@ -6,6 +6,7 @@
 //! number and place, the BOM, and all words that stand on the Rust's tape, at a refusal too.
 
 use compare::generate::Generator;
+use compare::numbers::WORDS;
 use compare::oracle::{Parsed, parse};
 use compare::record::Question;
 use compare::{domain, edges};
@@ -68,7 +69,7 @@ fn main() -> io::Result<()> {
 /// other when it does.
 fn shown(text: &[u8], parsed: &Parsed) -> BTreeSet<String> {
     let end = parsed.refusal.map_or(0, |(number, _)| number);
-    let codes: Vec<u32> = parsed.words.chunks(3).map(|token| token[0]).collect();
+    let codes: Vec<u32> = parsed.words.chunks(WORDS).map(|token| token[0]).collect();
     let pairs = codes.windows(2).map(|pair| format!("{} then {}", pair[0], pair[1]));
     let ends = [format!("end {end}"), format!("end {end} in the domain {}", domain::inside(text))];
     let last = codes.last().map(|code| format!("end {end} after {code}"));
