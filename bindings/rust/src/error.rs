@@ -130,12 +130,14 @@ impl Error {
         }
     }
 
-    /// Line and column of what is refused, where the refusal has a place: both count from 1, a column
-    /// is a byte, and a BOM has none. The command `tackacorn` counts the same way. `text` is the text
-    /// that was refused.
+    /// Line and column where a person looks for what is refused: its place, for an operator the
+    /// operator's own, and for a text that ends too early its end. Both count from 1, a column is a
+    /// byte, and a BOM has none. The command `tackacorn` shows the same. `text` is the text that was
+    /// refused.
     pub fn line_and_column(&self, text: &[u8]) -> Option<(usize, usize)> {
         let place = match self.kind {
-            ErrorKind::NothingPrecedes | ErrorKind::UnknownOperator => self.offset()? + 1,
+            ErrorKind::Eof => text.len(),
+            ErrorKind::NothingPrecedes | ErrorKind::UnknownOperator => self.place + 1,
             _ => self.offset()?,
         };
         let before = text.get(..place)?;

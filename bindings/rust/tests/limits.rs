@@ -53,7 +53,7 @@ fn refusal(text: &[u8]) -> (u32, usize, Option<(usize, usize)>) {
 
 #[test]
 fn each_refusal_of_a_text() {
-    assert_eq!(refusal(b"a"), (2, 0, None));
+    assert_eq!(refusal(b"a={\n b"), (2, 0, Some((2, 3))));
     assert_eq!(refusal(b"a }"), (3, 2, Some((1, 3))));
     assert_eq!(refusal(b"{ a }"), (4, 2, Some((1, 3))));
     assert_eq!(refusal(b"a=}"), (5, 2, Some((1, 3))));
