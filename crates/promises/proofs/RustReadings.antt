@@ -5,7 +5,7 @@ pub mod Wholes
 pub mod Fractions
 pub mod Floats
 pub mod Truths
-use mathlib.Core.Path.{_≡_, sym, _∙_}
+use mathlib.Core.Path.{_≡_, sym, _∙_, ap}
 use mathlib.Core.List.{List}
 use Prim.Native.Nat.{ℕ}
 use native.Mathlib.Omega.{arith}
@@ -24,7 +24,7 @@ use Rattle.scalar.specs.declared.whole.I64Read.{I64Read}
 use Rattle.scalar.specs.declared.whole.U64Read.the-variants as U64
 use Rattle.scalar.specs.declared.whole.U64Read.{U64Read}
 use Rattle.promises.specs.RustReadings.{Outcome, Ok, Err, Panic, ScalarError, AllDigits, Overflow, InvalidBool, PrecisionLoss}
-use Rattle.promises.specs.RustReadingsAlike.{rust-bool, rust-u64, rust-i64-part, rust-i64, rust-f64, Slice, ReadAlike, Unpanicked}
+use Rattle.promises.specs.RustReadingsAlike.{rust-bool, rust-u64, rust-i64-part, rust-i64, rust-f64, Slice, ReadAlike, Unpanicked, CallsAlike}
 use Rattle.promises.proofs.RustReadings.Floats.{f64-same}
 use Rattle.promises.proofs.RustReadings.Truths.{bool-same}
 use Rattle.promises.proofs.RustReadings.Wholes.{u64-same, i64-part-same, i64-same}
@@ -77,4 +77,13 @@ readings-end d sized = record {
   i64-part-ends = λ e. i64-part-answers d (i64-part d) (sym (i64-part-same d) ∙ e);
   i64-ends = λ e. i64-answers (i64-read d) (sym (i64-same d) ∙ e);
   f64-ends = λ e. f64-answers (f64-read d) (sym (f64-same d sized) ∙ e);
+}
+
+pub calls-alike : CallsAlike
+calls-alike = record {
+  bool-called = λ κs args r xs p. bool-same (args .0 .now) ∙ ap rust-bool (sym p);
+  u64-called = λ κs args r xs p. u64-same (args .0 .now) ∙ ap rust-u64 (sym p);
+  i64-part-called = λ κs args r xs p. i64-part-same (args .0 .now) ∙ ap (rust-i64-part (args .0 .now)) (sym p);
+  i64-called = λ κs args r xs p. i64-same (args .0 .now) ∙ ap rust-i64 (sym p);
+  f64-called = λ κs args r xs p sized. f64-same (args .0 .now) sized ∙ ap rust-f64 (sym p);
 }
