@@ -12,9 +12,9 @@
  *    parser takes it for a key, and what follows for something else than it is. Before you parse, write
  *    spaces over that line, so that every offset stays the file's; or pass the text behind the line and
  *    add the line's length to every offset and place. (The command `tackacorn` does the former.)
- *  - A call that refuses still writes: tackacorn_parse zeroes the whole tape and every number, the
- *    readings their value. What stood there before is gone, and a 0 that is left is no number that was
- *    read. Look at the answer of every call.
+ *  - A call that refuses still writes: tackacorn_parse leaves the whole tape, the count and the BOM zero
+ *    and tells the place, the readings leave their value zero. What stood there before is gone, and a 0
+ *    that is left is no number that was read. Look at the answer of every call.
  *
  * WHAT IS PROMISED, AND WHAT YOU PROMISE
  *
