@@ -189,6 +189,13 @@ length-stride : (d : List ℕ) (ptr : ℕ) → length (stride d ptr) ≡ min loo
 unfolding stride
 length-stride d ptr = length-take loop-size (drop ptr d) ∙ rw length-drop
 
+-- so each load of sixteen bytes stays within the part: in `split_at_scalar`, and in `parse_quote_scalar`, whose strides begin at whole sixteens
+pub scalar-loads : (d : List ℕ) (ptr : ℕ) → ptr < length d - min loop-size (length d) → length (stride d ptr) ≡ loop-size
+scalar-loads d ptr h = length-stride d ptr ∙ omega arith
+
+pub quote-loads : (haystack : List ℕ) (k : ℕ) → k * loop-size < length haystack / loop-size * loop-size → length (stride haystack (k * loop-size)) ≡ loop-size
+quote-loads haystack k h = length-stride haystack (k * loop-size) ∙ omega arith
+
 -- a scan of some bytes and more ends where a search of the first finds a byte, and else where the scan of the others ends
 scan-search : (wanted : ℕ → Bool) (xs ys : List ℕ) (at : ℕ)
     → stop-from wanted (xs ++ ys) at ≡ Option·getD (forward-search wanted xs at) (stop-from wanted ys (at + length xs))

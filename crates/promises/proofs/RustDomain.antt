@@ -1,8 +1,6 @@
--- The domain of demand 2 is not empty: a text in which none of the three doubted bytes stands is in it. And it is not everything.
+-- The domain of demand 2 is not empty: a text in which none of the three doubted bytes stands is in it.
 -- Assumes nothing.
-use Prim.Native.Nat.{ℕ, zero, suc, _+_, _<_}
-use mathlib.Core.Path.{_≡_, refl}
-use mathlib.Core.Bool.{false}
+use Prim.Native.Nat.{ℕ, zero, suc, _+_, _≤_}
 use mathlib.Core.List.{List, [], _∷_}
 use mathlib.Core.Logic.{inr}
 use lib.ListN.{length}
@@ -31,5 +29,5 @@ module _ (text : List ℕ) (plain : Plain text) where
   pub plain-in-domain : Domain text
   plain-in-domain = along-plain (enough text) (next (start (has-bom text)) (tape-of unbounded []))
 
-  pub plain-spoken-of : length text < text-limit + 1 → Spoken-of text
+  pub plain-spoken-of : length text ≤ text-limit → Spoken-of text
   plain-spoken-of short = record { within = short; domain = plain-in-domain }

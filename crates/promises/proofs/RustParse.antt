@@ -349,9 +349,6 @@ never-of text m ts mixes held =
     })
 
 module _ (text : List ℕ) (spoken : Spoken-of text) where
-  short : length text ≤ text-limit
-  short = let h = spoken .within in omega arith
-
   -- our own run with no bound, and that it has ended
   ended : Ended (run-in unbounded text)
   unfolding run-in
@@ -403,7 +400,7 @@ module _ (text : List ℕ) (spoken : Spoken-of text) where
   pub rust-alike : (len : ℕ) → as-rust (tell-parse (unbounded-parse text len)) ≡ rust-answer text
   unfolding unbounded-parse rust-answer
   rust-alike len =
-      rw (unbounded-parse, le-ltb text-limit (length text) short, bom-same text)
+      rw (unbounded-parse, le-ltb text-limit (length text) (spoken .within), bom-same text)
       (told-same text (has-bom text) len (laid-after text (enough text)) (2 * length text) (rust-parse text) (run-in unbounded text)
       (run-alike text 0 .known) holds ended whole)
 
@@ -411,6 +408,6 @@ module _ (text : List ℕ) (spoken : Spoken-of text) where
   pub rust-laid : Rust.held (rust-parse text) ≡ laid-down text
   unfolding laid-down run-in
   rust-laid =
-      rw (laid-down, le-ltb text-limit (length text) short)
+      rw (laid-down, le-ltb text-limit (length text) (spoken .within))
       (held-same text (laid-after text (enough text)) (2 * length text) (rust-parse text) (run-in unbounded text)
       (run-alike text 0 .known) (run-alike text 0 .told) whole)

@@ -1,11 +1,12 @@
 -- Demand 2: where texts are in the domain, every answer of `parse` but refusal 11 is the Rust's, and refusal 11 comes exactly when the Rust would lay down
 -- more tokens than the tape holds. What `parse` answers is told by document 01's numbers, and read as the Rust's by `as-rust`.
-use Prim.Native.Nat.{ℕ, _+_, _*_, _/_, _<_}
+use Prim.Native.Nat.{ℕ, _+_, _*_, _≤_, _<_}
 use mathlib.Core.Path.{_≡_}
-use mathlib.Core.Bool.{Bool, true, false}
+use mathlib.Core.Bool.{false, true}
 use mathlib.Core.List.{List}
 use mathlib.Core.Logic.{_↔_}
 use lib.ListN.{length}
+use Rattle.tape.specs.Words.{capacity}
 use Rattle.parse.specs.declared.machine.Refusal.the-variants.{Full}
 use Rattle.parse.specs.Refusals.{number}
 use Rattle.parse.specs.Parse.{text-limit}
@@ -21,13 +22,13 @@ refusal-told (parse-told refusal count bom place words) = refusal
 
 -- a text of which demand 2 speaks
 pub record Spoken-of (text : List ℕ) : Type 0 where
-  pub within : length text < text-limit + 1
+  pub within : length text ≤ text-limit
   pub domain : Domain text
 
 -- what is told of a text and a tape of so many words
 pub record Demand-2 (text : List ℕ) (len : ℕ) (told : ParseTold) : Type 0 where
   -- refusal 11 comes exactly when the tokens that the Rust's `Vec` holds, when it returns Ok or an error, are more than the tape does
-  pub full : (refusal-told told ≡ number Full) ↔ (len / 3 < held (rust-parse text))
+  pub full : (refusal-told told ≡ number Full) ↔ (capacity len < held (rust-parse text))
   -- and every other answer is the Rust's: number and place, or the BOM and every token
   pub otherwise : (refusal-told told ≡ number Full → ⊥) → as-rust told ≡ rust-answer text
 

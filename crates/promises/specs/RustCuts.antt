@@ -55,7 +55,7 @@ pub data Look : Type 0 where
   next : Look
   leave : Look
 
--- the bytes of a stride
+-- the bytes of a stride; each is loaded whole (`scalar-loads` and `quote-loads` of proofs/Domain.antt)
 abbrev pub loop-size : ℕ
 loop-size = 16
 
