@@ -1,10 +1,9 @@
 -- Demand 2: on every text of the domain the answer of `parse` is the Rust's, and refusal 11 comes exactly when the Rust would lay down more tokens than
 -- the tape holds. Before it, of every text: the refusal for room against a parse with no bound on tokens.
--- Said of the contract of `parse` itself: args .0 is the text, args .1 .0 the tape as it is lent, xs .1 .0 as it is left.
+-- Said of the contract of `parse` itself: of the text and the tape as they are lent, and of the tape as it is left.
 -- Assumes nothing.
 use Prim.Native.Nat.{ℕ, _/_, _<_}
-use mathlib.Core.Path.{_≡_, refl, sym, _∙_, ap}
-use mathlib.Core.Bool.{Bool}
+use mathlib.Core.Path.{_≡_, refl, _∙_, ap}
 use mathlib.Core.List.{List}
 use mathlib.Core.Logic.{_↔_}
 use native.Mathlib.Omega.{arith}
@@ -14,7 +13,7 @@ use Rattle.parse.specs.declared.machine.Refusal.the-variants.{Full}
 use Rattle.parse.specs.declared.Parsed.{Parsed}
 use Rattle.parse.specs.declared.Parsed.the-variants.{Tokens, Refused}
 use Rattle.parse.specs.Refusals.{number}
-use Rattle.parse.specs.Parse.{outcome}
+use Rattle.parse.specs.Parse.{Outcome, outcome}
 use Rattle.parse.proofs.parse.Reads as parse
 use Rattle.parse.specs.Told.{tell-parse}
 use Rattle.promises.specs.Room.{unbounded-parse, laid-down}
@@ -25,11 +24,16 @@ use Rattle.promises.proofs.Room.{full-exactly, same-otherwise}
 use Rattle.promises.proofs.RustParse.{rust-alike, rust-laid}
 
 pub parse-full-exactly : (κs : _) (args : _) (r : Parsed) (xs : _) → parse.Post κs args r xs
-    → (r ≡ Refused Full) ↔ (length (args .1 .0 .now) / 3 < laid-down (args .0 .now))
+    → let text-lent = args .0 .now in
+    let tape-lent = args .1 .0 .now in
+    (r ≡ Refused Full) ↔ (length tape-lent / 3 < laid-down text-lent)
 parse-full-exactly κs args r xs p = full-exactly (args .0 .now) (length (args .1 .0 .now)) r (xs .1 .0 .now) p
 
 pub parse-same-otherwise : (κs : _) (args : _) (r : Parsed) (xs : _) → parse.Post κs args r xs → (r ≡ Refused Full → ⊥)
-    → outcome r (xs .1 .0 .now) ≡ unbounded-parse (args .0 .now) (length (args .1 .0 .now))
+    → let text-lent = args .0 .now in
+    let tape-lent = args .1 .0 .now in
+    let tape-left = xs .1 .0 .now in
+    outcome r tape-left ≡ unbounded-parse text-lent (length tape-lent)
 parse-same-otherwise κs args r xs p n = same-otherwise (args .0 .now) (length (args .1 .0 .now)) r (xs .1 .0 .now) p n
 
 -- refusal 11 is told of Full alone
@@ -48,22 +52,21 @@ full-told (Refused (Refusals.the-variants.OpenName p)) words e = absurd (omega a
 full-told (Refused Full) words e = refl
 
 -- the answer that the contract of `parse` allows is the Rust's
-pub parse-as-rust : (κs : _) (args : _) (r : Parsed) (xs : _) → parse.Post κs args r xs → Spoken-of (args .0 .now)
-    → Demand-2 (args .0 .now) (length (args .1 .0 .now)) (tell-parse (outcome r (xs .1 .0 .now)))
+pub parse-as-rust : (κs : _) (args : _) (r : Parsed) (xs : _) → parse.Post κs args r xs
+    → let text-lent = args .0 .now in
+    let tape-lent = args .1 .0 .now in
+    let tape-left = xs .1 .0 .now in
+    Spoken-of text-lent → Demand-2 text-lent (length tape-lent) (tell-parse (outcome r tape-left))
 parse-as-rust κs args r xs p spoken =
     let text : List ℕ = args .0 .now in
     let len : ℕ = length (args .1 .0 .now) in
     let words : List ℕ = xs .1 .0 .now in
-    let told = tell-parse (outcome r words) in
     let room : (r ≡ Refused Full) ↔ (len / 3 < laid-down text) = parse-full-exactly κs args r xs p in
     let laid : held (rust-parse text) ≡ laid-down text = rust-laid text spoken in
+    let told : (q : Parsed) → q ≡ Refused Full → refusal-told (tell-parse (outcome q words)) ≡ number Full =
+    λ q e. ap (λ (s : Parsed). refusal-told (tell-parse (outcome s words))) e in
     record {
-      full = (
-        λ e. rw laid (room .0 (full-told r words e)),
-        λ h. ap (λ (q : Parsed). refusal-told (tell-parse (outcome q words))) (room .1 (rw laid at h)),
-      );
+      full = (λ e. rw laid (room .0 (full-told r words e)), λ h. told r (room .1 (rw laid at h)));
       otherwise = λ other.
-          ap (λ (o : _). as-rust (tell-parse o))
-          (parse-same-otherwise κs args r xs p (λ e. other (ap (λ (q : Parsed). refusal-told (tell-parse (outcome q words))) e)))
-          ∙ rust-alike text spoken len;
+          ap (λ (o : Outcome). as-rust (tell-parse o)) (parse-same-otherwise κs args r xs p (λ e. other (told r e))) ∙ rust-alike text spoken len;
     }
