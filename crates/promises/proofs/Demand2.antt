@@ -37,7 +37,7 @@ pub parse-same-otherwise : (κs : _) (args : _) (r : Parsed) (xs : _) → parse.
 parse-same-otherwise κs args r xs p n = same-otherwise (args .0 .now) (length (args .1 .0 .now)) r (xs .1 .0 .now) p n
 
 -- refusal 11 is told of Full alone
-full-told : (r : Parsed) (words : List ℕ) → refusal-told (tell-parse (outcome r words)) ≡ number Full → r ≡ Refused Full
+pub full-told : (r : Parsed) (words : List ℕ) → refusal-told (tell-parse (outcome r words)) ≡ number Full → r ≡ Refused Full
 full-told (Tokens count bom) words e = absurd (omega arith)
 full-told (Refused Refusals.the-variants.TooLong) words e = absurd (omega arith)
 full-told (Refused Refusals.the-variants.Eof) words e = absurd (omega arith)

@@ -1,17 +1,20 @@
 -- What is promised of mixed: where it is in force, where its mark stands on a finished tape, and that the flag which brings it back
 -- is stored.
 -- Assumes nothing.
-use mathlib.Core.Path.{_≡_, refl, subst}
+use mathlib.Core.Path.{_≡_, refl, sym, _∙_, subst}
 use mathlib.Core.Bool.{Bool}
-use mathlib.Core.List.{List}
-use Prim.Native.Nat.{ℕ, _*_}
+use mathlib.Core.List.{List, [], _∷_, _++_}
+use Prim.Native.Nat.{ℕ, _*_, _≤_, _<_}
 use native.Mathlib.Omega.{arith}
 use borrow.Author.Tests.{ltb-true, ltb-false}
 use lib.Dec.{ltb}
-use lib.ListN.{length}
+use lib.ListN.{length, List·getD-eq-default}
 use Rattle.data.proofs.Cases.{by-bool}
 use Rattle.tape.specs.declared.token.Token.{Token}
+use Rattle.tape.specs.Token.{no-token, end-of}
 use Rattle.tape.specs.Words.{tokens-in}
+use Rattle.tape.proofs.Shapes.{opens-link, end-link, link-made}
+use Rattle.sheet.specs.Sound.{nth}
 use Rattle.tape.specs.Tape.{Tape, Room, holds, unbounded}
 use Rattle.parse.specs.declared.Parsed.the-variants.{Tokens}
 use Rattle.parse.specs.declared.machine.State.{State}
@@ -21,9 +24,13 @@ use Rattle.parse.specs.Machine.{After, next, done, refused}
 use Rattle.parse.specs.Parse.{outcome, parse-of, has-bom}
 use Rattle.promises.specs.Room.{after-turns}
 use Rattle.promises.specs.Mixed.{Mixing, Marked, Flags}
+use Rattle.promises.specs.Reached.{Reached}
 use Rattle.promises.proofs.Alike.{in-room, Known}
 use Rattle.promises.proofs.Room.{laid-in-turns, turns-alike}
+use Rattle.promises.proofs.Links.Nest.{by-equal, by-below}
+use Rattle.promises.proofs.Links.Rows.{add-new, add-same}
 use Rattle.promises.proofs.Links.Flags.{codes-differ, flags-add}
+use Rattle.promises.proofs.Links.Kept.{Kept}
 use Rattle.promises.proofs.Links.Held as Held
 use Rattle.promises.proofs.Links.Held.{Held, Shaped, unsettled}
 use Rattle.promises.proofs.Links.Parse.{run-from-start, parse-tied}
@@ -70,3 +77,42 @@ pub flag-remembered : (text : List ℕ) (n : ℕ) (room : Room) (m : Machine) (t
 flag-remembered text n room m t e =
     let h : Held m (t .tokens) = subst (λ (x : After). Held.All Held x) e (run-from-start text n (has-bom text) _ refl) in
     shaped-flags (m .state) (m .mixed) (m .parent) (t .tokens) (h .shaped)
+
+-- ---- an End names an opener that names it, and token 0 opens nothing, in mid-parse as on a finished tape
+kept-reached : (ts : List Token) {p : ℕ} → Kept ts p → Reached ts
+kept-reached ts k =
+    record {
+      opened = λ i opener e. let c = k .links .opened i opener (end-link (nth ts i) e) in (c .0, link-made (nth ts opener) (c .1));
+      top = λ end o. k .links .top end (opens-link (nth ts 0) o);
+    }
+
+-- and with an unsettled opener behind the others
+open-reached : (ts us : List Token) {p : ℕ} → ts ≡ us ++ (unsettled ∷ []) → Kept us p → 1 ≤ length us → Reached ts
+open-reached ts us standing k some =
+    let r = kept-reached us k in
+    rw standing
+    record {
+      opened = λ i opener e.
+          by-equal i (length us)
+          (λ z. codes-differ (λ y. omega arith) (sym (rw (z, add-new us unsettled) at e)))
+          (λ d.
+          let below : i < length us = end-within us i opener (rw (add-same us unsettled i d) at e) in
+          let o = r .opened i opener (rw (add-same us unsettled i d) at e) in
+          (o .0, rw (add-same us unsettled opener (λ z. omega (arith, o .0))) (o .1)));
+      top = λ end o. r .top end (rw (add-same us unsettled 0 (λ z. omega arith)) at o);
+    }
+  where
+    end-within : (vs : List Token) (i opener : ℕ) → nth vs i ≡ end-of opener → i < length vs
+    end-within vs i opener e = by-below i (length vs) (λ h. h) (λ h. codes-differ (λ z. omega arith) (sym (List·getD-eq-default vs no-token {n = i} h) ∙ e))
+
+shaped-reached : (state : State) (mixed : Bool) (p : ℕ) (ts : List Token) → Shaped state mixed p ts → Reached ts
+shaped-reached Key mixed p ts s = kept-reached ts (s .kept)
+shaped-reached KeyValueSeparator mixed p ts s = kept-reached ts (s .0 .kept)
+shaped-reached ObjectValue mixed p ts s = kept-reached ts (s .0 .kept)
+shaped-reached ParseOpen mixed p ts s = open-reached ts (s .0) (s .1) (s .2) (s .3)
+shaped-reached ArrayValue mixed p ts s = kept-reached ts (s .0 .kept)
+
+pub reached-in-order : (text : List ℕ) (n : ℕ) (room : Room) (m : Machine) (t : Tape) → after-turns text n room ≡ next m t → Reached (t .tokens)
+reached-in-order text n room m t e =
+    let h : Held m (t .tokens) = subst (λ (x : After). Held.All Held x) e (run-from-start text n (has-bom text) _ refl) in
+    shaped-reached (m .state) (m .mixed) (m .parent) (t .tokens) (h .shaped)

@@ -12,6 +12,7 @@ use lib.Dec.{eqb}
 use Rattle.data.proofs.Cases.{by-bool}
 use Rattle.tape.specs.declared.token.Token.{Token}
 use Rattle.report.specs.Append.{Wrote, wrote}
+use Rattle.promises.specs.Unique.{One-result, One-left, One-line}
 use Rattle.data.proofs.character_class.Reads as character-class
 use Rattle.operator.proofs.Operator.number.Reads as operator-number
 use Rattle.operator.proofs.Operator.is_equal.Reads as operator-is-equal
@@ -98,19 +99,6 @@ use Rattle.capi.proofs.tackacorn_to_u64.Reads as tackacorn-to-u64
 use Rattle.capi.proofs.tackacorn_to_i64.Reads as tackacorn-to-i64
 use Rattle.capi.proofs.tackacorn_to_f64.Reads as tackacorn-to-f64
 use Rattle.capi.proofs.tackacorn_kind.Reads as tackacorn-kind
-
--- what a contract claims at exit, of the lifetimes, the arguments, the result and the parameters as they are left, allows one result
-abbrev pub One-result : {K : Type 0} {A R X : K → Type 0} → ((κs : K) → A κs → R κs → X κs → Type 0) → Type 0
-One-result {K} {A} {R} {X} Post = (κs : K) (args : A κs) (r s : R κs) (xs ys : X κs) → Post κs args r xs → Post κs args s ys → r ≡ s
-
--- and leaves one tape, one buffer or one number behind, by what of the parameters is asked for
-abbrev pub One-left : {K Value : Type 0} {A R X : K → Type 0} → ((κs : K) → A κs → R κs → X κs → Type 0) → ((κs : K) → X κs → Value) → Type 0
-One-left {K} {Value} {A} {R} {X} Post left =
-    (κs : K) (args : A κs) (r s : R κs) (xs ys : X κs) → Post κs args r xs → Post κs args s ys → left κs xs ≡ left κs ys
-
--- and puts one line of bytes: the place after it, and the buffer
-abbrev pub One-line : {K : Type 0} {A R X : K → Type 0} → ((κs : K) → A κs → R κs → X κs → Type 0) → ((κs : K) → X κs → List ℕ) → Type 0
-One-line Post out = One-result Post × One-left Post out
 
 -- a contract that says `r ≡ definition` allows one result
 by-definition : {K : Type 0} {A R : K → Type 0} (X : K → Type 0) (definition : (κs : K) → A κs → R κs) → One-result {X = X} (λ κs args r xs. r ≡ definition κs args)
