@@ -392,10 +392,6 @@ module _ (text : List ℕ) (spoken : Spoken-of text) where
       let same : rust-turns text n ≡ rust-parse text = ap (rust-turns text) (sym long) ∙ settles (n - enough text) in
       absurd (subst Returned (sym same ∙ e) returns))
 
-  -- the Rust's parse on such a text
-  pub rust-runs : Rust-runs text
-  rust-runs = record { returns = returns; settles = settles; never = never }
-
   -- the same refusal with its place, or the same tokens and BOM
   pub rust-alike : (len : ℕ) → as-rust (tell-parse (unbounded-parse text len)) ≡ rust-answer text
   unfolding unbounded-parse rust-answer
@@ -411,3 +407,7 @@ module _ (text : List ℕ) (spoken : Spoken-of text) where
       rw (laid-down, le-ltb text-limit (length text) (spoken .within))
       (held-same text (laid-after text (enough text)) (2 * length text) (rust-parse text) (run-in unbounded text)
       (run-alike text 0 .known) (run-alike text 0 .told) whole)
+
+  -- the Rust's parse on such a text
+  pub rust-runs : Rust-runs text
+  rust-runs = record { alike = rust-alike; laid = rust-laid; returns = returns; settles = settles; never = never }

@@ -60,7 +60,7 @@ as-rust (parse-told refusal count bom place words) =
       | false ↦ error refusal place
     ]
 
--- document 01's number for each of the Rust's errors
+-- document 01's number for each of the Rust's messages
 abbrev pub message-number : Message → ℕ
 message-number Rust.TokenHeaders = 4
 message-number Rust.ClosedValue = 5
@@ -70,6 +70,7 @@ message-number Rust.Unrecognized = 8
 message-number Rust.ParameterStart = 9
 message-number Rust.NameEnd = 10
 
+-- and for each error
 abbrev pub error-number : ErrorKind → ℕ
 error-number Rust.Eof = 2
 error-number (Rust.StackEmpty offset) = 3
@@ -88,5 +89,6 @@ answered bom (Rust.ok ts) = tokens bom (map some ts)
 answered bom (Rust.err e ts) = error (error-number e) (error-place e)
 answered bom Rust.panic = no-answer
 
+-- the Rust's answer to a text
 unfoldable pub rust-answer : List ℕ → Answer
 rust-answer text = answered (utf8-bom text) (rust-parse text)

@@ -10,7 +10,8 @@ use Rattle.tape.specs.Words.{capacity}
 use Rattle.parse.specs.declared.machine.Refusal.the-variants.{Full}
 use Rattle.parse.specs.Refusals.{number}
 use Rattle.parse.specs.Parse.{text-limit}
-use Rattle.parse.specs.Told.{ParseTold, parse-told}
+use Rattle.parse.specs.Told.{ParseTold, parse-told, tell-parse}
+use Rattle.promises.specs.Room.{unbounded-parse, laid-down}
 use Rattle.promises.specs.RustTape as Rust
 use Rattle.promises.specs.RustTape.{Parser, Flow, rust-turns, rust-parse, held}
 use Rattle.promises.specs.RustDomain.{Domain}
@@ -51,6 +52,10 @@ pub record Never-taken (p : Parser) : Type 0 where
   pub top : p .state ≡ Rust.Key → Rust.container (Rust.get (p .token-tape) 0) ≡ Rust.Neither
 
 pub record Rust-runs (text : List ℕ) : Type 0 where
+  -- its answer is that of our parse with no bound on tokens, laid on any number of words
+  pub alike : (len : ℕ) → as-rust (tell-parse (unbounded-parse text len)) ≡ rust-answer text
+  -- and it has laid down as many tokens, where it returns an error too
+  pub laid : held (rust-parse text) ≡ laid-down text
   -- it returns within 2n + 2 turns, and does not panic
   pub returns : Returned (rust-parse text)
   -- more turns leave its answer

@@ -69,6 +69,7 @@ parameter-runs text at =
       | false ↦ []
     ]
 
+-- Key: a parameter's, or the key
 unfoldable pub key-runs : List ℕ → ℕ → List ℕ
 key-runs text at =
     elim (key-byte (byte-at text at)) [
@@ -78,6 +79,7 @@ key-runs text at =
       | KeyByte.the-variants.Other ↦ scalar-runs text at
     ]
 
+-- ObjectValue: the value
 unfoldable pub object-runs : List ℕ → ℕ → List ℕ
 object-runs text at =
     elim (eqb (byte-at text at) brace-open) [
@@ -85,6 +87,7 @@ object-runs text at =
       | false ↦ elim (eqb (byte-at text at) brace-close) [ true ↦ [] | false ↦ scalar-runs text at ]
     ]
 
+-- ParseOpen: a parameter's unless mixed, or the first scalar
 unfoldable pub open-runs : List ℕ → Bool → ℕ → List ℕ
 open-runs text mixed at =
     elim (open-byte (byte-at text at)) [
@@ -94,6 +97,7 @@ open-runs text mixed at =
       | OpenByte.the-variants.Other ↦ scalar-runs text at
     ]
 
+-- ArrayValue: a scalar
 unfoldable pub array-runs : List ℕ → ℕ → List ℕ
 array-runs text at =
     elim (value-byte (byte-at text at)) [
@@ -114,6 +118,7 @@ state-runs text m =
       | ArrayValue ↦ array-runs text (m .at)
     ]
 
+-- and after the blanks that every turn skips
 unfoldable pub turn-runs : List ℕ → Machine → List ℕ
 turn-runs text m = elim (skip-ws text (m .at)) [ At p ↦ state-runs text (to m p (m .state) (m .count)) | End ↦ [] ]
 

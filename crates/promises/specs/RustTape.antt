@@ -117,10 +117,11 @@ insert ts i x = elim (ltb (length ts) i) [ true ↦ none | false ↦ some (take 
 abbrev pub push : List TextToken → TextToken → List TextToken
 push ts x = ts ++ (x ∷ [])
 
--- `token_tape.get(i)`, and `last()`
+-- `token_tape.get(i)` and `get_mut(i)`
 unfoldable pub get : List TextToken → ℕ → Option TextToken
 get ts i = elim (ltb i (length ts)) [ true ↦ some (getD ts i MixedContainer) | false ↦ none ]
 
+-- `token_tape.last()` and `last_mut()`
 abbrev pub last : List TextToken → Option TextToken
 last ts = get ts (length ts - 1)
 
@@ -139,6 +140,7 @@ pub data Container : Type 0 where
   AnObject : (end : ℕ) → (mixed : Bool) → Container
   Neither : Container
 
+-- the arm that a token falls in
 abbrev pub container : Option TextToken → Container
 container none = Neither
 container (some (Array end mixed)) = AnArray end mixed
@@ -166,12 +168,13 @@ is-container (AnArray end mixed) = true
 is-container (AnObject end mixed) = true
 is-container Neither = false
 
--- `mixed_mode` and `state` where a container is left, by what stands around it
+-- `mixed_mode` where a container is left, by what stands around it
 abbrev pub mode-in : Container → Bool
 mode-in (AnArray end mixed) = mixed
 mode-in (AnObject end mixed) = mixed
 mode-in Neither = false
 
+-- and `state`
 abbrev pub state-in : Container → ParseState
 state-in (AnArray end mixed) = ArrayValue
 state-in (AnObject end mixed) = elim mixed [ true ↦ ArrayValue | false ↦ Key ]
@@ -184,6 +187,7 @@ pub data Last : Type 0 where
   AnEnd : (start-idx : ℕ) → Last
   NoScalar : Last
 
+-- of a token that holds a `Scalar`
 abbrev pub as-scalar : Variant → ℕ → ℕ → Last
 as-scalar Unquoted start size = AnUnquoted start size
 as-scalar Quoted start size = AnotherScalar
@@ -191,6 +195,7 @@ as-scalar Parameter start size = AnotherScalar
 as-scalar UndefinedParameter start size = AnotherScalar
 as-scalar Header start size = AnotherScalar
 
+-- and of any
 abbrev pub as-last : Option TextToken → Last
 as-last none = NoScalar
 as-last (some (Array end mixed)) = NoScalar
@@ -205,18 +210,21 @@ pub record Arm (A : Type 0) : Type 0 where
   pub fits : Bool
   pub gives : A
 
+-- an arm: whether its pattern fits, and what it gives
 abbrev pub _⇒_ : {A : Type 0} → Bool → A → Arm A
 fits ⇒ gives = record { fits = fits; gives = gives }
 
+-- what a `match` gives
 abbrev pub arms : {A : Type 0} → List (Arm A) → A → A
 arms [] other = other
 arms (a ∷ later) other = elim (a .fits) [ true ↦ a .gives | false ↦ arms later other ]
 
 -- ---- `impl ParserState`. Each call that may return early is given what comes after it
--- `offset`, and an error that carries it
+-- `offset`
 abbrev pub offset : ℕ → List ℕ → Option ℕ
 offset n d = minus n (length d)
 
+-- an `InvalidSyntax` that carries the offset of a part
 abbrev pub syntax-error : ℕ → Message → List ℕ → List TextToken → Flow
 syntax-error n msg d ts = checked (offset n d) (λ at. err (InvalidSyntax msg at) ts)
 
@@ -356,6 +364,7 @@ initially true p go =
     (λ ts. go (record { rest = p .rest; state = p .state; parent-ind = ind; mixed-mode = p .mixed-mode; token-tape = ts })))
 initially false p go = go p
 
+-- from its start: `[[`, and whether `!` follows
 unfoldable pub parse-parameter-definition : ℕ → Bool → Parser → Flow
 parse-parameter-definition n initial p =
     elim (has (p .rest) 1 bracket-open) [
@@ -415,6 +424,7 @@ key-brace n p =
       | false ↦ key-header n rest p
     ])))
 
+-- `ParseState::Key`: `match data[0]`
 unfoldable pub key-arm : ℕ → Parser → Flow
 key-arm n p =
     checked (index (p .rest) 0)
@@ -456,6 +466,7 @@ separator-by b c p =
     ∷ [])
     (mix p (λ q. loop q))
 
+-- `ParseState::KeyValueSeparator`
 abbrev pub separator-arm : Parser → Flow
 separator-arm p = separator-by (getD (p .rest) 0 0) (getD (p .rest) 1 0) p
 
@@ -464,6 +475,7 @@ separator-arm p = separator-by (getD (p .rest) 0 0) (getD (p .rest) 1 0) p
 abbrev pub open-array : Parser → Flow
 open-array p = pass p 1 ParseOpen (push (p .token-tape) (Array 0 false))
 
+-- `ParseState::ObjectValue`: `match data[0]`
 unfoldable pub value-arm : ℕ → Parser → Flow
 value-arm n p =
     checked (index (p .rest) 0)
@@ -510,6 +522,7 @@ flag (AnArray end mixed) mode ts i = set ts i (Array end mode)
 flag (AnObject end mixed) mode ts i = set ts i (Object end mode)
 flag Neither mode ts i = ts
 
+-- the tape behind it
 unfoldable pub flagged : Parser → List TextToken
 flagged p =
     elim (p .mixed-mode) [
@@ -535,6 +548,7 @@ open-bracket n p =
       | false ↦ parse-parameter-definition n true p
     ]
 
+-- `ParseState::ParseOpen`: `match data[0]`
 unfoldable pub open-arm : ℕ → Parser → Flow
 open-arm n p =
     checked (index (p .rest) 0)
@@ -551,7 +565,7 @@ abbrev pub closed-as : Bool → ℕ → Bool → TextToken
 closed-as true end mixed = Array end mixed
 closed-as false end mixed = Object end mixed
 
--- `}`
+-- `}`: the container is closed, and its parent taken up
 unfoldable pub array-close : ℕ → Parser → Flow
 array-close n p =
     let ts : List TextToken = p .token-tape in
@@ -589,6 +603,7 @@ operator-by n b c p =
     ∷ [])
     (error-before n Unrecognized (p .rest) (p .token-tape))
 
+-- so of the data
 abbrev pub array-operator : ℕ → Parser → Flow
 array-operator n p = operator-by n (getD (p .rest) 0 0) (getD (p .rest) 1 0) p
 
@@ -614,6 +629,7 @@ array-sign n b p =
       ]
     ]
 
+-- `ParseState::ArrayValue`: `match data[0]`
 unfoldable pub array-arm : ℕ → Parser → Flow
 array-arm n p =
     checked (index (p .rest) 0)
@@ -660,6 +676,7 @@ utf8-bom text = has text 0 0xef && (has text 1 0xbb && has text 2 0xbf)
 abbrev pub begin-at : List ℕ → Parser
 begin-at rest = record { rest = rest; state = Key; parent-ind = 0; mixed-mode = false; token-tape = [] }
 
+-- `&data[3..]` where there is one
 unfoldable pub begin : List ℕ → Flow
 begin text =
     elim (utf8-bom text) [
