@@ -15,14 +15,16 @@ use Rattle.tape.specs.declared.token.ContainerKind.{ContainerKind}
 use Rattle.tape.specs.declared.token.ContainerKind.the-variants.{Array, Object}
 use Rattle.tape.specs.declared.token.ScalarKind.{ScalarKind}
 use Rattle.tape.specs.declared.token.ScalarKind.the-variants.{Unquoted, Quoted, Parameter, UndefinedParameter, Header}
+use Rattle.tape.specs.declared.token.ScalarNamed.{ScalarNamed}
 use Rattle.tape.specs.declared.token.Container as Containers
 use Rattle.tape.specs.declared.token.Standing as Standings
 use Rattle.tape.specs.declared.shape.Link.the-variants.{ToOpener}
 use Rattle.tape.specs.Token.{array-code, object-code, mixed-container-code, unquoted-code, quoted-code, parameter-code}
-use Rattle.tape.specs.Token.{undefined-parameter-code, operator-code, end-code, header-code, container-code}
+use Rattle.tape.specs.Token.{undefined-parameter-code, operator-code, end-code, header-code, container-code, scalar-named, is-scalar-code}
 use Rattle.tape.specs.Token.{no-token, mixed-container-token, opener-of, end-of, scalar-of, operator-of, headed, container-of, standing-of}
 use Rattle.tape.specs.Tape.{unbounded, token-at, before-last}
 use Rattle.tape.proofs.Shapes.{end-link}
+use Rattle.tape.proofs.Makers.{end-uncoded}
 use Rattle.operator.specs.declared.Operator as Ours
 use Rattle.operator.specs.Operators.{number-of}
 use Rattle.sheet.specs.Sound.{nth, Form, container, mixed-container, scalar, operator, closing}
@@ -36,7 +38,7 @@ use Rattle.promises.specs.RustTape as Rust
 use Rattle.promises.specs.RustTape.{TextToken, ParseState}
 use Rattle.promises.specs.AsRust.{operator-as-rust, token-as-rust}
 use Rattle.promises.proofs.Links.Nest.{by-below, opener-below}
-use Rattle.promises.proofs.Links.Rows.{scalar-coded}
+use Rattle.promises.proofs.Links.Rows.{not-scalar}
 use Rattle.promises.proofs.Links.Kept.{link-at, Kept, link-container}
 use Rattle.promises.proofs.Links.Closing.{reads-opener, in-container}
 
@@ -193,6 +195,12 @@ get-read match missing ts i =
     let no : nth ts i ≡ no-token = List·getD-eq-default ts no-token {n = i} h in
     rw (Rust.get, le-ltb i (length (rust-tape ts)) (omega arith), no) missing)
 
+-- a code that is none of the scalars' names none
+unnamed : (code : ℕ) → eqb code unquoted-code ≡ false → eqb code quoted-code ≡ false → eqb code parameter-code ≡ false
+    → eqb code undefined-parameter-code ≡ false → eqb code header-code ≡ false → scalar-named code ≡ ScalarNamed.Nothing
+unfolding scalar-named
+unnamed code a b c d e = rw (scalar-named, a, b, c, d, e)
+
 -- by a token's code
 by-code : {P : Type 0} (t : Token)
     → (t .code ≡ array-code → P) → (t .code ≡ object-code → P) → (t .code ≡ mixed-container-code → P) → (t .code ≡ unquoted-code → P)
@@ -211,7 +219,7 @@ by-code t f1 f2 f3 f4 f5 f6 f7 f8 f9 f10 other =
     by-bool (eqb (t .code) operator-code) (λ e. f8 (eqb-true _ _ e)) (λ e8.
     by-bool (eqb (t .code) end-code) (λ e. f9 (eqb-true _ _ e)) (λ e9.
     by-bool (eqb (t .code) header-code) (λ e. f10 (eqb-true _ _ e)) (λ e10.
-    other (rw (container-of, e1, e2)) (rw (standing-of, e4, e9, e10, e5, e6, e7))
+    other (rw (container-of, e1, e2)) (rw (standing-of, e4, unnamed (t .code) e4 e5 e6 e7 e10, e9))
     (rw (token-as-rust, e1, e2, e3, e4, e5, e6, e7, e8, e9, e10))))))))))))
 
 -- an operator is one by whatever number
@@ -279,7 +287,7 @@ token-stands : {P : Type 0} (t : Token)
     → (standing-of t ≡ Standings.the-variants.End → Rust.as-last (some (read t)) ≡ Rust.AnEnd (t .a) → t .code ≡ end-code → P)
     → (standing-of t ≡ Standings.the-variants.Nothing → Rust.as-last (some (read t)) ≡ Rust.NoScalar → P)
     → P
-unfolding read token-as-rust standing-of
+unfolding read token-as-rust standing-of scalar-named
 token-stands t unquoted other ended nothing =
     by-code t
     (λ e. nothing (stands-coded t e) (rw e))
@@ -324,7 +332,7 @@ closing-form t (container end o) e =
     let z : t .code ≡ container-code (o .0) = ap (λ (x : Token). x .code) (o .2) in absurd (omega (arith, container-few (o .0)))
 closing-form t (mixed-container q) e = let z : t .code ≡ mixed-container-code = ap (λ (x : Token). x .code) q in absurd (omega arith)
 closing-form t (scalar offset size v) e =
-    let r : Scalar t = record { kind = v .0; offset = offset; size = size; made = v .1 } in absurd (scalar-coded r .3 e)
+    let r : Scalar t = record { kind = v .0; offset = offset; size = size; made = v .1 } in absurd (not-scalar {t = t} (ap is-scalar-code e ∙ end-uncoded 0) r)
 closing-form t (operator number low high q) e = let z : t .code ≡ operator-code = ap (λ (x : Token). x .code) q in absurd (omega arith)
 closing-form t (closing opener q) e = q ∙ ap end-of (sym (ap (λ (x : Token). x .a) q))
 

@@ -41,6 +41,9 @@ use Rattle.cut.proofs.parse_quote_scalar.Reads as parse-quote-scalar
 use Rattle.cut.proofs.parse_variable.Reads as parse-variable
 use Rattle.cut.proofs.run_end.Reads as run-end
 use Rattle.cut.proofs.scalar_at.Reads as scalar-at
+use Rattle.tape.proofs.token.scalar_named.Reads as scalar-named
+use Rattle.tape.proofs.token.may_be_empty.Reads as may-be-empty
+use Rattle.tape.proofs.token.is_header.Reads as is-header
 use Rattle.tape.proofs.token.opener.Reads as opener
 use Rattle.tape.proofs.token.end.Reads as end
 use Rattle.tape.proofs.token.scalar.Reads as scalar
@@ -49,6 +52,8 @@ use Rattle.tape.proofs.token.mixed_container.Reads as mixed-container
 use Rattle.tape.proofs.token.Token.container.Reads as token-container
 use Rattle.tape.proofs.token.Token.standing.Reads as token-standing
 use Rattle.tape.proofs.token.Token.as_header.Reads as token-as-header
+use Rattle.tape.proofs.words.words_for.Reads as words-for
+use Rattle.tape.proofs.words.capacity.Reads as capacity
 use Rattle.tape.proofs.words.token_of.Reads as token-of
 use Rattle.tape.proofs.words.token.Reads as token
 use Rattle.tape.proofs.words.holds.Reads as holds
@@ -56,7 +61,6 @@ use Rattle.tape.proofs.words.put.Reads as put
 use Rattle.tape.proofs.words.push.Reads as push
 use Rattle.tape.proofs.words.insert_mixed.Reads as insert-mixed
 use Rattle.tape.proofs.words.clear_from.Reads as clear-from
-use Rattle.tape.proofs.shape.scalar_named.Reads as scalar-named
 use Rattle.tape.proofs.shape.shape_of.Reads as shape-of
 use Rattle.tape.proofs.shape.link_of.Reads as link-of
 use Rattle.parse.proofs.machine.Refusal.number.Reads as refusal-number
@@ -236,6 +240,8 @@ pub record Tape : Type 0 where
   pub token-container : One-result token-container.Post
   pub token-standing : One-result token-standing.Post
   pub token-as-header : One-result token-as-header.Post
+  pub words-for : One-result words-for.Post
+  pub capacity : One-result capacity.Post
   pub token-of : One-result token-of.Post
   pub token : One-result token.Post
   pub holds : One-result holds.Post
@@ -246,6 +252,8 @@ pub record Tape : Type 0 where
   pub insert-mixed-tape : One-left insert-mixed.Post (λ κs xs. xs .0 .now)
   pub clear-from-tape : One-left clear-from.Post (λ κs xs. xs .0 .now)
   pub scalar-named : One-result scalar-named.Post
+  pub may-be-empty : One-result may-be-empty.Post
+  pub is-header : One-result is-header.Post
   pub shape-of : One-result shape-of.Post
   pub link-of : One-result link-of.Post
 
@@ -260,6 +268,8 @@ tape-calls =
       token-container = by-definition _ _;
       token-standing = by-definition _ _;
       token-as-header = by-definition _ _;
+      words-for = by-definition _ _;
+      capacity = by-definition _ _;
       token-of = by-definition _ _;
       token = by-definition _ _;
       holds = by-definition _ _;
@@ -270,6 +280,8 @@ tape-calls =
       insert-mixed-tape = λ κs args r s xs ys p q. cc;
       clear-from-tape = λ κs args r s xs ys p q. cc;
       scalar-named = by-definition _ _;
+      may-be-empty = by-definition _ _;
+      is-header = by-definition _ _;
       shape-of = by-definition _ _;
       link-of = by-definition _ _;
     }

@@ -23,7 +23,7 @@ use Rattle.tape.proofs.Views.{tokens-counted}
 use Rattle.sheet.specs.declared.stands.Floor.{Floor}
 use Rattle.sheet.specs.declared.stands.Floor.the-variants.{At, Passed}
 use Rattle.sheet.specs.Sound.{nth, Views}
-use Rattle.sheet.specs.Steps.{Held, Spaced, Standing, past, floor-after}
+use Rattle.sheet.specs.Steps.{Held, Spaced, AllStand, past, floor-after}
 use Rattle.sheet.proofs.Links.{told-yes, told-no}
 use Rattle.sheet.proofs.Tokens.{NotScalar, views-shape, views-not}
 
@@ -91,7 +91,7 @@ pub record Scanned (text-length : ℕ) (ts : List Token) (j floor : ℕ) : Type 
 pub scanned-none : (L : ℕ) (ts : List Token) → Scanned L ts 0 0
 scanned-none L ts = record { held = below-none (Held L ts); spaced = below-none (Spaced ts); under = below-none (Under ts 0); floored = inl refl }
 
-pub scanned-all : (L : ℕ) (ts : List Token) {j floor : ℕ} → Scanned L ts j floor → length ts ≤ j → Standing L ts
+pub scanned-all : (L : ℕ) (ts : List Token) {j floor : ℕ} → Scanned L ts j floor → length ts ≤ j → AllStand L ts
 scanned-all L ts s h = record { held = λ i k. s .held i (omega arith); spaced = λ i k. s .spaced i (omega arith) }
 
 -- ---- one token more
@@ -169,13 +169,13 @@ read-floor t floor e g h = ap (λ (x : Shape). floor-after x floor) (sym e) ∙ 
 
 module _ (L : ℕ) (ws : List ℕ) (n : ℕ) (fits : words-for n ≤ length ws) where
   -- yes after the last
-  pub stand-all : {j floor : ℕ} → Scanned L (tokens-in ws n) j floor → n ≤ j → (true ≡ true) ↔ Standing L (tokens-in ws n)
+  pub stand-all : {j floor : ℕ} → Scanned L (tokens-in ws n) j floor → n ≤ j → (true ≡ true) ↔ AllStand L (tokens-in ws n)
   stand-all {j} s h = told-yes (scanned-all L (tokens-in ws n) s (omega (arith, tokens-counted ws n fits)))
 
   -- no at a token that does not hold
-  pub stand-unheld : (j : ℕ) {r : Bool} → j < n → (r ≡ true) ↔ Held L (tokens-in ws n) j → r ≡ false → (false ≡ true) ↔ Standing L (tokens-in ws n)
+  pub stand-unheld : (j : ℕ) {r : Bool} → j < n → (r ≡ true) ↔ Held L (tokens-in ws n) j → r ≡ false → (false ≡ true) ↔ AllStand L (tokens-in ws n)
   stand-unheld j h t f = told-no (λ s. false≢true (sym f ∙ t .1 (s .held j (omega (arith, tokens-counted ws n fits)))))
 
   -- no at a view that starts too early
-  pub stand-passed : (j : ℕ) {floor : ℕ} → j < n → Scanned L (tokens-in ws n) j floor → floor-after (shape-of (nth (tokens-in ws n) j)) floor ≡ Passed → (false ≡ true) ↔ Standing L (tokens-in ws n)
+  pub stand-passed : (j : ℕ) {floor : ℕ} → j < n → Scanned L (tokens-in ws n) j floor → floor-after (shape-of (nth (tokens-in ws n) j)) floor ≡ Passed → (false ≡ true) ↔ AllStand L (tokens-in ws n)
   stand-passed j {floor} h before f = told-no (λ s. scanned-passed L (tokens-in ws n) j floor before f (s .spaced j (omega (arith, tokens-counted ws n fits))))

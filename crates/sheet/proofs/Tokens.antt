@@ -1,7 +1,7 @@
 -- What a token of each shape owes by itself.
 -- Assumes nothing.
 use mathlib.Core.Path.{_≡_, sym, _∙_, ap, subst}
-use mathlib.Core.Bool.{Bool, true, false}
+use mathlib.Core.Bool.{Bool, true, false, false≢true}
 use mathlib.Core.List.{List}
 use mathlib.Core.Logic.{_↔_}
 use Prim.Native.Nat.{ℕ, _+_, _≤_, _<_}
@@ -12,14 +12,15 @@ use lib.ListN.{length, List·getD-eq-default}
 use Rattle.data.proofs.Cases.{by-bool}
 use Rattle.tape.specs.declared.token.Token.{Token}
 use Rattle.tape.specs.declared.token.ScalarKind.{ScalarKind}
-use Rattle.tape.specs.declared.token.ScalarKind.the-variants.{Unquoted, Quoted, Parameter, UndefinedParameter, Header}
+use Rattle.tape.specs.declared.token.ScalarKind.the-variants.{Header}
 use Rattle.tape.specs.declared.shape.Shape.{Shape}
 use Rattle.tape.specs.declared.shape.Shape.the-variants.{Opener, MixedContainer, Scalar, Operator, End}
-use Rattle.tape.specs.Token.{no-token, scalar-of, end-of}
+use Rattle.tape.specs.Token.{no-token, nth, may-be-empty, is-header, scalar-of, end-of}
 use Rattle.tape.specs.Shape.{shape-of, Opens}
 use Rattle.tape.specs.Words.{tokens-in, token-in}
 use Rattle.tape.proofs.Shapes.{opens-shape, mixed-container-shape, scalar-shape, operator-shape, end-shape, no-shape, shape-made}
-use Rattle.sheet.specs.Sound.{nth, Views, Form, container, mixed-container, scalar, operator, closing, InText}
+use Rattle.tape.proofs.Makers.{header-told}
+use Rattle.sheet.specs.Sound.{Views, Form, container, mixed-container, scalar, operator, closing, InText}
 use Rattle.sheet.specs.Steps.{Suited, Held}
 use Rattle.sheet.proofs.Links.{told-yes, told-no, told-through, one-end}
 
@@ -140,7 +141,7 @@ module _ (L : ℕ) (ts : List Token) (i : ℕ) where
         within = λ other more v. same-within (sym e ∙ views-shape (nth ts i) v);
         filled = λ other more q. same-filled (sym e ∙ views-shape (nth ts i) (other, q));
         top = λ z end o. opens-not (nth ts i) e tt o;
-        headed = λ other more q. c .headed (same-kind (sym e ∙ views-shape (nth ts i) (Header, q)));
+        headed = λ other more q. c .headed (ap is-header (same-kind (sym e ∙ views-shape (nth ts i) (Header, q))));
       }
     where
       same-kind : {k : ScalarKind} {a b : ℕ} → Scalar kind offset size ≡ Scalar k a b → kind ≡ k
@@ -155,8 +156,8 @@ module _ (L : ℕ) (ts : List Token) (i : ℕ) where
       same-within : {k : ScalarKind} {a b : ℕ} → Scalar kind offset size ≡ Scalar k a b → InText L a b
       same-within q = omega (arith, c .within, same-offset q, same-size q)
 
-      same-filled : {k : ScalarKind} {a : ℕ} → Scalar kind offset size ≡ Scalar k a 0 → k ≡ Quoted
-      same-filled q = sym (same-kind q) ∙ c .filled (same-size q)
+      same-filled : {k : ScalarKind} {a : ℕ} → Scalar kind offset size ≡ Scalar k a 0 → may-be-empty k ≡ true
+      same-filled q = sym (ap may-be-empty (same-kind q)) ∙ c .filled (same-size q)
 
   held-plain : {s : Shape} → shape-of (nth ts i) ≡ s → Form (nth ts i) → NotOpener s → NotEnd s → NotScalar s → Held L ts i
   held-plain e f o d v =
@@ -200,40 +201,34 @@ module _ (L : ℕ) (ts : List Token) (i : ℕ) where
       record {
         within = h .within offset size (kind, made);
         filled = λ z. h .filled kind offset (made ∙ ap (λ (k : ℕ). scalar-of kind offset k) z);
-        headed = λ q. h .headed offset size (made ∙ ap (λ (k : ScalarKind). scalar-of k offset size) q);
+        headed = λ q. h .headed offset size (made ∙ ap (λ (k : ScalarKind). scalar-of k offset size) (header-told kind q));
       })
 
   pub nothing-held : shape-of (nth ts i) ≡ Shape.Nothing → (false ≡ true) ↔ Held L ts i
   nothing-held e = told-no (λ h. formless (nth ts i) e (h .form))
 
--- ---- what a scalar of each kind owes
--- neither Quoted nor Header
-abbrev pub Plain : ScalarKind → Type 0
-Plain Unquoted = Unit
-Plain Quoted = ⊥
-Plain Parameter = Unit
-Plain UndefinedParameter = Unit
-Plain Header = ⊥
+-- ---- whether a scalar may be as long as it is
+pub fills-empty : {r : Bool} (kind : ScalarKind) {size : ℕ} → size ≡ 0 → r ≡ may-be-empty kind → (r ≡ true) ↔ (size ≡ 0 → may-be-empty kind ≡ true)
+fills-empty kind z e = (λ t n. sym e ∙ t, λ f. e ∙ f z)
 
-header-not-quoted : {kind : ScalarKind} → kind ≡ Header → kind ≡ Quoted → ⊥
-header-not-quoted e f = let z : _≡_ {A = ℕ} 0 1 = cc in omega arith
+pub fills-some : (kind : ScalarKind) {size : ℕ} → (size ≡ 0 → ⊥) → (true ≡ true) ↔ (size ≡ 0 → may-be-empty kind ≡ true)
+fills-some kind n = told-yes (λ z. absurd (n z))
 
+-- ---- what a scalar owes
 module _ (L : ℕ) (ts : List Token) (next : ℕ) (kind : ScalarKind) (offset size : ℕ) where
   pub suits-out : L < offset + size → (false ≡ true) ↔ Suited L ts next kind offset size
   suits-out h = told-no (λ s. omega (arith, s .within))
 
-  module _ (in-text : offset + size ≤ L) where
-    pub suits-quoted : kind ≡ Quoted → (true ≡ true) ↔ Suited L ts next kind offset size
-    suits-quoted e = told-yes (record { within = in-text; filled = λ z. e; headed = λ h. absurd (header-not-quoted h e) })
+  pub suits-empty : {r : Bool} → (r ≡ true) ↔ (size ≡ 0 → may-be-empty kind ≡ true) → r ≡ false
+      → (false ≡ true) ↔ Suited L ts next kind offset size
+  suits-empty t f = told-no (λ s. false≢true (sym f ∙ t .1 (s .filled)))
 
-    pub suits-header-empty : kind ≡ Header → size ≡ 0 → (false ≡ true) ↔ Suited L ts next kind offset size
-    suits-header-empty e z = told-no (λ s. header-not-quoted e (s .filled z))
+  module _ (in-text : offset + size ≤ L) (fills : size ≡ 0 → may-be-empty kind ≡ true) where
+    pub suits-header : {r : Bool} → is-header kind ≡ true → (r ≡ true) ↔ ((end : ℕ) × Opens (nth ts next) end)
+        → (r ≡ true) ↔ Suited L ts next kind offset size
+    suits-header e c =
+        told-through c (λ o. record { within = in-text; filled = fills; headed = λ h. o }) (λ s. s .headed e)
 
-    pub suits-header : {r : Bool} → kind ≡ Header → (size ≡ 0 → ⊥) → (r ≡ true) ↔ ((end : ℕ) × Opens (nth ts next) end) → (r ≡ true) ↔ Suited L ts next kind offset size
-    suits-header e n c = told-through c (λ o. record { within = in-text; filled = λ z. absurd (n z); headed = λ h. o }) (λ s. s .headed e)
-
-    pub suits-plain : {k : ScalarKind} → kind ≡ k → Plain k → (ltb 0 size ≡ true) ↔ Suited L ts next kind offset size
-    suits-plain e p = (
-      λ t. record { within = in-text; filled = λ z. absurd (omega (arith, ltb-true 0 size t)); headed = λ h. absurd (subst Plain (sym e ∙ h) p) },
-      λ s. by-bool (ltb 0 size) (λ t. t) (λ f. absurd (subst Plain (sym e ∙ s .filled (omega (arith, ltb-false 0 size f))) p)),
-    )
+    pub suits-other : is-header kind ≡ false → (true ≡ true) ↔ Suited L ts next kind offset size
+    suits-other e =
+        told-yes (record { within = in-text; filled = fills; headed = λ h. absurd (false≢true (sym e ∙ h)) })

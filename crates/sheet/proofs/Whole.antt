@@ -15,21 +15,21 @@ use Rattle.tape.specs.Shape.{shape-of, Opens}
 use Rattle.tape.specs.Words.{words-for, tokens-in}
 use Rattle.tape.proofs.Shapes.{shape-made}
 use Rattle.sheet.specs.Sound.{nth, Views, Nested, Sheet, Sound}
-use Rattle.sheet.specs.Steps.{Standing, Linked}
+use Rattle.sheet.specs.Steps.{AllStand, Linked}
 use Rattle.sheet.proofs.Links.{told-no, told-through}
 use Rattle.sheet.proofs.Tokens.{opener-in, end-in, view-in, views-not}
 use Rattle.sheet.proofs.Scan.{ScalarOr, scalar-or}
 use Rattle.sheet.proofs.Nesting.{by-order}
 
 -- ---- of tokens that stand, all but the nesting holds
-pub standing-linked : (L : ℕ) (ts : List Token) → Standing L ts → Linked ts
+pub standing-linked : (L : ℕ) (ts : List Token) → AllStand L ts → Linked ts
 standing-linked L ts s =
     record {
       closed = λ i end o. s .held i (opener-in ts i o) .closed end o;
       opened = λ i opener e. s .held i (end-in ts i e) .opened opener e;
     }
 
-pub standing-sheet : (L : ℕ) (ts : List Token) → Standing L ts → ((i : ℕ) → Nested ts i) → Sheet L ts
+pub standing-sheet : (L : ℕ) (ts : List Token) → AllStand L ts → ((i : ℕ) → Nested ts i) → Sheet L ts
 standing-sheet L ts s n =
     record {
       forms = λ i h. s .held i h .form;
@@ -69,7 +69,7 @@ module _ (L : ℕ) (ts : List Token) (s : Sheet L ts) (i j o l p m : ℕ) (v : V
   past-from (suc left) k e h clear =
       past-at k h (omega arith) clear (scalar-or (shape-of (nth ts k))) (λ more. past-from left (k + 1) (omega arith) (omega arith) more)
 
-pub sheet-standing : (L : ℕ) (ts : List Token) → Sheet L ts → Standing L ts
+pub sheet-standing : (L : ℕ) (ts : List Token) → Sheet L ts → AllStand L ts
 sheet-standing L ts s =
     record {
       held = λ i h.
@@ -94,8 +94,8 @@ module _ (L : ℕ) (ws : List ℕ) (n : ℕ) where
   pub check-short : {r : Bool} → r ≡ leb (words-for n) (length ws) → r ≡ false → (false ≡ true) ↔ Sound L ws n
   check-short e f = told-no (λ s. absurd (omega (arith, leb-false (words-for n) (length ws) (sym e ∙ f), s .fits)))
 
-  pub check-fallen : {r : Bool} → (r ≡ true) ↔ Standing L (tokens-in ws n) → r ≡ false → (false ≡ true) ↔ Sound L ws n
+  pub check-fallen : {r : Bool} → (r ≡ true) ↔ AllStand L (tokens-in ws n) → r ≡ false → (false ≡ true) ↔ Sound L ws n
   check-fallen t f = told-no (λ s. false≢true (sym f ∙ t .1 (sheet-standing L (tokens-in ws n) (s .tokens))))
 
-  pub check-nested : {r : Bool} → words-for n ≤ length ws → Standing L (tokens-in ws n) → (r ≡ true) ↔ ((i : ℕ) → Nested (tokens-in ws n) i) → (r ≡ true) ↔ Sound L ws n
+  pub check-nested : {r : Bool} → words-for n ≤ length ws → AllStand L (tokens-in ws n) → (r ≡ true) ↔ ((i : ℕ) → Nested (tokens-in ws n) i) → (r ≡ true) ↔ Sound L ws n
   check-nested fits stand t = told-through t (λ nest. record { fits = fits; tokens = standing-sheet L (tokens-in ws n) stand nest }) (λ s. s .tokens .nested)

@@ -2,18 +2,16 @@
 -- A sheet's tokens are a list; past them stands `no-token`, which opens, ends and views nothing.
 use Prim.Native.Nat.{ℕ, _+_, _≤_, _<_}
 use mathlib.Core.Path.{_≡_}
+use mathlib.Core.Bool.{true}
 use mathlib.Core.List.{List}
-use lib.ListN.{length, getD}
+use lib.ListN.{length}
 use Rattle.tape.specs.declared.token.Token.{Token}
 use Rattle.tape.specs.declared.token.ScalarKind.{ScalarKind}
-use Rattle.tape.specs.declared.token.ScalarKind.the-variants.{Quoted, Header}
-use Rattle.tape.specs.Token.{no-token, mixed-container-token, scalar-of, operator-of, end-of}
+use Rattle.tape.specs.declared.token.ScalarKind.the-variants.{Header}
+use Rattle.tape.specs.Token.{least-operator, greatest-operator, mixed-container-token, may-be-empty, scalar-of, operator-of, end-of}
+pub use Rattle.tape.specs.Token.{nth}
 use Rattle.tape.specs.Shape.{Opens}
 use Rattle.tape.specs.Words.{words-for, tokens-in}
-
--- token i
-abbrev pub nth : List Token → ℕ → Token
-nth ts i = getD ts i no-token
 
 -- a scalar of some kind, with its view
 abbrev pub Views : Token → ℕ → ℕ → Type 0
@@ -24,7 +22,7 @@ pub data Form (t : Token) : Type 0 where
   container : (end : ℕ) → Opens t end → Form t
   mixed-container : t ≡ mixed-container-token → Form t
   scalar : (offset size : ℕ) → Views t offset size → Form t
-  operator : (number : ℕ) → 1 ≤ number → number ≤ 8 → t ≡ operator-of number → Form t
+  operator : (number : ℕ) → least-operator ≤ number → number ≤ greatest-operator → t ≡ operator-of number → Form t
   closing : (opener : ℕ) → t ≡ end-of opener → Form t
 
 -- ---- the sentences, of token i of a list
@@ -57,9 +55,9 @@ Apart ts i =
     (j offset size later more : ℕ) → i < j → ((k a b : ℕ) → i < k → k < j → Views (nth ts k) a b → ⊥)
     → Views (nth ts i) offset size → Views (nth ts j) later more → offset + size ≤ later
 
--- only a Quoted is empty
+-- only Quoted may have length 0
 abbrev pub Filled : List Token → ℕ → Type 0
-Filled ts i = (kind : ScalarKind) (offset : ℕ) → nth ts i ≡ scalar-of kind offset 0 → kind ≡ Quoted
+Filled ts i = (kind : ScalarKind) (offset : ℕ) → nth ts i ≡ scalar-of kind offset 0 → may-be-empty kind ≡ true
 
 -- a Header has a container next
 abbrev pub Headed : List Token → ℕ → Type 0

@@ -7,9 +7,9 @@ use lib.Dec.{eqb, ltb}
 use lib.ListN.{length}
 use Rattle.tape.specs.declared.token.Token.{Token}
 use Rattle.tape.specs.declared.token.ScalarKind.{ScalarKind}
-use Rattle.tape.specs.declared.token.ScalarKind.the-variants.{Quoted, Header}
 use Rattle.tape.specs.declared.shape.Shape.{Shape}
 use Rattle.tape.specs.declared.shape.Shape.the-variants.{Opener, MixedContainer, Scalar, Operator, End}
+use Rattle.tape.specs.Token.{may-be-empty, is-header}
 use Rattle.tape.specs.Shape.{Opens}
 use Rattle.sheet.specs.declared.stands.Floor.{Floor}
 use Rattle.sheet.specs.declared.stands.Floor.the-variants.{At, Passed}
@@ -30,7 +30,7 @@ abbrev pub Spaced : List Token → ℕ → Type 0
 Spaced ts j = (i offset size later more : ℕ) → i < j → Views (nth ts i) offset size → Views (nth ts j) later more → (offset < later) × (offset + size ≤ later)
 
 -- all but the nesting
-pub record Standing (text-length : ℕ) (ts : List Token) : Type 0 where
+pub record AllStand (text-length : ℕ) (ts : List Token) : Type 0 where
   pub held : (i : ℕ) → i < length ts → Held text-length ts i
   pub spaced : (j : ℕ) → j < length ts → Spaced ts j
 
@@ -55,8 +55,8 @@ floor-after Shape.Nothing floor = At floor
 -- what a scalar's view and what follows it owe
 pub record Suited (text-length : ℕ) (ts : List Token) (next : ℕ) (kind : ScalarKind) (offset size : ℕ) : Type 0 where
   pub within : InText text-length offset size
-  pub filled : size ≡ 0 → kind ≡ Quoted
-  pub headed : kind ≡ Header → (end : ℕ) × Opens (nth ts next) end
+  pub filled : size ≡ 0 → may-be-empty kind ≡ true
+  pub headed : is-header kind ≡ true → (end : ℕ) × Opens (nth ts next) end
 
 -- an opener that can be walked: the links hold, and the containers after it nest
 pub record Walkable (ts : List Token) (i end : ℕ) : Type 0 where

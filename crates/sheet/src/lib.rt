@@ -19,7 +19,7 @@ pub fn check(text_length: usize, words: &[u32], count: usize) -> bool
     ensures { λ r. ⌜ (r ≡ true) ↔ Sound «text_length» (now (words .entry)) count ⌝ }
 {
     if words::holds(words, count) {
-        if stands::stand(text_length, words, count) {
+        if stands::all_stand(text_length, words, count) {
             return nests::nest(words, count);
         }
     }

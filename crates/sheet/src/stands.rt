@@ -3,6 +3,7 @@
 use tape::shape;
 use tape::shape::Link;
 use tape::shape::Shape;
+use tape::token;
 use tape::token::ScalarKind;
 use tape::words;
 ghost use mathlib.Core.Path.{_≡_};
@@ -11,10 +12,9 @@ ghost use mathlib.Core.Logic.{_↔_};
 ghost use Prim.Native.Nat.{ℕ, _≤_, _<_};
 ghost use lib.ListN.{length};
 ghost use Rattle.tape.specs.Words.{words-for, tokens-in};
-ghost use Rattle.tape.specs.Token.{end-of};
+ghost use Rattle.tape.specs.Token.{may-be-empty, end-of, nth};
 ghost use Rattle.tape.specs.Shape.{Opens, shape-of};
-ghost use Rattle.sheet.specs.Sound.{nth};
-ghost use Rattle.sheet.specs.Steps.{Suited, Held, Standing, floor-after};
+ghost use Rattle.sheet.specs.Steps.{Suited, Held, AllStand, floor-after};
 
 // The least start that the next scalar may have, or that one came too early.
 pub(crate) enum Floor {
@@ -63,6 +63,16 @@ fn opens(words: &[u32], count: usize, at: usize) -> bool
     }
 }
 
+// Whether a scalar of a kind may be as long as it is.
+fn fills(kind: ScalarKind, length: u32) -> bool
+    ensures { λ r. ⌜ (r ≡ true) ↔ (length ≡ 0 → may-be-empty kind ≡ true) ⌝ }
+{
+    if length == 0 {
+        return token::may_be_empty(kind);
+    }
+    true
+}
+
 // Whether a scalar's view ends within the text, whether it may be as long as it is, and whether what follows suits it.
 fn suits(
     text_length: usize,
@@ -78,22 +88,17 @@ fn suits(
     if text_length < (offset as usize) + (length as usize) {
         return false;
     }
-    match kind {
-        ScalarKind::Quoted => true,
-        ScalarKind::Header => {
-            if length == 0 {
-                return false;
-            }
-            opens(words, count, next)
-        }
-        ScalarKind::Unquoted => 0 < length,
-        ScalarKind::Parameter => 0 < length,
-        ScalarKind::UndefinedParameter => 0 < length,
+    if !fills(kind, length) {
+        return false;
     }
+    if token::is_header(kind) {
+        return opens(words, count, next);
+    }
+    true
 }
 
 // Whether token i, of a shape, stands as it should by itself.
-fn stands(text_length: usize, words: &[u32], count: usize, i: usize, s: Shape) -> bool
+fn token_stands(text_length: usize, words: &[u32], count: usize, i: usize, s: Shape) -> bool
     requires { ⌜ (words-for count ≤ length (now words)) × (i < count) × (s ≡ shape-of (nth (tokens-in (now words) count) i)) ⌝ }
     ensures { λ r. ⌜ (r ≡ true) ↔ Held «text_length» (tokens-in (now (words .entry)) count) i ⌝ }
 {
@@ -144,15 +149,15 @@ fn raised(s: Shape, floor: usize) -> Floor
 }
 
 // Whether every token stands as it should, but for how containers nest.
-pub(crate) fn stand(text_length: usize, words: &[u32], count: usize) -> bool
+pub(crate) fn all_stand(text_length: usize, words: &[u32], count: usize) -> bool
     requires { ⌜ words-for count ≤ length (now words) ⌝ }
-    ensures { λ r. ⌜ (r ≡ true) ↔ Standing «text_length» (tokens-in (now (words .entry)) count) ⌝ }
+    ensures { λ r. ⌜ (r ≡ true) ↔ AllStand «text_length» (tokens-in (now (words .entry)) count) ⌝ }
 {
     let mut i = 0;
     let mut floor: usize = 0;
     while i < count {
         let s = shape::shape_of(words::token_of(words, count, i));
-        if !stands(text_length, words, count, i, s) {
+        if !token_stands(text_length, words, count, i, s) {
             return false;
         }
         let Floor::At(next) = raised(s, floor) else {

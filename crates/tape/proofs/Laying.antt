@@ -15,7 +15,8 @@ use Rattle.tape.specs.declared.token.Token.{Token}
 use Rattle.tape.specs.declared.words.Pushed.{Pushed}
 use Rattle.tape.specs.declared.words.Pushed.the-variants.{Laid, Full}
 use Rattle.tape.specs.Token.{mixed-container-token}
-use Rattle.tape.specs.Words.{words-for, capacity, last-word, greatest-word, room-of, tokens-in, token-in, put-words, put-in, Written, written, push-words, insert-words, padded, cleared}
+use Rattle.tape.specs.Words.{words-for, capacity, last-word, greatest-word, room-of}
+use Rattle.tape.specs.Words.{tokens-in, token-in, put-words, put-in, Written, written, push-words, insert-words, padded, cleared}
 use Rattle.tape.specs.Tape.{Tape, holds, view, replace, add, before-last, add-before-last, Laying, laid, full, lay, lay-mixed, after-push}
 use Rattle.tape.proofs.Views.{tokens-length, put-changed, put-added, put-room, before-last-moved, tokens-whole, cleared-taken}
 
@@ -39,21 +40,28 @@ one-more ws n e =
     omega arith
 
 -- zeros laid over all words from token n on clear them
-pub zeros-over : (ws zs : List ℕ) (n : ℕ) → words-for n ≤ length ws → zs ≡ replicate (length (midOf (words-for n) (length ws - words-for n) ws)) 0
+pub zeros-over : (ws zs : List ℕ) (n : ℕ) → words-for n ≤ length ws
+    → zs ≡ replicate (length (midOf (words-for n) (length ws - words-for n) ws)) 0
     → putMid (words-for n) (length ws - words-for n) ws zs ≡ cleared ws n
 zeros-over ws zs n h e =
     rw (cleared-taken ws n h, e, mid-len (words-for n) (length ws) ws (omega arith), post-is (words-for n) (length ws) ws h, drop-length ws)
     (ap (λ (us : List ℕ). take (words-for n) ws ++ us) (append-nil _))
 
 -- and from the last whole token on, where more are asked for
-pub zeros-over-whole : (ws zs : List ℕ) (n : ℕ) → capacity (length ws) ≤ n → zs ≡ replicate (length (midOf (words-for (capacity (length ws))) (length ws - words-for (capacity (length ws))) ws)) 0
-    → putMid (words-for (capacity (length ws))) (length ws - words-for (capacity (length ws))) ws zs ≡ cleared ws n
+abbrev pub whole-words : List ℕ → ℕ
+whole-words ws = words-for (capacity (length ws))
+
+pub zeros-over-whole : (ws zs : List ℕ) (n : ℕ) → capacity (length ws) ≤ n
+    → zs ≡ replicate (length (midOf (whole-words ws) (length ws - whole-words ws) ws)) 0
+    → putMid (whole-words ws) (length ws - whole-words ws) ws zs ≡ cleared ws n
 unfolding cleared
 zeros-over-whole ws zs n h e =
-    zeros-over ws zs (capacity (length ws)) (omega arith) e ∙ sym (ap (λ (ts : List Token). padded (length ws) ts) (tokens-whole ws n h))
+    zeros-over ws zs (capacity (length ws)) (omega arith) e
+    ∙ sym (ap (λ (ts : List Token). padded (length ws) ts) (tokens-whole ws n h))
 
 -- two tapes are equal by their room and their tokens
-same-tape : {k l : ℕ} {ts us : List Token} → k ≡ l → ts ≡ us → _≡_ {A = Tape} (record { room = holds k; tokens = ts }) (record { room = holds l; tokens = us })
+same-tape : {k l : ℕ} {ts us : List Token} → k ≡ l → ts ≡ us
+    → _≡_ {A = Tape} (record { room = holds k; tokens = ts }) (record { room = holds l; tokens = us })
 same-tape e f = cc
 
 -- a token of the words changed is that token of the tape changed
@@ -128,7 +136,8 @@ push-laid ws n t {us} e f =
     let exact : written (Laid (n + 1)) us ≡ push-words ws n t = rw (push-words, e, f) in
     (exact, ap seen-of exact ∙ push-seen ws n t)
 
-pub insert-first : (ws : List ℕ) (n : ℕ) (m : Token) {r : Pushed} {us : List ℕ} → n ≡ 0 → m ≡ mixed-container-token → written r us ≡ push-words ws 0 m
+pub insert-first : (ws : List ℕ) (n : ℕ) (m : Token) {r : Pushed} {us : List ℕ} → n ≡ 0 → m ≡ mixed-container-token
+    → written r us ≡ push-words ws 0 m
     → (written r us ≡ insert-words ws n) × (after-push r us ≡ lay-mixed (view ws n) n)
 unfolding insert-words
 insert-first ws n m {r} {us} z e f =
@@ -143,8 +152,8 @@ insert-full ws (suc n) some e =
     let exact : written Full ws ≡ insert-words ws (suc n) = rw (insert-words, e) in
     (exact, ap seen-of exact ∙ insert-seen ws (suc n))
 
-pub insert-laid : (ws : List ℕ) (n : ℕ) (m last : Token) {us vs : List ℕ} → (n ≡ 0 → ⊥) → ltb n (room-of ws) ≡ true → last ≡ token-in ws n (n - 1)
-    → us ≡ put-words ws n last → m ≡ mixed-container-token → vs ≡ put-words us (n - 1) m
+pub insert-laid : (ws : List ℕ) (n : ℕ) (m last : Token) {us vs : List ℕ} → (n ≡ 0 → ⊥) → ltb n (room-of ws) ≡ true
+    → last ≡ token-in ws n (n - 1) → us ≡ put-words ws n last → m ≡ mixed-container-token → vs ≡ put-words us (n - 1) m
     → (written (Laid (n + 1)) vs ≡ insert-words ws n) × (laid (n + 1) (view vs (n + 1)) ≡ lay-mixed (view ws n) n)
 unfolding insert-words
 insert-laid ws zero m last some e l f g h = absurd (some refl)

@@ -1,3 +1,4 @@
 pub mod Views
 pub mod Laying
 pub mod Shapes
+pub mod Makers

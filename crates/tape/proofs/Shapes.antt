@@ -19,29 +19,37 @@ use Rattle.tape.specs.declared.shape.Shape.{Shape}
 use Rattle.tape.specs.declared.shape.Shape.the-variants.{Opener, MixedContainer, Scalar, Operator, End}
 use Rattle.tape.specs.declared.shape.Link.{Link}
 use Rattle.tape.specs.declared.shape.Link.the-variants.{ToEnd, ToOpener}
-use Rattle.tape.specs.declared.shape.ScalarNamed.{ScalarNamed}
-use Rattle.tape.specs.declared.shape.ScalarNamed.the-variants.{Kind}
-use Rattle.tape.specs.Token.{array-code, object-code, mixed-container-code, unquoted-code, quoted-code, parameter-code, undefined-parameter-code, operator-code, end-code, header-code, least-operator, greatest-operator, container-code, scalar-code, flag-of, stores-flag, opener-of, end-of, scalar-of, operator-of, mixed-container-token, no-token, container-of}
-use Rattle.tape.specs.Shape.{scalar-named, bare-shape, shape-of, linked, link-of, Opens}
+use Rattle.tape.specs.declared.token.ScalarNamed.{ScalarNamed}
+use Rattle.tape.specs.declared.token.ScalarNamed.the-variants.{Kind}
+use Rattle.tape.specs.Token.{array-code, object-code, mixed-container-code, unquoted-code, quoted-code, parameter-code}
+use Rattle.tape.specs.Token.{undefined-parameter-code, operator-code, end-code, header-code, least-operator, greatest-operator}
+use Rattle.tape.specs.Token.{container-code, scalar-code, scalar-named, flag-of, stores-flag}
+use Rattle.tape.specs.Token.{opener-of, end-of, scalar-of, operator-of, mixed-container-token, no-token, container-of}
+use Rattle.tape.specs.Shape.{bare-shape, shape-of, linked, link-of, Opens}
 
 -- ---- the shape, by the tests that lead to it
-pub shape-opened : (t : Token) {kind : ContainerKind} {link : ℕ} {mixed : Bool} → container-of t ≡ Opened kind link mixed → stores-flag (t .b) ≡ true → Opener link ≡ shape-of t
+pub shape-opened : (t : Token) {kind : ContainerKind} {link : ℕ} {mixed : Bool} → container-of t ≡ Opened kind link mixed → stores-flag (t .b) ≡ true
+    → Opener link ≡ shape-of t
 unfolding shape-of
 shape-opened t e f = rw (shape-of, e, f)
 
-pub shape-misflagged : (t : Token) {kind : ContainerKind} {link : ℕ} {mixed : Bool} → container-of t ≡ Opened kind link mixed → stores-flag (t .b) ≡ false → Shape.Nothing ≡ shape-of t
+pub shape-misflagged : (t : Token) {kind : ContainerKind} {link : ℕ} {mixed : Bool} → container-of t ≡ Opened kind link mixed
+    → stores-flag (t .b) ≡ false → Shape.Nothing ≡ shape-of t
 unfolding shape-of
 shape-misflagged t e f = rw (shape-of, e, f)
 
-pub shape-named : (t : Token) {kind : ScalarKind} → container-of t ≡ Container.Nothing → scalar-named (t .code) ≡ Kind kind → Scalar kind (t .a) (t .b) ≡ shape-of t
+pub shape-named : (t : Token) {kind : ScalarKind} → container-of t ≡ Container.Nothing → scalar-named (t .code) ≡ Kind kind
+    → Scalar kind (t .a) (t .b) ≡ shape-of t
 unfolding shape-of
 shape-named t e f = rw (shape-of, e, f)
 
-pub shape-bare : (t : Token) → container-of t ≡ Container.Nothing → scalar-named (t .code) ≡ ScalarNamed.Nothing → t .b ≡ 0 → bare-shape (t .code) (t .a) ≡ shape-of t
+pub shape-bare : (t : Token) → container-of t ≡ Container.Nothing → scalar-named (t .code) ≡ ScalarNamed.Nothing → t .b ≡ 0
+    → bare-shape (t .code) (t .a) ≡ shape-of t
 unfolding shape-of
 shape-bare t e f z = rw (shape-of, e, f, eq-eqb (t .b) 0 z)
 
-pub shape-over : (t : Token) → container-of t ≡ Container.Nothing → scalar-named (t .code) ≡ ScalarNamed.Nothing → (t .b ≡ 0 → ⊥) → Shape.Nothing ≡ shape-of t
+pub shape-over : (t : Token) → container-of t ≡ Container.Nothing → scalar-named (t .code) ≡ ScalarNamed.Nothing → (t .b ≡ 0 → ⊥)
+    → Shape.Nothing ≡ shape-of t
 unfolding shape-of
 shape-over t e f z = rw (shape-of, e, f, ne-eqb (t .b) 0 z)
 
@@ -113,7 +121,9 @@ bare-made t z =
 
 -- a code names a kind of container, or the token is none
 abbrev ContainerTold : Token → Type 0
-ContainerTold t = ((kind : ContainerKind) × (t .code ≡ container-code kind) × (container-of t ≡ Opened kind (t .a) (flag-of (t .b)))) ⊎ (container-of t ≡ Container.Nothing)
+ContainerTold t =
+    ((kind : ContainerKind) × (t .code ≡ container-code kind) × (container-of t ≡ Opened kind (t .a) (flag-of (t .b))))
+    ⊎ (container-of t ≡ Container.Nothing)
 
 container-told : (t : Token) → ContainerTold t
 unfolding container-of
@@ -126,7 +136,9 @@ container-told t =
 
 -- a code names a kind of scalar, or none
 abbrev ScalarTold : ℕ → Type 0
-ScalarTold code = ((kind : ScalarKind) × (code ≡ scalar-code kind) × (scalar-named code ≡ Kind kind)) ⊎ (scalar-named code ≡ ScalarNamed.Nothing)
+ScalarTold code =
+    ((kind : ScalarKind) × (code ≡ scalar-code kind) × (scalar-named code ≡ Kind kind))
+    ⊎ (scalar-named code ≡ ScalarNamed.Nothing)
 
 scalar-told : (code : ℕ) → ScalarTold code
 unfolding scalar-named

@@ -11,7 +11,7 @@ use lib.ListN.{length, getD, set, replicate, take, length-append, length-replica
 use lib.Seq.{set-out, ext-getD, getD-append-add, length-take-le}
 use Rattle.data.proofs.Cases.{by-bool}
 use Rattle.tape.specs.declared.token.Token.{Token}
-use Rattle.tape.specs.Token.{no-token}
+use Rattle.tape.specs.Token.{no-token, nth}
 use Rattle.tape.specs.Words.{words-for, capacity, code-word, a-word, b-word, last-word, room-of, tokens-in, words-of, put-words, padded, cleared}
 use Rattle.tape.specs.Tape.{before-last}
 
@@ -21,6 +21,10 @@ next i = omega arith
 
 next-with : (i k : ℕ) → words-for (suc i) + k ≡ suc (suc (suc (words-for i + k)))
 next-with i k = omega arith
+
+-- equal lists behind a token are equal
+behind : (t : Token) {ts us : List Token} → ts ≡ us → _≡_ {A = List Token} (t ∷ ts) (t ∷ us)
+behind t e = ap {B = List Token} (λ (x : List Token). t ∷ x) e
 
 -- the token that the words at an index spell
 abbrev pub token-from : List ℕ → ℕ → Token
@@ -52,7 +56,7 @@ pub tokens-counted : (ws : List ℕ) (n : ℕ) → words-for n ≤ length ws →
 tokens-counted ws n h = omega (arith, tokens-length ws n)
 
 -- a token is what its words spell
-pub tokens-at : (ws : List ℕ) (n i : ℕ) → i < n → last-word i < length ws → getD (tokens-in ws n) i no-token ≡ token-from ws i
+pub tokens-at : (ws : List ℕ) (n i : ℕ) → i < n → last-word i < length ws → nth (tokens-in ws n) i ≡ token-from ws i
 unfolding tokens-in
 tokens-at ws zero i h k = absurd (omega arith)
 tokens-at [] (suc n) i h k = absurd (omega arith)
@@ -63,11 +67,11 @@ tokens-at (c ∷ a ∷ b ∷ ws) (suc n) (suc i) h k =
     rw (next-with i 1, next-with i 2, next i) (tokens-at ws n i (omega arith) (omega arith))
 
 -- where there is no whole token there is none
-pub tokens-none : (ws : List ℕ) (n i : ℕ) → length ws ≤ last-word i → getD (tokens-in ws n) i no-token ≡ no-token
+pub tokens-none : (ws : List ℕ) (n i : ℕ) → length ws ≤ last-word i → nth (tokens-in ws n) i ≡ no-token
 tokens-none ws n i h = List·getD-eq-default (tokens-in ws n) no-token {n = i} (omega (arith, tokens-length ws n))
 
 -- nor past those that were asked for
-pub tokens-past : (ws : List ℕ) (n i : ℕ) → n ≤ i → getD (tokens-in ws n) i no-token ≡ no-token
+pub tokens-past : (ws : List ℕ) (n i : ℕ) → n ≤ i → nth (tokens-in ws n) i ≡ no-token
 tokens-past ws n i h = List·getD-eq-default (tokens-in ws n) no-token {n = i} (omega (arith, tokens-length ws n))
 
 -- ---- writing
@@ -100,7 +104,8 @@ put-room ws i t = rw (room-of, room-of, put-length ws i t)
 written-next : (c a b : ℕ) (ws : List ℕ) (i : ℕ) (t : Token) → written-at (c ∷ a ∷ b ∷ ws) (suc i) t ≡ c ∷ a ∷ b ∷ written-at ws i t
 written-next c a b ws i t = rw (next-with i 1, next-with i 2, next i)
 
-written-changed : (ws : List ℕ) (n i : ℕ) (t : Token) → last-word i < length ws → tokens-in (written-at ws i t) n ≡ set (tokens-in ws n) i t
+written-changed : (ws : List ℕ) (n i : ℕ) (t : Token) → last-word i < length ws
+    → tokens-in (written-at ws i t) n ≡ set (tokens-in ws n) i t
 unfolding tokens-in
 written-changed ws zero i t h = refl
 written-changed [] (suc n) i t h = absurd (omega arith)
@@ -108,7 +113,7 @@ written-changed (c ∷ []) (suc n) i t h = absurd (omega arith)
 written-changed (c ∷ a ∷ []) (suc n) i t h = absurd (omega arith)
 written-changed (c ∷ a ∷ b ∷ ws) (suc n) zero t h = refl
 written-changed (c ∷ a ∷ b ∷ ws) (suc n) (suc i) t h =
-    rw (written-next c a b ws i t) (ap {B = List Token} (λ (ts : List Token). record { code = c; a = a; b = b } ∷ ts) (written-changed ws n i t (omega arith)))
+    rw (written-next c a b ws i t) (behind (record { code = c; a = a; b = b }) (written-changed ws n i t (omega arith)))
 
 -- token i written is token i changed, where there is one
 pub put-changed : (ws : List ℕ) (n i : ℕ) (t : Token) → tokens-in (put-words ws i t) n ≡ set (tokens-in ws n) i t
@@ -125,7 +130,8 @@ added [] n t h = absurd (omega arith)
 added (c ∷ []) n t h = absurd (omega arith)
 added (c ∷ a ∷ []) n t h = absurd (omega arith)
 added (c ∷ a ∷ b ∷ ws) zero t h = refl
-added (c ∷ a ∷ b ∷ ws) (suc n) t h = rw (written-next c a b ws n t) (ap {B = List Token} (λ (ts : List Token). record { code = c; a = a; b = b } ∷ ts) (added ws n t (omega arith)))
+added (c ∷ a ∷ b ∷ ws) (suc n) t h =
+    rw (written-next c a b ws n t) (behind (record { code = c; a = a; b = b }) (added ws n t (omega arith)))
 
 -- the token after n others, written where there is room, is one token more
 pub put-added : (ws : List ℕ) (n : ℕ) (t : Token) → n < room-of ws → tokens-in (put-words ws n t) (n + 1) ≡ tokens-in ws n ++ (t ∷ [])
@@ -136,12 +142,12 @@ put-added ws n t h =
 
 -- ---- a token put in before the last
 -- the last token moved up, and its place changed
-pub before-last-moved : (ts : List Token) (n : ℕ) (x : Token) → length ts ≡ suc n → set (ts ++ (getD ts n no-token ∷ [])) n x ≡ before-last ts x
+pub before-last-moved : (ts : List Token) (n : ℕ) (x : Token) → length ts ≡ suc n → set (ts ++ (nth ts n ∷ [])) n x ≡ before-last ts x
 before-last-moved [] n x h = absurd (omega arith)
 before-last-moved (t ∷ []) zero x h = refl
 before-last-moved (t ∷ []) (suc n) x h = absurd (omega arith)
 before-last-moved (t ∷ u ∷ ts) zero x h = absurd (omega arith)
-before-last-moved (t ∷ u ∷ ts) (suc n) x h = ap {B = List Token} (λ (us : List Token). t ∷ us) (before-last-moved (u ∷ ts) n x (omega arith))
+before-last-moved (t ∷ u ∷ ts) (suc n) x h = behind t (before-last-moved (u ∷ ts) n x (omega arith))
 
 -- ---- the words of some tokens
 pub words-length : (ts : List Token) → length (words-of ts) ≡ words-for (length ts)
@@ -156,7 +162,8 @@ words-taken ws zero h = refl
 words-taken [] (suc n) h = absurd (omega arith)
 words-taken (c ∷ []) (suc n) h = absurd (omega arith)
 words-taken (c ∷ a ∷ []) (suc n) h = absurd (omega arith)
-words-taken (c ∷ a ∷ b ∷ ws) (suc n) h = rw (next n) (ap {B = List ℕ} (λ (us : List ℕ). c ∷ a ∷ b ∷ us) (words-taken ws n (omega arith)))
+words-taken (c ∷ a ∷ b ∷ ws) (suc n) h =
+    rw (next n) (ap {B = List ℕ} (λ (us : List ℕ). c ∷ a ∷ b ∷ us) (words-taken ws n (omega arith)))
 
 -- the words past the tokens do not matter to them
 pub tokens-first : (ws : List ℕ) (n : ℕ) → tokens-in (take (words-for n) ws) n ≡ tokens-in ws n
@@ -165,13 +172,13 @@ tokens-first ws zero = refl
 tokens-first [] (suc n) = rw (next n)
 tokens-first (c ∷ []) (suc n) = rw (next n)
 tokens-first (c ∷ a ∷ []) (suc n) = rw (next n)
-tokens-first (c ∷ a ∷ b ∷ ws) (suc n) = rw (next n) (ap {B = List Token} (λ (ts : List Token). record { code = c; a = a; b = b } ∷ ts) (tokens-first ws n))
+tokens-first (c ∷ a ∷ b ∷ ws) (suc n) = rw (next n) (behind (record { code = c; a = a; b = b }) (tokens-first ws n))
 
 -- tokens that were laid down are read back, whatever stands behind them
 pub tokens-back : (ts : List Token) (rest : List ℕ) → tokens-in (words-of ts ++ rest) (length ts) ≡ ts
 unfolding words-of tokens-in
 tokens-back [] rest = refl
-tokens-back (t ∷ ts) rest = ap {B = List Token} (λ (us : List Token). t ∷ us) (tokens-back ts rest)
+tokens-back (t ∷ ts) rest = behind t (tokens-back ts rest)
 
 -- to ask for more than stand there whole is to ask for those
 pub tokens-whole : (ws : List ℕ) (n : ℕ) → capacity (length ws) ≤ n → tokens-in ws n ≡ tokens-in ws (capacity (length ws))
@@ -204,10 +211,10 @@ unfolding padded
 padded-tokens len ts = tokens-back ts _
 
 -- a token of the list is read at its index
-pub padded-token : (len : ℕ) (ts : List Token) (i : ℕ) → i < length ts → words-for (length ts) ≤ len → token-from (padded len ts) i ≡ getD ts i no-token
+pub padded-token : (len : ℕ) (ts : List Token) (i : ℕ) → i < length ts → words-for (length ts) ≤ len → token-from (padded len ts) i ≡ nth ts i
 padded-token len ts i h fits =
     sym (tokens-at (padded len ts) (length ts) i h (omega (arith, padded-length len ts fits)))
-    ∙ ap (λ (us : List Token). getD us i no-token) (padded-tokens len ts)
+    ∙ ap (λ (us : List Token). nth us i) (padded-tokens len ts)
 
 -- past the tokens every word is 0
 pub padded-zero : (len : ℕ) (ts : List Token) (j : ℕ) → words-for (length ts) ≤ j → getD (padded len ts) j 0 ≡ 0

@@ -5,36 +5,16 @@ use mathlib.Core.Path.{_≡_}
 use lib.Dec.{eqb, ltb}
 use Rattle.tape.specs.declared.token.Token.{Token}
 use Rattle.tape.specs.declared.token.ContainerKind.{ContainerKind}
-use Rattle.tape.specs.declared.token.ScalarKind.the-variants.{Unquoted, Quoted, Parameter, UndefinedParameter, Header}
 use Rattle.tape.specs.declared.token.Container.{Container}
 use Rattle.tape.specs.declared.token.Container.the-variants.{Opened}
 use Rattle.tape.specs.declared.shape.Shape.{Shape}
 use Rattle.tape.specs.declared.shape.Shape.the-variants.{Opener, MixedContainer, Scalar, Operator, End}
 use Rattle.tape.specs.declared.shape.Link.{Link}
 use Rattle.tape.specs.declared.shape.Link.the-variants.{ToEnd, ToOpener}
-use Rattle.tape.specs.declared.shape.ScalarNamed.{ScalarNamed}
-use Rattle.tape.specs.declared.shape.ScalarNamed.the-variants.{Kind}
-use Rattle.tape.specs.Token.{mixed-container-code, unquoted-code, quoted-code, parameter-code, undefined-parameter-code, operator-code, end-code, header-code, least-operator, greatest-operator, stores-flag, opener-of, container-of}
-
--- the kind of scalar that a code names, or none
-unfoldable pub scalar-named : ℕ → ScalarNamed
-scalar-named code =
-    elim (eqb code unquoted-code) [
-      | true ↦ Kind Unquoted
-      | false ↦ elim (eqb code quoted-code) [
-        | true ↦ Kind Quoted
-        | false ↦ elim (eqb code parameter-code) [
-          | true ↦ Kind Parameter
-          | false ↦ elim (eqb code undefined-parameter-code) [
-            | true ↦ Kind UndefinedParameter
-            | false ↦ elim (eqb code header-code) [
-              | true ↦ Kind Header
-              | false ↦ ScalarNamed.Nothing
-            ]
-          ]
-        ]
-      ]
-    ]
+use Rattle.tape.specs.declared.token.ScalarNamed.{ScalarNamed}
+use Rattle.tape.specs.declared.token.ScalarNamed.the-variants.{Kind}
+use Rattle.tape.specs.Token.{mixed-container-code, operator-code, end-code, least-operator, greatest-operator}
+use Rattle.tape.specs.Token.{scalar-named, stores-flag, opener-of, container-of}
 
 -- an End, an operator by its number, or a MixedContainer: the tokens whose b is 0
 unfoldable pub bare-shape : ℕ → ℕ → Shape
@@ -76,6 +56,10 @@ linked Shape.Nothing = Link.Nothing
 -- an opener's End, an End's opener, or none
 abbrev pub link-of : Token → Link
 link-of t = linked (shape-of t)
+
+-- a container's opener of a kind that names its End, whatever its flag
+abbrev pub OpensAs : Token → ContainerKind → ℕ → Type 0
+OpensAs t kind end = (mixed : Bool) × (t ≡ opener-of kind end mixed)
 
 -- a container's opener that names its End
 abbrev pub Opens : Token → ℕ → Type 0

@@ -3,12 +3,12 @@ use Prim.Native.Nat.{ℕ, _+_}
 use mathlib.Core.Bool.{Bool, true, false}
 use mathlib.Core.List.{List, [], _∷_, _++_}
 use lib.Dec.{ltb}
-use lib.ListN.{getD, set}
+use lib.ListN.{set}
 use Rattle.tape.specs.declared.token.Token.{Token}
 use Rattle.tape.specs.declared.words.Pushed.{Pushed}
 use Rattle.tape.specs.declared.words.Pushed.the-variants.{Laid, Full}
-use Rattle.tape.specs.Token.{no-token, mixed-container-token}
-use Rattle.tape.specs.Words.{room-of, tokens-in}
+use Rattle.tape.specs.Token.{mixed-container-token, nth}
+use Rattle.tape.specs.Words.{capacity, room-of, tokens-in}
 
 -- room for so many tokens, as a lent slice has, or for any number, as the Rust's `Vec` has
 pub data Room : Type 0 where
@@ -28,9 +28,13 @@ pub record Tape : Type 0 where
 abbrev pub view : List ℕ → ℕ → Tape
 view ws n = record { room = holds (room-of ws); tokens = tokens-in ws n }
 
--- token i, or the token of three zeros where there is none
+-- a tape of so many words with no token on it
+abbrev pub empty-tape : ℕ → Tape
+empty-tape len = record { room = holds (capacity len); tokens = [] }
+
+-- token i of a tape
 unfoldable pub token-at : Tape → ℕ → Token
-token-at t i = getD (t .tokens) i no-token
+token-at t i = nth (t .tokens) i
 
 -- token i changed, where there is one
 unfoldable pub replace : Tape → ℕ → Token → Tape

@@ -1,12 +1,16 @@
 -- A token's code and two words: document 01, 'Three words to a token'.
 use Prim.Native.Nat.{ℕ}
 use mathlib.Core.Bool.{Bool, true, false}
+use mathlib.Core.List.{List}
 use lib.Dec.{eqb}
+use lib.ListN.{getD}
 use Rattle.tape.specs.declared.token.Token.{Token}
 use Rattle.tape.specs.declared.token.ContainerKind.{ContainerKind}
 use Rattle.tape.specs.declared.token.ContainerKind.the-variants.{Array, Object}
 use Rattle.tape.specs.declared.token.ScalarKind.{ScalarKind}
 use Rattle.tape.specs.declared.token.ScalarKind.the-variants.{Unquoted, Quoted, Parameter, UndefinedParameter, Header}
+use Rattle.tape.specs.declared.token.ScalarNamed.{ScalarNamed}
+use Rattle.tape.specs.declared.token.ScalarNamed.the-variants.{Kind}
 use Rattle.tape.specs.declared.token.Container.{Container}
 use Rattle.tape.specs.declared.token.Container.the-variants.{Opened}
 use Rattle.tape.specs.declared.token.Standing.{Standing}
@@ -61,6 +65,50 @@ scalar-code Parameter = parameter-code
 scalar-code UndefinedParameter = undefined-parameter-code
 scalar-code Header = header-code
 
+-- the kind of scalar that a code names, or none
+unfoldable pub scalar-named : ℕ → ScalarNamed
+scalar-named code =
+    elim (eqb code unquoted-code) [
+      | true ↦ Kind Unquoted
+      | false ↦ elim (eqb code quoted-code) [
+        | true ↦ Kind Quoted
+        | false ↦ elim (eqb code parameter-code) [
+          | true ↦ Kind Parameter
+          | false ↦ elim (eqb code undefined-parameter-code) [
+            | true ↦ Kind UndefinedParameter
+            | false ↦ elim (eqb code header-code) [
+              | true ↦ Kind Header
+              | false ↦ ScalarNamed.Nothing
+            ]
+          ]
+        ]
+      ]
+    ]
+
+-- whether a code names a kind of scalar
+abbrev pub names-scalar : ScalarNamed → Bool
+names-scalar (Kind kind) = true
+names-scalar ScalarNamed.Nothing = false
+
+abbrev pub is-scalar-code : ℕ → Bool
+is-scalar-code code = names-scalar (scalar-named code)
+
+-- only Quoted may have length 0
+abbrev pub may-be-empty : ScalarKind → Bool
+may-be-empty Unquoted = false
+may-be-empty Quoted = true
+may-be-empty Parameter = false
+may-be-empty UndefinedParameter = false
+may-be-empty Header = false
+
+-- a Header has a container next
+abbrev pub is-header : ScalarKind → Bool
+is-header Unquoted = false
+is-header Quoted = false
+is-header Parameter = false
+is-header UndefinedParameter = false
+is-header Header = true
+
 -- ---- an opener's b word: mixed, 0 or 1
 abbrev pub flag-word : Bool → ℕ
 flag-word true = 1
@@ -93,6 +141,10 @@ mixed-container-token = record { code = mixed-container-code; a = 0; b = 0 }
 abbrev pub no-token : Token
 no-token = record { code = 0; a = 0; b = 0 }
 
+-- token i of a list, or the token of zeros where there is none
+abbrev pub nth : List Token → ℕ → Token
+nth ts i = getD ts i no-token
+
 -- ---- what a token is
 -- an opener with its kind, link and stored flag, or none
 unfoldable pub container-of : Token → Container
@@ -110,24 +162,35 @@ unfoldable pub standing-of : Token → Standing
 standing-of t =
     elim (eqb (t .code) unquoted-code) [
       | true ↦ Standing.Unquoted
-      | false ↦ elim (eqb (t .code) end-code) [
-        | true ↦ End
-        | false ↦ elim (eqb (t .code) header-code) [
-          | true ↦ OtherScalar
-          | false ↦ elim (eqb (t .code) quoted-code) [
-            | true ↦ OtherScalar
-            | false ↦ elim (eqb (t .code) parameter-code) [
-              | true ↦ OtherScalar
-              | false ↦ elim (eqb (t .code) undefined-parameter-code) [
-                | true ↦ OtherScalar
-                | false ↦ Standing.Nothing
-              ]
-            ]
-          ]
-        ]
+      | false ↦ elim (is-scalar-code (t .code)) [
+        | true ↦ OtherScalar
+        | false ↦ elim (eqb (t .code) end-code) [ true ↦ End | false ↦ Standing.Nothing ]
       ]
     ]
 
+-- ---- a token changed
 -- the same view as a Header
 abbrev pub headed : Token → Token
-headed t = record { code = header-code; a = t .a; b = t .b }
+headed t = scalar-of Header (t .a) (t .b)
+
+-- the same opener with another link, another flag, or as another kind; a token that opens nothing stays as it is
+abbrev pub relink : Token → Container → ℕ → Token
+relink t (Opened kind link mixed) other = opener-of kind other mixed
+relink t Container.Nothing other = t
+
+abbrev pub reflag : Token → Container → Bool → Token
+reflag t (Opened kind link mixed) other = opener-of kind link other
+reflag t Container.Nothing other = t
+
+abbrev pub rekind : Token → Container → ContainerKind → Token
+rekind t (Opened kind link mixed) other = opener-of other link mixed
+rekind t Container.Nothing other = t
+
+unfoldable pub relinked : Token → ℕ → Token
+relinked t link = relink t (container-of t) link
+
+unfoldable pub reflagged : Token → Bool → Token
+reflagged t mixed = reflag t (container-of t) mixed
+
+unfoldable pub rekinded : Token → ContainerKind → Token
+rekinded t kind = rekind t (container-of t) kind

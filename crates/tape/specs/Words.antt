@@ -3,11 +3,11 @@ use Prim.Native.Nat.{ℕ, zero, suc, _+_, _-_, _*_, _/_, min}
 use mathlib.Core.Bool.{true, false}
 use mathlib.Core.List.{List, [], _∷_, _++_}
 use lib.Dec.{ltb}
-use lib.ListN.{length, getD, set, replicate}
+use lib.ListN.{length, set, replicate}
 use Rattle.tape.specs.declared.token.Token.{Token}
 use Rattle.tape.specs.declared.words.Pushed.{Pushed}
 use Rattle.tape.specs.declared.words.Pushed.the-variants.{Laid, Full}
-use Rattle.tape.specs.Token.{no-token, mixed-container-token}
+use Rattle.tape.specs.Token.{mixed-container-token, nth}
 
 -- three words a token
 abbrev pub words-per-token : ℕ
@@ -55,9 +55,9 @@ unfoldable pub words-of : List Token → List ℕ
 words-of [] = []
 words-of (t ∷ ts) = t .code ∷ t .a ∷ t .b ∷ words-of ts
 
--- token i of n
+-- token i of the first n that words hold
 unfoldable pub token-in : List ℕ → ℕ → ℕ → Token
-token-in ws n i = getD (tokens-in ws n) i no-token
+token-in ws n i = nth (tokens-in ws n) i
 
 -- the words with token i written, where it fits
 unfoldable pub put-words : List ℕ → ℕ → Token → List ℕ

@@ -3,9 +3,10 @@ use crate::codes;
 use crate::token;
 use crate::token::Container;
 use crate::token::ScalarKind;
+use crate::token::ScalarNamed;
 use crate::token::Token;
 ghost use mathlib.Core.Path.{_≡_};
-ghost use Rattle.tape.specs.Shape.{scalar-named, bare-shape, shape-of, link-of};
+ghost use Rattle.tape.specs.Shape.{bare-shape, shape-of, link-of};
 
 // A token with what its words say, or words that no token has.
 pub enum Shape {
@@ -32,34 +33,6 @@ pub enum Link {
     ToEnd(u32),
     ToOpener(u32),
     Nothing,
-}
-
-// The kind of scalar that a code names, or none.
-pub enum ScalarNamed {
-    Kind(ScalarKind),
-    Nothing,
-}
-
-// The kind of scalar that a code names.
-pub fn scalar_named(code: u32) -> ScalarNamed
-    ensures { λ r. ⌜ r ≡ scalar-named code ⌝ }
-{
-    if code == codes::UNQUOTED {
-        return ScalarNamed::Kind(ScalarKind::Unquoted);
-    }
-    if code == codes::QUOTED {
-        return ScalarNamed::Kind(ScalarKind::Quoted);
-    }
-    if code == codes::PARAMETER {
-        return ScalarNamed::Kind(ScalarKind::Parameter);
-    }
-    if code == codes::UNDEFINED_PARAMETER {
-        return ScalarNamed::Kind(ScalarKind::UndefinedParameter);
-    }
-    if code == codes::HEADER {
-        return ScalarNamed::Kind(ScalarKind::Header);
-    }
-    ScalarNamed::Nothing
 }
 
 // What a code and its first word make of a token whose second word is 0.
@@ -103,7 +76,7 @@ pub fn shape_of(t: Token) -> Shape
         }
         Container::Nothing => {}
     }
-    match scalar_named(t.code) {
+    match token::scalar_named(t.code) {
         ScalarNamed::Kind(kind) => {
             return Shape::Scalar {
                 kind,

@@ -1,7 +1,8 @@
 // A token by value: a code and two words. Whoever lays one down makes it by name, and whoever reads one asks what it is.
 use crate::codes;
 ghost use mathlib.Core.Path.{_≡_};
-ghost use Rattle.tape.specs.Token.{container-code, scalar-code, flag-word, flag-of, stores-flag, opener-of, end-of, scalar-of, operator-of, mixed-container-token, container-of, standing-of, headed};
+ghost use Rattle.tape.specs.Token.{container-code, scalar-code, scalar-named, is-scalar-code, may-be-empty, is-header, flag-word, flag-of, stores-flag};
+ghost use Rattle.tape.specs.Token.{opener-of, end-of, scalar-of, operator-of, mixed-container-token, container-of, standing-of, headed};
 
 pub struct Token {
     pub code: u32,
@@ -22,6 +23,12 @@ pub enum ScalarKind {
     Parameter,
     UndefinedParameter,
     Header,
+}
+
+// The kind of scalar that a code names, or none.
+pub enum ScalarNamed {
+    Kind(ScalarKind),
+    Nothing,
 }
 
 // A token seen as a container: its kind, its link (the index of its End or, while it is open, of its parent) and its
@@ -68,6 +75,64 @@ fn scalar_number(kind: ScalarKind) -> u32
         ScalarKind::Parameter => codes::PARAMETER,
         ScalarKind::UndefinedParameter => codes::UNDEFINED_PARAMETER,
         ScalarKind::Header => codes::HEADER,
+    }
+}
+
+// The kind of scalar that a code names.
+pub fn scalar_named(code: u32) -> ScalarNamed
+    ensures { λ r. ⌜ r ≡ scalar-named code ⌝ }
+{
+    if code == codes::UNQUOTED {
+        return ScalarNamed::Kind(ScalarKind::Unquoted);
+    }
+    if code == codes::QUOTED {
+        return ScalarNamed::Kind(ScalarKind::Quoted);
+    }
+    if code == codes::PARAMETER {
+        return ScalarNamed::Kind(ScalarKind::Parameter);
+    }
+    if code == codes::UNDEFINED_PARAMETER {
+        return ScalarNamed::Kind(ScalarKind::UndefinedParameter);
+    }
+    if code == codes::HEADER {
+        return ScalarNamed::Kind(ScalarKind::Header);
+    }
+    ScalarNamed::Nothing
+}
+
+// Whether a code is that of a scalar.
+fn is_scalar_code(code: u32) -> bool
+    ensures { λ r. ⌜ r ≡ is-scalar-code code ⌝ }
+{
+    match scalar_named(code) {
+        ScalarNamed::Kind(_) => true,
+        ScalarNamed::Nothing => false,
+    }
+}
+
+// Whether a scalar of a kind may have a view of no byte.
+pub fn may_be_empty(kind: ScalarKind) -> bool
+    ensures { λ r. ⌜ r ≡ may-be-empty kind ⌝ }
+{
+    match kind {
+        ScalarKind::Unquoted => false,
+        ScalarKind::Quoted => true,
+        ScalarKind::Parameter => false,
+        ScalarKind::UndefinedParameter => false,
+        ScalarKind::Header => false,
+    }
+}
+
+// Whether a kind of scalar is a Header, which has a container next.
+pub fn is_header(kind: ScalarKind) -> bool
+    ensures { λ r. ⌜ r ≡ is-header kind ⌝ }
+{
+    match kind {
+        ScalarKind::Unquoted => false,
+        ScalarKind::Quoted => false,
+        ScalarKind::Parameter => false,
+        ScalarKind::UndefinedParameter => false,
+        ScalarKind::Header => true,
     }
 }
 
@@ -182,20 +247,11 @@ impl Token {
         if code == codes::UNQUOTED {
             return Standing::Unquoted;
         }
+        if is_scalar_code(code) {
+            return Standing::OtherScalar;
+        }
         if code == codes::END {
             return Standing::End;
-        }
-        if code == codes::HEADER {
-            return Standing::OtherScalar;
-        }
-        if code == codes::QUOTED {
-            return Standing::OtherScalar;
-        }
-        if code == codes::PARAMETER {
-            return Standing::OtherScalar;
-        }
-        if code == codes::UNDEFINED_PARAMETER {
-            return Standing::OtherScalar;
         }
         Standing::Nothing
     }
@@ -204,10 +260,6 @@ impl Token {
     pub fn as_header(self) -> Token
         ensures { λ r. ⌜ r ≡ headed self ⌝ }
     {
-        Token {
-            code: codes::HEADER,
-            a: self.a,
-            b: self.b,
-        }
+        scalar(ScalarKind::Header, self.a, self.b)
     }
 }

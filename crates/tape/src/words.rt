@@ -38,7 +38,7 @@ pub fn capacity(words: &[u32]) -> usize
     words.len() / WORDS_PER_TOKEN
 }
 
-// Token i of count, or the token of three zeros where there is none.
+// Token i of count, or the token of zeros where there is none.
 pub fn token_of(words: &[u32], count: usize, i: usize) -> Token
     ensures { λ r. ⌜ r ≡ token-in (now (words .entry)) count i ⌝ }
 {

@@ -13,6 +13,7 @@ use Rattle.tape.specs.declared.token.ContainerKind.the-variants.{Array, Object}
 use Rattle.tape.specs.declared.token.Container as Containers
 use Rattle.tape.specs.declared.shape.Link.the-variants.{ToEnd}
 use Rattle.tape.specs.Token.{no-token, opener-of, end-of, container-of}
+use Rattle.tape.proofs.Makers.{end-uncoded}
 use Rattle.tape.specs.Shape.{link-of}
 use Rattle.tape.specs.Tape.{Tape, unbounded, token-at}
 use Rattle.sheet.specs.Sound.{nth}
@@ -23,7 +24,7 @@ use Rattle.parse.proofs.Splits.{by-container}
 use Rattle.promises.proofs.Moves.{Result, on-tape, container-in, above, closed-as, Over, done-bare, done-closed, too-early}
 use Rattle.promises.proofs.Walk.{Meets}
 use Rattle.promises.proofs.Links.Nest.{by-below, Parent}
-use Rattle.promises.proofs.Links.Rows.{add-length, add-last, scalar-coded, Apart, apart-unscaled}
+use Rattle.promises.proofs.Links.Rows.{add-length, add-last, not-scalar, Apart, apart-unscaled}
 use Rattle.promises.proofs.Links.Flags.{codes-differ}
 use Rattle.promises.proofs.Links.Kept.{link-at, Kept, Resting, container-link, link-container, kept-close, tied}
 use Rattle.promises.proofs.Links.Held.{Signed, Shaped, Held, Finished, Resting-at, Ready}
@@ -73,7 +74,7 @@ resumes c ts p opener r = go c
     some = omega (arith, add-length ts (end-of opener))
 
     apart : Apart (ts ++ (end-of opener ∷ []))
-    apart = apart-unscaled _ (r .kept .row) (λ s. scalar-coded (rw (add-last ts (end-of opener)) at s) .3 refl)
+    apart = apart-unscaled _ (r .kept .row) (λ s. not-scalar (end-uncoded opener) (rw (add-last ts (end-of opener)) at s))
 
     signed : (mixed : Bool) → Signed mixed (ts ++ (end-of opener ∷ []))
     signed mixed e = codes-differ (λ z. omega arith) (rw (add-last ts (end-of opener)) at e)

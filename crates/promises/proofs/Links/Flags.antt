@@ -13,10 +13,11 @@ use Rattle.tape.specs.declared.token.Token.{Token}
 use Rattle.tape.specs.declared.token.ContainerKind.the-variants.{Array, Object}
 use Rattle.tape.specs.Token.{no-token, mixed-container-token, opener-of}
 use Rattle.tape.specs.Tape.{before-last}
+use Rattle.tape.proofs.Makers.{operator-uncoded}
 use Rattle.sheet.specs.Sound.{nth}
 use Rattle.promises.specs.Mixed.{Scalar, equal-token, Flagged, Stored, Flags}
 use Rattle.promises.proofs.Links.Nest.{by-equal, by-below}
-use Rattle.promises.proofs.Links.Rows.{last, add-length, add-new, add-same, insert-new, insert-last, insert-same, scalar-coded}
+use Rattle.promises.proofs.Links.Rows.{last, add-length, add-new, add-same, insert-new, insert-last, insert-same, not-scalar}
 
 -- ---- what tells tokens apart
 -- tokens of two codes differ
@@ -33,7 +34,7 @@ not-both on off = let z : _≡_ {A = ℕ} 0 1 = cc in absurd (omega arith)
 
 -- a scalar is no operator
 pub scalar-no-equal : {t : Token} {P : Type 0} → Scalar t → t ≡ equal-token → P
-scalar-no-equal s e = codes-differ (scalar-coded s .2) e
+scalar-no-equal s e = absurd (not-scalar (operator-uncoded _) (rw e at s))
 
 -- where an opener is read there is a token
 object-below : (ts : List Token) (i c : ℕ) (mixed : Bool) → nth ts i ≡ opener-of Object c mixed → i < length ts

@@ -10,8 +10,7 @@ use lib.Seq.{getD-set-same, getD-set-other}
 use Rattle.tape.specs.declared.token.Token.{Token}
 use Rattle.tape.specs.declared.token.ContainerKind.{ContainerKind}
 use Rattle.tape.specs.declared.token.ContainerKind.the-variants.{Array, Object}
-use Rattle.tape.specs.declared.token.ScalarKind.{ScalarKind}
-use Rattle.tape.specs.declared.token.ScalarKind.the-variants.{Unquoted, Quoted, Parameter, UndefinedParameter, Header}
+use Rattle.tape.specs.declared.token.ScalarKind.the-variants.{Header}
 use Rattle.tape.specs.declared.token.Container as Containers
 use Rattle.tape.specs.declared.token.Standing as Standings
 use Rattle.tape.specs.declared.shape.Link.{Link}
@@ -19,6 +18,7 @@ use Rattle.tape.specs.declared.shape.Link.the-variants.{ToEnd}
 use Rattle.tape.specs.Token.{no-token, mixed-container-token, opener-of, scalar-of, end-of, headed, container-of, standing-of}
 use Rattle.tape.specs.Shape.{linked, link-of, Opens}
 use Rattle.tape.specs.Tape.{before-last}
+use Rattle.tape.proofs.Makers.{opener-container, scalar-container, opener-standing, mixed-container-standing, operator-standing, end-standing}
 use Rattle.tape.proofs.Shapes.{scalar-shape, opens-link, end-link, link-made, unlinked-opens}
 use Rattle.promises.proofs.Moves.{ScalarStands}
 use Rattle.sheet.specs.Sound.{nth, Form, container, mixed-container, scalar, operator, closing, Closed, Opened, Nested, Headed}
@@ -64,27 +64,6 @@ opener-no-equal Object link mixed e = codes-differ (λ z. omega arith) e
 opener-no-scalar : {t : Token} {link : ℕ} {P : Type 0} → link-of t ≡ ToEnd link → Scalar t → P
 opener-no-scalar {t} e s = absurd (unlinked-opens t (scalar-unlinked s) (link-made t e))
 
--- what a token is read as is what it was made as
-opener-container : (kind : ContainerKind) (link : ℕ) (mixed : Bool) → container-of (opener-of kind link mixed) ≡ Containers.the-variants.Opened kind link mixed
-unfolding container-of
-opener-container Array link true = refl
-opener-container Array link false = refl
-opener-container Object link true = refl
-opener-container Object link false = refl
-
-scalar-container : (kind : ScalarKind) (offset size : ℕ) → container-of (scalar-of kind offset size) ≡ Containers.the-variants.Nothing
-unfolding container-of
-scalar-container Unquoted offset size = refl
-scalar-container Quoted offset size = refl
-scalar-container Parameter offset size = refl
-scalar-container UndefinedParameter offset size = refl
-scalar-container Header offset size = refl
-
-opener-standing : (kind : ContainerKind) (link : ℕ) (mixed : Bool) → standing-of (opener-of kind link mixed) ≡ Standings.the-variants.Nothing
-unfolding standing-of
-opener-standing Array link mixed = refl
-opener-standing Object link mixed = refl
-
 -- a token of a form that is read as an opener names what it is read to name
 pub container-link : {t : Token} {kind : ContainerKind} {link : ℕ} {mixed : Bool} → Form t → container-of t ≡ Containers.the-variants.Opened kind link mixed → link-of t ≡ ToEnd link
 unfolding container-of
@@ -116,12 +95,11 @@ container-made {t} {kind} {link} {mixed} form e =
 
 -- a token of a form that is read as a scalar is one
 pub standing-scalar : {t : Token} → Form t → ScalarStands (standing-of t) → Scalar t
-unfolding standing-of
 standing-scalar {t} (container end o) s = absurd (rw (o .2, opener-standing (o .0) end (o .1)) at s)
-standing-scalar {t} (mixed-container q) s = absurd (rw q at s)
+standing-scalar {t} (mixed-container q) s = absurd (rw (q, mixed-container-standing) at s)
 standing-scalar {t} (scalar offset size v) s = record { kind = v .0; offset = offset; size = size; made = v .1 }
-standing-scalar {t} (operator number low high q) s = absurd (rw q at s)
-standing-scalar {t} (closing opener q) s = absurd (rw q at s)
+standing-scalar {t} (operator number low high q) s = absurd (rw (q, operator-standing number) at s)
+standing-scalar {t} (closing opener q) s = absurd (rw (q, end-standing opener) at s)
 
 -- ---- a plain token added
 pub kept-plain : (ts : List Token) (x : Token) {p : ℕ} → Resting ts p → Plain x → Resting (ts ++ (x ∷ [])) p

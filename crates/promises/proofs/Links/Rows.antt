@@ -3,6 +3,7 @@
 -- What each change of a tape does to the token at an index, and to this.
 -- Assumes nothing.
 use mathlib.Core.Path.{_≡_, refl, sym, _∙_, ap}
+use mathlib.Core.Bool.{Bool, true, false, false≢true}
 use mathlib.Core.List.{List, [], _∷_, _++_}
 use Prim.Native.Nat.{ℕ, suc, _+_, _-_, _≤_, _<_}
 use native.Mathlib.Omega.{arith}
@@ -13,12 +14,14 @@ use Rattle.operator.specs.declared.Operator.the-variants.{LessThan, LessThanEqu
 use Rattle.operator.specs.Operators.{number-of}
 use Rattle.tape.specs.declared.token.Token.{Token}
 use Rattle.tape.specs.declared.token.ScalarKind.{ScalarKind}
-use Rattle.tape.specs.declared.token.ScalarKind.the-variants.{Unquoted, Quoted, Parameter, UndefinedParameter, Header}
+use Rattle.tape.specs.declared.token.ScalarKind.the-variants.{Header}
 use Rattle.tape.specs.declared.shape.Link.{Link}
-use Rattle.tape.specs.Token.{no-token, mixed-container-token, scalar-of, operator-of, header-code, mixed-container-code, scalar-code}
+use Rattle.tape.specs.Token.{no-token, least-operator, greatest-operator, is-scalar-code, is-header, mixed-container-token, scalar-of, operator-of, header-code, mixed-container-code, scalar-code}
 use Rattle.tape.specs.Shape.{linked, link-of, Opens}
 use Rattle.tape.specs.Tape.{before-last}
 use Rattle.tape.proofs.Shapes.{scalar-shape, operator-shape, mixed-container-shape, unlinked-opens}
+use Rattle.tape.proofs.Makers.{mixed-container-uncoded, none-uncoded, header-coded}
+use Rattle.tape.proofs.Makers as Makers
 use Rattle.tape.proofs.Views.{before-last-moved}
 use Rattle.sheet.specs.Sound.{nth, Form, mixed-container, scalar, operator}
 use Rattle.promises.specs.Mixed.{Scalar, Marked}
@@ -73,19 +76,15 @@ Unmarked t = t ≡ mixed-container-token → ⊥
 pub unmarked : (t : Token) → (t .code ≡ mixed-container-code → ⊥) → Unmarked t
 unmarked t d e = d (ap (λ (x : Token). x .code) e)
 
--- a scalar's code is 4, 5, 6, 7 or 10
-pub scalar-coded : {t : Token} → Scalar t → (4 ≤ t .code) × (t .code ≤ 10) × (t .code ≡ 8 → ⊥) × (t .code ≡ 9 → ⊥)
-scalar-coded {t} s = rw (s .made) (go (s .kind))
-  where
-    go : (k : ScalarKind) → (4 ≤ scalar-code k) × (scalar-code k ≤ 10) × (scalar-code k ≡ 8 → ⊥) × (scalar-code k ≡ 9 → ⊥)
-    go Unquoted = (omega arith, omega arith, λ z. omega arith, λ z. omega arith)
-    go Quoted = (omega arith, omega arith, λ z. omega arith, λ z. omega arith)
-    go Parameter = (omega arith, omega arith, λ z. omega arith, λ z. omega arith)
-    go UndefinedParameter = (omega arith, omega arith, λ z. omega arith, λ z. omega arith)
-    go Header = (omega arith, omega arith, λ z. omega arith, λ z. omega arith)
+-- a scalar has a scalar's code
+pub scalar-coded : {t : Token} → Scalar t → is-scalar-code (t .code) ≡ true
+scalar-coded s = ap (λ (x : Token). is-scalar-code (x .code)) (s .made) ∙ Makers.scalar-coded (s .kind)
+
+pub not-scalar : {t : Token} → is-scalar-code (t .code) ≡ false → Scalar t → ⊥
+not-scalar other s = false≢true (sym other ∙ scalar-coded s)
 
 pub scalar-unmarked : {t : Token} → Scalar t → Unmarked t
-scalar-unmarked {t} s = let c = scalar-coded s in unmarked t (λ z. omega (arith, c .0))
+scalar-unmarked s e = not-scalar mixed-container-uncoded (rw e at s)
 
 pub scalar-unlinked : {t : Token} → Scalar t → link-of t ≡ Link.Nothing
 scalar-unlinked s = ap link-of (s .made) ∙ ap linked (scalar-shape (s .kind) (s .offset) (s .size))
@@ -97,7 +96,7 @@ scalar-below ts i s =
     (λ h. h)
     (λ h.
     let none : nth ts i ≡ no-token = List·getD-eq-default ts no-token {n = i} h in
-    let c : 4 ≤ no-token .code = scalar-coded (rw none at s) .0 in absurd (omega arith))
+    absurd (not-scalar none-uncoded (rw none at s)))
 
 -- ---- tokens that name none and are neither a Header nor a MixedContainer
 abbrev pub Unheaded : Token → Type 0
@@ -112,13 +111,13 @@ pub record Plain (t : Token) : Type 0 where
   pub other : Unheaded t
   pub bare : Unmarked t
 
--- a kind of scalar that a run is cut as
+-- a kind of scalar that a run is cut as: any but a Header
+abbrev Off : Bool → Type 0
+Off true = ⊥
+Off false = Unit {0}
+
 abbrev pub Cut-kind : ScalarKind → Type 0
-Cut-kind Unquoted = Unit {0}
-Cut-kind Quoted = Unit {0}
-Cut-kind Parameter = Unit {0}
-Cut-kind UndefinedParameter = Unit {0}
-Cut-kind Header = ⊥
+Cut-kind kind = Off (is-header kind)
 
 pub scalar-made : (kind : ScalarKind) (offset size : ℕ) → Scalar (scalar-of kind offset size)
 scalar-made kind offset size = record { kind = kind; offset = offset; size = size; made = refl }
@@ -132,13 +131,9 @@ plain-scalar kind offset size d = record {
 }
   where
     no-header : (k : ScalarKind) → Cut-kind k → scalar-code k ≡ header-code → ⊥
-    no-header Unquoted c z = omega arith
-    no-header Quoted c z = omega arith
-    no-header Parameter c z = omega arith
-    no-header UndefinedParameter c z = omega arith
-    no-header Header c z = c
+    no-header k c z = rw (header-coded k z) at c
 
-numbered : (o : Operator) → (1 ≤ number-of o) × (number-of o ≤ 8)
+numbered : (o : Operator) → (least-operator ≤ number-of o) × (number-of o ≤ greatest-operator)
 numbered LessThan = omega arith
 numbered LessThanEqual = omega arith
 numbered GreaterThan = omega arith

@@ -20,6 +20,7 @@ use Rattle.tape.specs.declared.token.ContainerKind.the-variants.{Object}
 use Rattle.tape.specs.declared.token.Standing as Standings
 use Rattle.tape.specs.Token.{no-token, mixed-container-token, opener-of, operator-of, headed, standing-of}
 use Rattle.tape.specs.Tape.{Tape, before-last}
+use Rattle.tape.proofs.Makers.{none-standing}
 use Rattle.sheet.specs.Sound.{nth}
 use Rattle.parse.specs.declared.machine.State.{State}
 use Rattle.parse.specs.declared.machine.State.the-variants.{Key, KeyValueSeparator, ObjectValue, ParseOpen, ArrayValue}
@@ -40,12 +41,12 @@ use Rattle.promises.proofs.Links.Opening.{begun-held, settled-held, obj
 
 -- where the last token is read as an Unquoted there is one
 some-last : (ts : List Token) → standing-of (last ts) ≡ Standings.the-variants.Unquoted → 1 ≤ length ts
-unfolding standing-of
 some-last ts e =
     by-below 0 (length ts)
     (λ h. h)
     (λ h.
     let none : last ts ≡ no-token = List·getD-eq-default ts no-token {n = length ts - 1} (omega arith) in
+    let no : Standings.the-variants.Nothing ≡ Standings.the-variants.Unquoted = sym none-standing ∙ ap standing-of (sym none) ∙ e in
     let z : _≡_ {A = ℕ} 0 1 = cc in absurd (omega arith))
 
 -- only `=` has the Equal's number

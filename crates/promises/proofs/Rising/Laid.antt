@@ -11,13 +11,12 @@ use lib.ListN.{set}
 use Rattle.data.proofs.Cases.{by-bool}
 use Rattle.tape.specs.declared.token.Token.{Token}
 use Rattle.tape.specs.declared.token.ScalarKind.{ScalarKind}
-use Rattle.tape.specs.declared.token.ScalarKind.the-variants.{Unquoted, Quoted, Parameter, UndefinedParameter, Header}
 use Rattle.tape.specs.declared.token.ContainerKind.{ContainerKind}
 use Rattle.tape.specs.declared.token.Container.the-variants.{Opened, Nothing}
 use Rattle.tape.specs.declared.token.Standing as Standings
-use Rattle.tape.specs.Token.{array-code, object-code, unquoted-code, end-code, header-code, quoted-code, parameter-code, undefined-parameter-code, mixed-container-token, opener-of, scalar-of, operator-of, end-of, headed, container-of, standing-of}
-use Rattle.tape.specs.Shape.{scalar-named}
+use Rattle.tape.specs.Token.{array-code, object-code, scalar-named, mixed-container-token, opener-of, scalar-of, operator-of, end-of, headed, container-of, standing-of}
 use Rattle.tape.specs.Tape.{before-last}
+use Rattle.tape.proofs.Makers.{scalar-container, unquoted-coded}
 use Rattle.parse.specs.Containers.{nothing-open}
 use Rattle.parse.proofs.Splits.{by-container}
 use Rattle.sheet.specs.Sound.{nth}
@@ -26,12 +25,7 @@ use Rattle.promises.proofs.Rising.Links.{Stands, Linked, link, stands-u
 
 -- ---- tokens
 pub scalar-link : (kind : ScalarKind) (offset size : ℕ) → link (scalar-of kind offset size) ≡ 0
-unfolding container-of
-scalar-link Unquoted offset size = refl
-scalar-link Quoted offset size = refl
-scalar-link Parameter offset size = refl
-scalar-link UndefinedParameter offset size = refl
-scalar-link Header offset size = refl
+scalar-link kind offset size = rw (scalar-container kind offset size)
 
 pub operator-link : (number : ℕ) → link (operator-of number) ≡ 0
 unfolding container-of
@@ -47,28 +41,10 @@ opened-bare t kind to-end mixed e =
     (λ g. rw (eqb-true (t .code) object-code g))
     (λ g. let no : Nothing ≡ Opened kind to-end mixed = rw (container-of, f, g) at e in cc))
 
--- an Unquoted by its standing has its code
-unquoted-is : (t : Token) → standing-of t ≡ Standings.the-variants.Unquoted → t .code ≡ unquoted-code
-unfolding standing-of
-unquoted-is t e =
-    by-bool (eqb (t .code) unquoted-code)
-    (λ f. eqb-true (t .code) unquoted-code f)
-    (λ f. by-bool (eqb (t .code) end-code)
-    (λ g. let no : Standings.the-variants.End ≡ Standings.the-variants.Unquoted = rw (standing-of, f, g) at e in cc)
-    (λ g. by-bool (eqb (t .code) header-code)
-    (λ h. let no : Standings.the-variants.OtherScalar ≡ Standings.the-variants.Unquoted = rw (standing-of, f, g, h) at e in cc)
-    (λ h. by-bool (eqb (t .code) quoted-code)
-    (λ i. let no : Standings.the-variants.OtherScalar ≡ Standings.the-variants.Unquoted = rw (standing-of, f, g, h, i) at e in cc)
-    (λ i. by-bool (eqb (t .code) parameter-code)
-    (λ j. let no : Standings.the-variants.OtherScalar ≡ Standings.the-variants.Unquoted = rw (standing-of, f, g, h, i, j) at e in cc)
-    (λ j. by-bool (eqb (t .code) undefined-parameter-code)
-    (λ k. let no : Standings.the-variants.OtherScalar ≡ Standings.the-variants.Unquoted = rw (standing-of, f, g, h, i, j, k) at e in cc)
-    (λ k. let no : Standings.the-variants.Nothing ≡ Standings.the-variants.Unquoted = rw (standing-of, f, g, h, i, j, k) at e in cc))))))
-
 -- an Unquoted that becomes a Header keeps its view
 pub headed-span : (t : Token) → standing-of t ≡ Standings.the-variants.Unquoted → span-of (headed t) ≡ span-of t
 unfolding span-of scalar-named
-headed-span t e = rw (unquoted-is t e)
+headed-span t e = rw (unquoted-coded t e)
 
 pub headed-link : (t : Token) → link (headed t) ≡ 0
 unfolding container-of

@@ -1,15 +1,15 @@
 -- What a sheet owes of its views, of tokens whose views rise up to the text's end.
 -- Assumes nothing.
-use mathlib.Core.Path.{_≡_, refl}
-use mathlib.Core.Bool.{false}
+use mathlib.Core.Path.{_≡_}
+use mathlib.Core.Bool.{true, false}
 use mathlib.Core.List.{List}
 use Prim.Native.Nat.{ℕ}
 use native.Mathlib.Omega.{arith}
+use Rattle.data.proofs.Cases.{by-bool}
 use Rattle.tape.specs.declared.token.Token.{Token}
-use Rattle.tape.specs.declared.token.ScalarKind.{ScalarKind}
-use Rattle.tape.specs.declared.token.ScalarKind.the-variants.{Unquoted, Quoted, Parameter, UndefinedParameter, Header}
+use Rattle.tape.specs.Token.{may-be-empty}
 use Rattle.sheet.specs.Sound.{Within, Rising, Apart, Filled}
-use Rattle.promises.proofs.Rising.Spans.{is-quoted, spans, Upto, upto-at, upto-spaced}
+use Rattle.promises.proofs.Rising.Spans.{spans, Upto, upto-at, upto-spaced}
 
 -- the sentences of a sheet that speak of its views
 pub record Viewed (text-length : ℕ) (ts : List Token) : Type 0 where
@@ -18,18 +18,12 @@ pub record Viewed (text-length : ℕ) (ts : List Token) : Type 0 where
   pub apart : (i : ℕ) → Apart ts i
   pub filled : (i : ℕ) → Filled ts i
 
-by-quoted : (kind : ScalarKind) → (is-quoted kind ≡ false → ⊥) → kind ≡ Quoted
-by-quoted Unquoted h = absurd (h refl)
-by-quoted Quoted h = refl
-by-quoted Parameter h = absurd (h refl)
-by-quoted UndefinedParameter h = absurd (h refl)
-by-quoted Header h = absurd (h refl)
-
 pub viewed : (text-length : ℕ) (ts : List Token) → Upto 0 (spans ts) text-length → Viewed text-length ts
 viewed L ts u =
     record {
       within = λ i offset size v. upto-at ts 0 L i (v .0) offset size u (v .1) .ends;
       rising = λ i j offset size later more h v w. upto-spaced ts 0 L i j (v .0) (w .0) offset size later more u h (v .1) (w .1) .0;
       apart = λ i j offset size later more h none v w. upto-spaced ts 0 L i j (v .0) (w .0) offset size later more u h (v .1) (w .1) .1;
-      filled = λ i kind offset e. by-quoted kind (λ q. omega (arith, upto-at ts 0 L i kind offset 0 u e .full q));
+      filled = λ i kind offset e.
+          by-bool (may-be-empty kind) (λ t. t) (λ f. absurd (omega (arith, upto-at ts 0 L i kind offset 0 u e .full f)));
     }

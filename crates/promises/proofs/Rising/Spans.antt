@@ -1,6 +1,6 @@
 -- The views of a list of tokens, in their order, and when they rise from a floor to an end.
 -- Assumes nothing.
-use mathlib.Core.Path.{_≡_, refl, sym}
+use mathlib.Core.Path.{_≡_, refl, sym, ap}
 use mathlib.Core.Bool.{Bool, true, false}
 use mathlib.Core.List.{List, [], _∷_, _++_, append-assoc, append-nil}
 use Prim.Native.Nat.{ℕ, zero, suc, _+_, _≤_, _<_}
@@ -8,14 +8,13 @@ use native.Mathlib.Omega.{arith}
 use lib.ListN.{set}
 use Rattle.tape.specs.declared.token.Token.{Token}
 use Rattle.tape.specs.declared.token.ScalarKind.{ScalarKind}
-use Rattle.tape.specs.declared.token.ScalarKind.the-variants.{Unquoted, Quoted, Parameter, UndefinedParameter, Header}
 use Rattle.tape.specs.declared.token.ContainerKind.{ContainerKind}
 use Rattle.tape.specs.declared.token.ContainerKind.the-variants.{Array, Object}
-use Rattle.tape.specs.declared.shape.ScalarNamed.{ScalarNamed}
-use Rattle.tape.specs.declared.shape.ScalarNamed.the-variants.{Kind}
-use Rattle.tape.specs.Token.{no-token, mixed-container-token, opener-of, scalar-of, operator-of, end-of}
-use Rattle.tape.specs.Shape.{scalar-named}
+use Rattle.tape.specs.declared.token.ScalarNamed.{ScalarNamed}
+use Rattle.tape.specs.declared.token.ScalarNamed.the-variants.{Kind}
+use Rattle.tape.specs.Token.{no-token, scalar-named, may-be-empty, mixed-container-token, opener-of, scalar-of, operator-of, end-of}
 use Rattle.tape.specs.Tape.{before-last}
+use Rattle.tape.proofs.Makers.{code-names}
 use Rattle.sheet.specs.Sound.{nth}
 
 -- a scalar's view, and whether it may be empty
@@ -24,15 +23,8 @@ pub record Span : Type 0 where
   pub offset : ℕ
   pub size : ℕ
 
-abbrev pub is-quoted : ScalarKind → Bool
-is-quoted Unquoted = false
-is-quoted Quoted = true
-is-quoted Parameter = false
-is-quoted UndefinedParameter = false
-is-quoted Header = false
-
 abbrev pub span : ScalarKind → ℕ → ℕ → Span
-span kind offset size = record { empty-allowed = is-quoted kind; offset = offset; size = size }
+span kind offset size = record { empty-allowed = may-be-empty kind; offset = offset; size = size }
 
 abbrev pub spans-named : ScalarNamed → ℕ → ℕ → List Span
 spans-named (Kind kind) offset size = span kind offset size ∷ []
@@ -70,12 +62,8 @@ unfolding span-of scalar-named
 none-bare = refl
 
 pub scalar-span : (kind : ScalarKind) (offset size : ℕ) → span-of (scalar-of kind offset size) ≡ span kind offset size ∷ []
-unfolding span-of scalar-named
-scalar-span Unquoted offset size = refl
-scalar-span Quoted offset size = refl
-scalar-span Parameter offset size = refl
-scalar-span UndefinedParameter offset size = refl
-scalar-span Header offset size = refl
+unfolding span-of
+scalar-span kind offset size = ap (λ (named : ScalarNamed). spans-named named offset size) (code-names kind)
 
 -- ---- what the changes of a tape do to its views
 pub spans-add : (ts : List Token) (x : Token) → spans (ts ++ (x ∷ [])) ≡ spans ts ++ span-of x

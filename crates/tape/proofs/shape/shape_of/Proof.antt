@@ -16,10 +16,18 @@ stores-flag-requires : tie.Need-stores-flag-requires
 stores-flag-requires c κs = search needs
 
 returns : tie.Need-returns
-returns c = shape-opened _ (sym (c .before .before .before .before .before .container .ensures) ∙ c .before .before .before .link .given .1) (sym (c .before .stores-flag .ensures) ∙ c .if1 .taken)
+returns c =
+    let opened = c .before .before .before in
+    shape-opened _
+    (sym (opened .before .before .container .ensures) ∙ opened .link .given .1)
+    (sym (c .before .stores-flag .ensures) ∙ c .if1 .taken)
 
 returns-2 : tie.Need-returns-2
-returns-2 c = shape-misflagged _ (sym (c .before .before .before .before .before .container .ensures) ∙ c .before .before .before .link .given .1) (sym (c .before .stores-flag .ensures) ∙ c .if1 .left)
+returns-2 c =
+    let opened = c .before .before .before in
+    shape-misflagged _
+    (sym (opened .before .before .container .ensures) ∙ opened .link .given .1)
+    (sym (c .before .stores-flag .ensures) ∙ c .if1 .left)
 
 enum-told : tie.Need-enum-told
 enum-told c = search needs
@@ -31,7 +39,12 @@ enum-known-kind : tie.Need-enum-known-kind
 enum-known-kind c = search needs
 
 returns-3 : tie.Need-returns-3
-returns-3 c = shape-named _ (sym (c .before .before .before .before .before .before .container .ensures) ∙ c .before .before .before .before .enum-told .given .1) (sym (c .before .before .before .scalar-named .ensures) ∙ c .before .kind .given .1)
+returns-3 c =
+    let named = c .before .before .before in
+    let unopened = named .before in
+    shape-named _
+    (sym (unopened .before .before .container .ensures) ∙ unopened .enum-told .given .1)
+    (sym (named .scalar-named .ensures) ∙ c .before .kind .given .1)
 
 enum-told-2 : tie.Need-enum-told-2
 enum-told-2 c = search needs
@@ -40,10 +53,25 @@ bare-shape-requires : tie.Need-bare-shape-requires
 bare-shape-requires c κs = search needs
 
 returns-4 : tie.Need-returns-4
-returns-4 c = c .bare-shape .ensures ∙ shape-bare _ (sym (c .before .before .before .before .before .before .before .before .container .ensures) ∙ c .before .before .before .before .before .before .enum-told .given .1) (sym (c .before .before .before .before .before .scalar-named .ensures) ∙ c .before .before .before .enum-told2 .given .1) (c .before .if2 .taken)
+returns-4 c =
+    let unnamed = c .before .before .before in
+    let named = unnamed .before .before in
+    let unopened = named .before in
+    c .bare-shape .ensures
+    ∙ shape-bare _
+    (sym (unopened .before .before .container .ensures) ∙ unopened .enum-told .given .1)
+    (sym (named .scalar-named .ensures) ∙ unnamed .enum-told2 .given .1)
+    (c .before .if2 .taken)
 
 returns-5 : tie.Need-returns-5
-returns-5 c = shape-over _ (sym (c .before .before .before .before .before .before .before .container .ensures) ∙ c .before .before .before .before .before .enum-told .given .1) (sym (c .before .before .before .before .scalar-named .ensures) ∙ c .before .before .enum-told2 .given .1) (c .if2 .left)
+returns-5 c =
+    let unnamed = c .before .before in
+    let named = unnamed .before .before in
+    let unopened = named .before in
+    shape-over _
+    (sym (unopened .before .before .container .ensures) ∙ unopened .enum-told .given .1)
+    (sym (named .scalar-named .ensures) ∙ unnamed .enum-told2 .given .1)
+    (c .if2 .left)
 
 pub shape-of-spec : {M : Type 1} → statement M
 shape-of-spec =

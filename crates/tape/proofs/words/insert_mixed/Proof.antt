@@ -17,7 +17,10 @@ same-length : tie.Need-same-length
 same-length c = search needs
 
 returns : tie.Need-returns
-returns c = insert-first _ _ _ (c .before .before .before .before .before .if1 .taken) (c .before .before .before .mixed-container .ensures) (c .before .before .push .ensures .0)
+returns c =
+    let pushed = c .before .before in
+    let made = pushed .before in
+    insert-first _ _ _ (made .before .before .if1 .taken) (made .mixed-container .ensures) (pushed .push .ensures .0)
 
 sub-token : tie.Need-sub-token
 sub-token c = search needs
@@ -47,13 +50,27 @@ put-words-requires-2 : tie.Need-put-words-requires-2
 put-words-requires-2 c κs = search needs
 
 add-t10 : tie.Need-add-t10
-add-t10 c = record { fits = one-more _ _ (sym (c .before .before .before .before .before .before .before .before .before .before .has-room .ensures) ∙ not-false _ (c .before .before .before .before .before .before .before .before .before .if2 .left)) }
+add-t10 c =
+    let asked = c .before .before .before .before .before .before .before .before .before in
+    record { fits = one-more _ _ (sym (asked .before .has-room .ensures) ∙ not-false _ (asked .if2 .left)) }
 
 same-length-3 : tie.Need-same-length-3
 same-length-3 c = search needs
 
 returns-3 : tie.Need-returns-3
-returns-3 c = insert-laid _ _ _ _ (c .before .before .before .before .before .before .before .before .before .before .before .before .before .before .if1 .left) (sym (c .before .before .before .before .before .before .before .before .before .before .has-room .ensures) ∙ not-false _ (c .before .before .before .before .before .before .before .before .before .if2 .left)) (c .before .before .before .before .before .before .before .before .before .before .before .before .token .ensures) (c .before .before .before .before .before .before .before .put-words .ensures) (c .before .before .before .mixed-container2 .ensures) (c .before .before .put-words2 .ensures)
+returns-3 c =
+    let second = c .before .before in
+    let made = second .before in
+    let first = made .before .before .before .before in
+    let asked = first .before .before in
+    let last = asked .before .before .before in
+    insert-laid _ _ _ _
+    (last .before .before .if1 .left)
+    (sym (asked .before .has-room .ensures) ∙ not-false _ (asked .if2 .left))
+    (last .token .ensures)
+    (first .put-words .ensures)
+    (made .mixed-container2 .ensures)
+    (second .put-words2 .ensures)
 
 pub insert-mixed-spec : {M : Type 1} → statement M
 insert-mixed-spec =

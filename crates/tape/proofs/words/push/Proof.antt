@@ -20,13 +20,18 @@ put-words-requires : tie.Need-put-words-requires
 put-words-requires c κs = search needs
 
 add-t11 : tie.Need-add-t11
-add-t11 c = record { fits = one-more _ _ (sym (c .before .before .before .before .before .has-room .ensures) ∙ not-false _ (c .before .before .before .before .if1 .left)) }
+add-t11 c =
+    let asked = c .before .before .before .before in
+    record { fits = one-more _ _ (sym (asked .before .has-room .ensures) ∙ not-false _ (asked .if1 .left)) }
 
 same-length-2 : tie.Need-same-length-2
 same-length-2 c = search needs
 
 returns-2 : tie.Need-returns-2
-returns-2 c = push-laid _ _ _ (sym (c .before .before .before .before .before .has-room .ensures) ∙ not-false _ (c .before .before .before .before .if1 .left)) (c .before .before .put-words .ensures)
+returns-2 c =
+    let written = c .before .before in
+    let asked = written .before .before in
+    push-laid _ _ _ (sym (asked .before .has-room .ensures) ∙ not-false _ (asked .if1 .left)) (written .put-words .ensures)
 
 pub push-spec : {M : Type 1} → statement M
 push-spec =

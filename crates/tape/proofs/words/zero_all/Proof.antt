@@ -37,7 +37,13 @@ loop-less : tie.Need-loop-less Inv-loop μ-loop
 loop-less c = omega arith
 
 loop-again : tie.Need-loop-again Inv-loop μ-loop
-loop-again c = (ap (λ (l : List ℕ). set l (c .before .loop .i) 0) (c .before .loop .inv .0) ∙ fill-more (c .before .loop .i) 0 (c .before .before .args .words .now) (omega arith), simp length-set (omega arith), omega arith)
+loop-again c =
+    let at-loop = c .before in
+    let i = at-loop .loop .i in (
+      ap (λ (l : List ℕ). set l i 0) (at-loop .loop .inv .0) ∙ fill-more i 0 (at-loop .before .args .words .now) (omega arith),
+      simp length-set (omega arith),
+      omega arith,
+    )
 
 same-length : tie.Need-same-length Inv-loop μ-loop
 same-length c = omega arith

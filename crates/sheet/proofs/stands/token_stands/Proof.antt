@@ -1,10 +1,10 @@
--- `sheet::stands::stands` meets its contract: one law for each shape.
+-- `sheet::stands::token_stands` meets its contract: one law for each shape.
 -- Assumes nothing.
 use borrow.Author.Needs.{needs}
 use mathlib.Core.Path.{sym, _∙_}
 use Rattle.sheet.proofs.Tokens.{first-opens, opener-held, mixed-container-held, scalar-held, operator-held, end-held, nothing-held}
-use Rattle.sheet.proofs.stands.stands.Statement.{statement}
-use Rattle.sheet.proofs.stands.stands.Tie as tie
+use Rattle.sheet.proofs.stands.token_stands.Statement.{statement}
+use Rattle.sheet.proofs.stands.token_stands.Tie as tie
 
 enum-known-s : tie.Need-enum-known-s
 enum-known-s c = search needs
@@ -57,8 +57,8 @@ returns-6 c = end-held _ _ _ (sym (c .before .before .before .before .before .pr
 returns-7 : tie.Need-returns-7
 returns-7 c = nothing-held _ _ _ (sym (c .before .before .before .pre .2) ∙ c .enum-told3 .given .1)
 
-pub stands-spec : {M : Type 1} → statement M
-stands-spec =
+pub token-stands-spec : {M : Type 1} → statement M
+token-stands-spec =
     tie.close
     (tie.spec
     enum-known-s

@@ -1,0 +1,179 @@
+-- What each maker makes is read back as what it was made of: its code, as a container, as what stands before another token; and
+-- a token that was changed.
+-- Assumes nothing.
+use mathlib.Core.Path.{_≡_, refl, _∙_, ap}
+use mathlib.Core.Bool.{Bool, true, false, false≢true}
+use Prim.Native.Nat.{ℕ}
+use native.Mathlib.Omega.{arith}
+use borrow.Author.Tests.{eqb-true}
+use lib.Dec.{eqb}
+use Rattle.data.proofs.Cases.{by-bool}
+use Rattle.tape.specs.declared.token.Token.{Token}
+use Rattle.tape.specs.declared.token.ContainerKind.{ContainerKind}
+use Rattle.tape.specs.declared.token.ContainerKind.the-variants.{Array, Object}
+use Rattle.tape.specs.declared.token.ScalarKind.{ScalarKind}
+use Rattle.tape.specs.declared.token.ScalarKind.the-variants.{Unquoted, Quoted, Parameter, UndefinedParameter, Header}
+use Rattle.tape.specs.declared.token.ScalarNamed.{ScalarNamed}
+use Rattle.tape.specs.declared.token.ScalarNamed.the-variants.{Kind}
+use Rattle.tape.specs.declared.token.Container.{Container}
+use Rattle.tape.specs.declared.token.Container.the-variants.{Opened}
+use Rattle.tape.specs.declared.token.Standing as Standings
+use Rattle.tape.specs.Token.{unquoted-code, end-code, header-code, container-code}
+use Rattle.tape.specs.Token.{scalar-code, scalar-named, names-scalar, is-scalar-code, may-be-empty, is-header}
+use Rattle.tape.specs.Token.{relink, relinked, reflag, reflagged, rekind, rekinded}
+use Rattle.tape.specs.Token.{opener-of, end-of, scalar-of, operator-of, mixed-container-token, no-token, container-of, standing-of}
+
+-- ---- the codes of scalars
+-- a kind's code names it
+pub code-names : (kind : ScalarKind) → scalar-named (scalar-code kind) ≡ Kind kind
+unfolding scalar-named
+code-names Unquoted = refl
+code-names Quoted = refl
+code-names Parameter = refl
+code-names UndefinedParameter = refl
+code-names Header = refl
+
+-- so it is a scalar's
+pub scalar-coded : (kind : ScalarKind) → is-scalar-code (scalar-code kind) ≡ true
+scalar-coded kind = ap names-scalar (code-names kind)
+
+-- and no other token has such a code
+pub container-uncoded : (kind : ContainerKind) → is-scalar-code (container-code kind) ≡ false
+unfolding scalar-named
+container-uncoded Array = refl
+container-uncoded Object = refl
+
+pub mixed-container-uncoded : is-scalar-code (mixed-container-token .code) ≡ false
+unfolding scalar-named
+mixed-container-uncoded = refl
+
+pub operator-uncoded : (number : ℕ) → is-scalar-code (operator-of number .code) ≡ false
+unfolding scalar-named
+operator-uncoded number = refl
+
+pub end-uncoded : (opener : ℕ) → is-scalar-code (end-of opener .code) ≡ false
+unfolding scalar-named
+end-uncoded opener = refl
+
+pub none-uncoded : is-scalar-code (no-token .code) ≡ false
+unfolding scalar-named
+none-uncoded = refl
+
+-- so a scalar is none of these
+pub scalar-apart : (kind : ScalarKind) (offset size : ℕ) (t : Token) → is-scalar-code (t .code) ≡ false → t ≡ scalar-of kind offset size → ⊥
+scalar-apart kind offset size t other e = false≢true (sym-coded ∙ scalar-coded kind)
+  where
+    sym-coded : false ≡ is-scalar-code (scalar-code kind)
+    sym-coded = let same : t .code ≡ scalar-code kind = ap (λ (x : Token). x .code) e in cc
+
+-- what may not be empty has a byte: a kind that may, and no Header
+pub header-not-empty : (kind : ScalarKind) → is-header kind ≡ true → may-be-empty kind ≡ false
+header-not-empty Unquoted h = refl
+header-not-empty Quoted h = absurd (false≢true h)
+header-not-empty Parameter h = refl
+header-not-empty UndefinedParameter h = refl
+header-not-empty Header h = refl
+
+-- a kind is a Header where it is told to be one
+pub header-told : (kind : ScalarKind) → is-header kind ≡ true → kind ≡ Header
+header-told Unquoted h = absurd (false≢true h)
+header-told Quoted h = absurd (false≢true h)
+header-told Parameter h = absurd (false≢true h)
+header-told UndefinedParameter h = absurd (false≢true h)
+header-told Header h = refl
+
+-- and its code is a Header's only then
+pub header-coded : (kind : ScalarKind) → scalar-code kind ≡ header-code → is-header kind ≡ true
+header-coded Unquoted e = absurd (omega arith)
+header-coded Quoted e = absurd (omega arith)
+header-coded Parameter e = absurd (omega arith)
+header-coded UndefinedParameter e = absurd (omega arith)
+header-coded Header e = refl
+
+-- ---- as a container
+pub opener-container : (kind : ContainerKind) (link : ℕ) (mixed : Bool) → container-of (opener-of kind link mixed) ≡ Opened kind link mixed
+unfolding container-of
+opener-container Array link true = refl
+opener-container Array link false = refl
+opener-container Object link true = refl
+opener-container Object link false = refl
+
+pub scalar-container : (kind : ScalarKind) (offset size : ℕ) → container-of (scalar-of kind offset size) ≡ Container.Nothing
+unfolding container-of
+scalar-container Unquoted offset size = refl
+scalar-container Quoted offset size = refl
+scalar-container Parameter offset size = refl
+scalar-container UndefinedParameter offset size = refl
+scalar-container Header offset size = refl
+
+-- ---- as what stands before another token
+pub opener-standing : (kind : ContainerKind) (link : ℕ) (mixed : Bool) → standing-of (opener-of kind link mixed) ≡ Standings.the-variants.Nothing
+unfolding standing-of scalar-named
+opener-standing Array link mixed = refl
+opener-standing Object link mixed = refl
+
+pub mixed-container-standing : standing-of mixed-container-token ≡ Standings.the-variants.Nothing
+unfolding standing-of scalar-named
+mixed-container-standing = refl
+
+pub operator-standing : (number : ℕ) → standing-of (operator-of number) ≡ Standings.the-variants.Nothing
+unfolding standing-of scalar-named
+operator-standing number = refl
+
+pub end-standing : (opener : ℕ) → standing-of (end-of opener) ≡ Standings.the-variants.End
+unfolding standing-of scalar-named
+end-standing opener = refl
+
+pub none-standing : standing-of no-token ≡ Standings.the-variants.Nothing
+unfolding standing-of scalar-named
+none-standing = refl
+
+-- an Unquoted by its standing has its code
+pub unquoted-coded : (t : Token) → standing-of t ≡ Standings.the-variants.Unquoted → t .code ≡ unquoted-code
+unfolding standing-of
+unquoted-coded t e =
+    by-bool (eqb (t .code) unquoted-code)
+    (λ f. eqb-true (t .code) unquoted-code f)
+    (λ f. by-bool (is-scalar-code (t .code))
+    (λ g. let no : Standings.the-variants.OtherScalar ≡ Standings.the-variants.Unquoted = rw (standing-of, f, g) at e in cc)
+    (λ g. by-bool (eqb (t .code) end-code)
+    (λ h. let no : Standings.the-variants.End ≡ Standings.the-variants.Unquoted = rw (standing-of, f, g, h) at e in cc)
+    (λ h. let no : Standings.the-variants.Nothing ≡ Standings.the-variants.Unquoted = rw (standing-of, f, g, h) at e in cc)))
+
+-- ---- the same opener with another link, flag or kind
+module _ (kind : ContainerKind) (link : ℕ) (mixed : Bool) where
+  pub relinked-opener : (other : ℕ) → relinked (opener-of kind link mixed) other ≡ opener-of kind other mixed
+  unfolding relinked
+  relinked-opener other = rw (relinked, opener-container kind link mixed)
+
+  pub reflagged-opener : (other : Bool) → reflagged (opener-of kind link mixed) other ≡ opener-of kind link other
+  unfolding reflagged
+  reflagged-opener other = rw (reflagged, opener-container kind link mixed)
+
+  pub rekinded-opener : (other : ContainerKind) → rekinded (opener-of kind link mixed) other ≡ opener-of other link mixed
+  unfolding rekinded
+  rekinded-opener other = rw (rekinded, opener-container kind link mixed)
+
+  -- of any token that is read as such an opener
+  module _ (t : Token) (e : container-of t ≡ Opened kind link mixed) where
+    pub relinked-read : (other : ℕ) → relinked t other ≡ opener-of kind other mixed
+    unfolding relinked
+    relinked-read other = rw (relinked, e)
+
+    pub reflagged-read : (other : Bool) → reflagged t other ≡ opener-of kind link other
+    unfolding reflagged
+    reflagged-read other = rw (reflagged, e)
+
+    pub rekinded-read : (other : ContainerKind) → rekinded t other ≡ opener-of other link mixed
+    unfolding rekinded
+    rekinded-read other = rw (rekinded, e)
+
+    -- it is told back with what was changed
+    pub relinked-container : (other : ℕ) → container-of (relinked t other) ≡ Opened kind other mixed
+    relinked-container other = ap container-of (relinked-read other) ∙ opener-container kind other mixed
+
+    pub reflagged-container : (other : Bool) → container-of (reflagged t other) ≡ Opened kind link other
+    reflagged-container other = ap container-of (reflagged-read other) ∙ opener-container kind link other
+
+    pub rekinded-container : (other : ContainerKind) → container-of (rekinded t other) ≡ Opened other link mixed
+    rekinded-container other = ap container-of (rekinded-read other) ∙ opener-container other link mixed
