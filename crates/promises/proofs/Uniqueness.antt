@@ -307,8 +307,8 @@ pub record Sheet : Type 0 where
   pub code : One-result code.Post
   pub link : One-result link.Post
   pub view-of : One-result view-of.Post
-  -- the part's bytes; where they stand is the text's affair
-  pub view : (κs : _) (args : _) (r s : _) (xs ys : _) → view.Post κs args r xs → view.Post κs args s ys → r .now ≡ s .now
+  -- the part by its bytes and its place: what is left is a name that no program sees
+  pub view : (κs : _) (args : _) (r s : _) (xs ys : _) → view.Post κs args r xs → view.Post κs args s ys → (r .now ≡ s .now) × (r .ptr ≡ s .ptr)
 
 pub sheet-calls : Sheet
 sheet-calls =
@@ -318,7 +318,7 @@ sheet-calls =
       code = by-definition _ _;
       link = by-definition _ _;
       view-of = by-definition _ _;
-      view = λ κs args r s xs ys p q. p ∙ sym q;
+      view = λ κs args r s xs ys p q. (p .0 ∙ sym (q .0), p .1 ∙ sym (q .1));
     }
 
 pub record Report : Type 0 where

@@ -31,7 +31,8 @@ pub told-equal : (a b : ℕ) {P : Type 0} → (a ≡ b → P) → (P → a ≡ b
 told-equal a b yes-case back = (λ e. yes-case (eqb-true a b e), λ p. eq-eqb a b (back p))
 
 -- ---- the link that was read is that of the token
-pub read-link : (ws : List ℕ) (n i : ℕ) {t : Token} {r l : Link} → t ≡ token-in ws n i → r ≡ link-of t → r ≡ l → link-of (nth (tokens-in ws n) i) ≡ l
+pub read-link : (ws : List ℕ) (n i : ℕ) {t : Token} {r l : Link} → t ≡ token-in ws n i → r ≡ link-of t → r ≡ l
+    → link-of (nth (tokens-in ws n) i) ≡ l
 unfolding token-in
 read-link ws n i e f g = ap link-of (sym e) ∙ sym f ∙ g
 

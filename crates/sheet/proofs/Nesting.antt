@@ -74,7 +74,8 @@ module _ (ts : List Token) (i end : ℕ) (w : Walkable ts i end) where
           short = λ n. let q = n i end at inner (w .opener) (c .past) before o in omega arith;
         }
       where
-        over : (j f : ℕ) → i < j → j < inner + 1 → Opens (nth ts j) f → at < inner → nth ts inner ≡ end-of at → Opens (nth ts at) inner → f < inner + 1
+        over : (j f : ℕ) → i < j → j < inner + 1 → Opens (nth ts j) f → at < inner → nth ts inner ≡ end-of at → Opens (nth ts at) inner
+            → f < inner + 1
         over j f h k p later names o =
             by-order j at
             (λ l. let q = c .behind j f h l p in omega arith)

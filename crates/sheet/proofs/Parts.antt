@@ -4,6 +4,7 @@ use mathlib.Core.Path.{_≡_, refl, sym, _∙_, ap}
 use mathlib.Core.Bool.{Bool, true, false}
 use mathlib.Core.List.{List, []}
 use Prim.Native.Nat.{ℕ, _+_, _-_, _≤_, _<_}
+use native.Mathlib.Nat.{add-comm}
 use native.Mathlib.Omega.{arith}
 use borrow.Author.Tests.{lt-ltb, le-ltb, ltb-false}
 use lib.Dec.{leb, ltb}
@@ -16,7 +17,7 @@ use Rattle.tape.specs.Shape.{shape-of}
 use Rattle.tape.specs.Words.{words-for, token-in}
 use Rattle.sheet.specs.declared.views.Viewed.{Viewed}
 use Rattle.sheet.specs.declared.views.Viewed.the-variants.{At, NoScalar}
-use Rattle.sheet.specs.Views.{past-text, placed, viewed, part-of}
+use Rattle.sheet.specs.Views.{past-text, placed, viewed, part-of, place-of}
 
 refused-not : {r : Viewed} {offset size : ℕ} → r ≡ NoScalar → r ≡ At offset size → ⊥
 refused-not e f = let z : _≡_ {A = ℕ} 0 1 = cc in omega arith
@@ -50,9 +51,12 @@ module _ (L : ℕ) (ws : List ℕ) (n i : ℕ) where
   unfolding viewed
   view-short h e f = rw (viewed, lt-ltb i n h, sym e ∙ f)
 
-  pub view-placed : {r : Bool} {t : Token} {s : Shape} → i < n → r ≡ leb (words-for n) (length ws) → r ≡ true → t ≡ token-in ws n i → s ≡ shape-of t → placed L s ≡ viewed L ws n i
+  pub view-placed : {r : Bool} {t : Token} {s : Shape} → i < n → r ≡ leb (words-for n) (length ws) → r ≡ true
+      → t ≡ token-in ws n i → s ≡ shape-of t → placed L s ≡ viewed L ws n i
   unfolding viewed
-  view-placed h e f g k = rw (viewed, lt-ltb i n h, sym e ∙ f) (ap (λ (x : Shape). placed L x) k ∙ ap (λ (x : Token). placed L (shape-of x)) g)
+  view-placed h e f g k =
+      rw (viewed, lt-ltb i n h, sym e ∙ f)
+      (ap (λ (x : Shape). placed L x) k ∙ ap (λ (x : Token). placed L (shape-of x)) g)
 
   -- ---- it lies in the text
   pub viewed-within : {offset size : ℕ} → viewed L ws n i ≡ At offset size → offset + size ≤ L
@@ -64,11 +68,13 @@ module _ (L : ℕ) (ws : List ℕ) (n i : ℕ) where
       (λ f. absurd (refused-not {r = viewed L ws n i} (rw (viewed, t, f)) e)))
       (λ t. absurd (refused-not {r = viewed L ws n i} (rw (viewed, t)) e))
 
--- ---- the part that an answer names
-pub part-here : (text : List ℕ) {r : Viewed} {offset size : ℕ} → r ≡ At offset size → take (offset + size - offset) (drop offset text) ≡ part-of text r
-part-here text {r} {offset} {size} e =
-    let whole : offset + size - offset ≡ size = omega arith in
-    rw (e, whole)
+-- ---- the part that an answer names, by its bytes and by its place
+module _ (text : List ℕ) (start : ℕ × ℕ) where
+  pub part-here : {r : Viewed} {offset size : ℕ} → r ≡ At offset size
+      → (take (offset + size - offset) (drop offset text) ≡ part-of text r) × ((start .0, offset + start .1) ≡ place-of start r)
+  part-here {r} {offset} {size} e =
+      let whole : offset + size - offset ≡ size = omega arith in
+      (rw (e, whole), rw e (ap (λ (n : ℕ). (start .0, n)) (add-comm offset (start .1))))
 
-pub part-none : (text : List ℕ) {r : Viewed} → r ≡ NoScalar → [] ≡ part-of text r
-part-none text e = rw e
+  pub part-none : {r : Viewed} → r ≡ NoScalar → ([] ≡ part-of text r) × (start ≡ place-of start r)
+  part-none e = (rw e, rw e)

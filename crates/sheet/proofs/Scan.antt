@@ -97,7 +97,8 @@ scanned-all L ts s h = record { held = λ i k. s .held i (omega arith); spaced =
 -- ---- one token more
 module _ (L : ℕ) (ts : List Token) (j floor : ℕ) (before : Scanned L ts j floor) where
   -- a scalar that starts at the floor or over it
-  scalar-more : (kind : ScalarKind) (offset size : ℕ) → shape-of (nth ts j) ≡ Scalar kind offset size → floor ≤ offset → Held L ts j → Scanned L ts (j + 1) (past offset size)
+  scalar-more : (kind : ScalarKind) (offset size : ℕ) → shape-of (nth ts j) ≡ Scalar kind offset size → floor ≤ offset → Held L ts j
+      → Scanned L ts (j + 1) (past offset size)
   scalar-more kind offset size e h here =
       record {
         held = below-more (Held L ts) j (before .held) here;
@@ -132,13 +133,16 @@ module _ (L : ℕ) (ts : List Token) (j floor : ℕ) (before : Scanned L ts j fl
       later (inl z) = inl z
       later (inr f) = inr (f .0, f .1, f .2, omega (arith, f .3), f .4, f .5)
 
-  by-floor : {next : ℕ} → ScalarOr (shape-of (nth ts j)) → Held L ts j → floor-after (shape-of (nth ts j)) floor ≡ At next → Scanned L ts (j + 1) next
+  by-floor : {next : ℕ} → ScalarOr (shape-of (nth ts j)) → Held L ts j → floor-after (shape-of (nth ts j)) floor ≡ At next
+      → Scanned L ts (j + 1) next
   unfolding floor-after
   by-floor {next} (inl (kind, offset, size, e)) here f =
       let g : floor-after (Scalar kind offset size) floor ≡ At next = ap (λ (s : Shape). floor-after s floor) (sym e) ∙ f in
       by-bool (ltb offset floor)
       (λ t. absurd (not-passed g (rw (floor-after, t))))
-      (λ t. subst (λ (k : ℕ). Scanned L ts (j + 1) k) (same-floor {f = floor-after (Scalar kind offset size) floor} (rw (floor-after, t)) g) (scalar-more kind offset size e (ltb-false _ _ t) here))
+      (λ t.
+      let same : past offset size ≡ next = same-floor {f = floor-after (Scalar kind offset size) floor} (rw (floor-after, t)) g in
+      subst (λ (k : ℕ). Scanned L ts (j + 1) k) same (scalar-more kind offset size e (ltb-false _ _ t) here))
   by-floor {next} (inr n) here f = subst (λ (k : ℕ). Scanned L ts (j + 1) k) (same-floor (floor-kept (shape-of (nth ts j)) floor n) f) (other-more n here)
 
   pub scanned-more : {next : ℕ} → Held L ts j → floor-after (shape-of (nth ts j)) floor ≡ At next → Scanned L ts (j + 1) next
@@ -164,7 +168,8 @@ module _ (L : ℕ) (ts : List Token) (j floor : ℕ) (before : Scanned L ts j fl
   scanned-passed f s = by-passed (scalar-or (shape-of (nth ts j))) f s
 
 -- ---- what the look from the first on answers, over words
-pub read-floor : (t : Token) {s : Shape} {r f : Floor} (floor : ℕ) → s ≡ shape-of t → r ≡ floor-after s floor → r ≡ f → floor-after (shape-of t) floor ≡ f
+pub read-floor : (t : Token) {s : Shape} {r f : Floor} (floor : ℕ) → s ≡ shape-of t → r ≡ floor-after s floor → r ≡ f
+    → floor-after (shape-of t) floor ≡ f
 read-floor t floor e g h = ap (λ (x : Shape). floor-after x floor) (sym e) ∙ sym g ∙ h
 
 module _ (L : ℕ) (ws : List ℕ) (n : ℕ) (fits : words-for n ≤ length ws) where
@@ -173,9 +178,12 @@ module _ (L : ℕ) (ws : List ℕ) (n : ℕ) (fits : words-for n ≤ length ws) 
   stand-all {j} s h = told-yes (scanned-all L (tokens-in ws n) s (omega (arith, tokens-counted ws n fits)))
 
   -- no at a token that does not hold
-  pub stand-unheld : (j : ℕ) {r : Bool} → j < n → (r ≡ true) ↔ Held L (tokens-in ws n) j → r ≡ false → (false ≡ true) ↔ AllStand L (tokens-in ws n)
+  pub stand-unheld : (j : ℕ) {r : Bool} → j < n → (r ≡ true) ↔ Held L (tokens-in ws n) j → r ≡ false
+      → (false ≡ true) ↔ AllStand L (tokens-in ws n)
   stand-unheld j h t f = told-no (λ s. false≢true (sym f ∙ t .1 (s .held j (omega (arith, tokens-counted ws n fits)))))
 
   -- no at a view that starts too early
-  pub stand-passed : (j : ℕ) {floor : ℕ} → j < n → Scanned L (tokens-in ws n) j floor → floor-after (shape-of (nth (tokens-in ws n) j)) floor ≡ Passed → (false ≡ true) ↔ AllStand L (tokens-in ws n)
-  stand-passed j {floor} h before f = told-no (λ s. scanned-passed L (tokens-in ws n) j floor before f (s .spaced j (omega (arith, tokens-counted ws n fits))))
+  pub stand-passed : (j : ℕ) {floor : ℕ} → j < n → Scanned L (tokens-in ws n) j floor
+      → floor-after (shape-of (nth (tokens-in ws n) j)) floor ≡ Passed → (false ≡ true) ↔ AllStand L (tokens-in ws n)
+  stand-passed j {floor} h before f =
+      told-no (λ s. scanned-passed L (tokens-in ws n) j floor before f (s .spaced j (omega (arith, tokens-counted ws n fits))))

@@ -109,7 +109,9 @@ module _ (L : ℕ) (ts : List Token) (i : ℕ) where
   held-opener {end} e n c =
       record {
         form = container end (shape-made (nth ts i) e);
-        closed = λ other o. subst (λ (k : ℕ). (i < k) × (k < length ts) × (nth ts k ≡ end-of i)) (one-end (nth ts i) (shape-made (nth ts i) e) o) (c .0, end-in ts end (c .1), c .1);
+        closed = λ other o.
+            subst (λ (k : ℕ). (i < k) × (k < length ts) × (nth ts k ≡ end-of i)) (one-end (nth ts i) (shape-made (nth ts i) e) o)
+            (c .0, end-in ts end (c .1), c .1);
         opened = λ opener q. absurd (ends-not (nth ts i) e tt q);
         within = λ offset size v. absurd (views-not (nth ts i) e tt v);
         filled = λ kind offset q. absurd (views-not (nth ts i) e tt (kind, q));
@@ -132,7 +134,8 @@ module _ (L : ℕ) (ts : List Token) (i : ℕ) where
       same-opener : {a b : ℕ} → End a ≡ End b → a ≡ b
       same-opener q = cc
 
-  held-scalar : {kind : ScalarKind} {offset size : ℕ} → shape-of (nth ts i) ≡ Scalar kind offset size → Suited L ts (i + 1) kind offset size → Held L ts i
+  held-scalar : {kind : ScalarKind} {offset size : ℕ} → shape-of (nth ts i) ≡ Scalar kind offset size → Suited L ts (i + 1) kind offset size
+      → Held L ts i
   held-scalar {kind} {offset} {size} e c =
       record {
         form = scalar offset size (kind, shape-made (nth ts i) e);
@@ -175,7 +178,8 @@ module _ (L : ℕ) (ts : List Token) (i : ℕ) where
   pub first-opens : {end : ℕ} → shape-of (nth ts i) ≡ Opener end → i ≡ 0 → (false ≡ true) ↔ Held L ts i
   first-opens {end} e z = told-no (λ h. h .top z end (shape-made (nth ts i) e))
 
-  pub opener-held : {r : Bool} {end : ℕ} → shape-of (nth ts i) ≡ Opener end → (i ≡ 0 → ⊥) → (r ≡ true) ↔ ((i < end) × (nth ts end ≡ end-of i)) → (r ≡ true) ↔ Held L ts i
+  pub opener-held : {r : Bool} {end : ℕ} → shape-of (nth ts i) ≡ Opener end → (i ≡ 0 → ⊥)
+      → (r ≡ true) ↔ ((i < end) × (nth ts end ≡ end-of i)) → (r ≡ true) ↔ Held L ts i
   opener-held {r} {end} e n c =
       told-through c
       (held-opener e n)
@@ -189,10 +193,12 @@ module _ (L : ℕ) (ts : List Token) (i : ℕ) where
       let m = shape-made (nth ts i) e in
       told-yes (held-plain e (operator number (m .0) (m .1) (m .2)) tt tt tt)
 
-  pub end-held : {r : Bool} {opener : ℕ} → shape-of (nth ts i) ≡ End opener → (r ≡ true) ↔ ((opener < i) × Opens (nth ts opener) i) → (r ≡ true) ↔ Held L ts i
+  pub end-held : {r : Bool} {opener : ℕ} → shape-of (nth ts i) ≡ End opener → (r ≡ true) ↔ ((opener < i) × Opens (nth ts opener) i)
+      → (r ≡ true) ↔ Held L ts i
   end-held {r} {opener} e c = told-through c (held-end e) (λ h. h .opened opener (shape-made (nth ts i) e))
 
-  pub scalar-held : {r : Bool} {kind : ScalarKind} {offset size : ℕ} → shape-of (nth ts i) ≡ Scalar kind offset size → (r ≡ true) ↔ Suited L ts (i + 1) kind offset size → (r ≡ true) ↔ Held L ts i
+  pub scalar-held : {r : Bool} {kind : ScalarKind} {offset size : ℕ} → shape-of (nth ts i) ≡ Scalar kind offset size
+      → (r ≡ true) ↔ Suited L ts (i + 1) kind offset size → (r ≡ true) ↔ Held L ts i
   scalar-held {r} {kind} {offset} {size} e c =
       told-through c
       (held-scalar e)
@@ -208,7 +214,8 @@ module _ (L : ℕ) (ts : List Token) (i : ℕ) where
   nothing-held e = told-no (λ h. formless (nth ts i) e (h .form))
 
 -- ---- whether a scalar may be as long as it is
-pub fills-empty : {r : Bool} (kind : ScalarKind) {size : ℕ} → size ≡ 0 → r ≡ may-be-empty kind → (r ≡ true) ↔ (size ≡ 0 → may-be-empty kind ≡ true)
+pub fills-empty : {r : Bool} (kind : ScalarKind) {size : ℕ} → size ≡ 0 → r ≡ may-be-empty kind
+    → (r ≡ true) ↔ (size ≡ 0 → may-be-empty kind ≡ true)
 fills-empty kind z e = (λ t n. sym e ∙ t, λ f. e ∙ f z)
 
 pub fills-some : (kind : ScalarKind) {size : ℕ} → (size ≡ 0 → ⊥) → (true ≡ true) ↔ (size ≡ 0 → may-be-empty kind ≡ true)

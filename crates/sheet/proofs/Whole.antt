@@ -97,5 +97,7 @@ module _ (L : ℕ) (ws : List ℕ) (n : ℕ) where
   pub check-fallen : {r : Bool} → (r ≡ true) ↔ AllStand L (tokens-in ws n) → r ≡ false → (false ≡ true) ↔ Sound L ws n
   check-fallen t f = told-no (λ s. false≢true (sym f ∙ t .1 (sheet-standing L (tokens-in ws n) (s .tokens))))
 
-  pub check-nested : {r : Bool} → words-for n ≤ length ws → AllStand L (tokens-in ws n) → (r ≡ true) ↔ ((i : ℕ) → Nested (tokens-in ws n) i) → (r ≡ true) ↔ Sound L ws n
-  check-nested fits stand t = told-through t (λ nest. record { fits = fits; tokens = standing-sheet L (tokens-in ws n) stand nest }) (λ s. s .tokens .nested)
+  pub check-nested : {r : Bool} → words-for n ≤ length ws → AllStand L (tokens-in ws n)
+      → (r ≡ true) ↔ ((i : ℕ) → Nested (tokens-in ws n) i) → (r ≡ true) ↔ Sound L ws n
+  check-nested fits stand t =
+      told-through t (λ nest. record { fits = fits; tokens = standing-sheet L (tokens-in ws n) stand nest }) (λ s. s .tokens .nested)

@@ -1,3 +1,4 @@
 pub mod Sound
 pub mod Steps
 pub mod Views
+pub mod Laws

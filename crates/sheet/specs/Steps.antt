@@ -27,7 +27,9 @@ pub record Held (text-length : ℕ) (ts : List Token) (i : ℕ) : Type 0 where
 
 -- any later scalar starts later, and past the end of any before it
 abbrev pub Spaced : List Token → ℕ → Type 0
-Spaced ts j = (i offset size later more : ℕ) → i < j → Views (nth ts i) offset size → Views (nth ts j) later more → (offset < later) × (offset + size ≤ later)
+Spaced ts j =
+    (i offset size later more : ℕ) → i < j → Views (nth ts i) offset size → Views (nth ts j) later more
+    → (offset < later) × (offset + size ≤ later)
 
 -- all but the nesting
 pub record AllStand (text-length : ℕ) (ts : List Token) : Type 0 where

@@ -18,6 +18,11 @@ abbrev pub refusal-of : Viewed → ℕ
 refusal-of (At offset size) = 0
 refusal-of NoScalar = 12
 
+-- and its place, 0 for the refusal and where there is none
+abbrev pub refusal-place : Viewed → ℕ
+refusal-place (At offset size) = 0
+refusal-place NoScalar = 0
+
 -- a token's code, 0 where there is no token
 unfoldable pub code-in : List ℕ → ℕ → ℕ → ℕ
 code-in words count i = token-in words count i .code
@@ -61,3 +66,8 @@ viewed text-length words count i =
 abbrev pub part-of : List ℕ → Viewed → List ℕ
 part-of text (At offset size) = take size (drop offset text)
 part-of text NoScalar = []
+
+-- where that part lies, in a text that starts at a place: so many bytes behind the start, at the start for the refusal
+abbrev pub place-of : ℕ × ℕ → Viewed → ℕ × ℕ
+place-of start (At offset size) = (start .0, start .1 + offset)
+place-of start NoScalar = start

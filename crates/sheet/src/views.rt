@@ -6,7 +6,7 @@ use tape::shape::Shape;
 use tape::words;
 ghost use mathlib.Core.Path.{_≡_};
 ghost use lib.ListN.{length};
-ghost use Rattle.sheet.specs.Views.{refusal-of, code-in, link-in, placed, viewed, part-of};
+ghost use Rattle.sheet.specs.Views.{refusal-of, code-in, link-in, placed, viewed, part-of, place-of};
 
 // Where a token's view lies, or refusal 12.
 pub enum Viewed {
@@ -91,9 +91,10 @@ pub fn view_of(text: &[u8], words: &[u32], count: usize, index: usize) -> Viewed
     )
 }
 
-// The part of the text that token `index` views, empty where `view_of` refuses.
+// The part of the text that token `index` views, empty and at the text's start where `view_of` refuses: its bytes, and where it lies.
 pub fn view<'a, 'b>(text: &'a [u8], words: &'b [u32], count: usize, index: usize) -> &'a [u8]
-    ensures { λ r. ⌜ now r ≡ part-of (now (text .entry)) (viewed (length (now (text .entry))) (now (words .entry)) count index) ⌝ }
+    ensures bytes { λ r. ⌜ now r ≡ part-of (now (text .entry)) (viewed (length (now (text .entry))) (now (words .entry)) count index) ⌝ }
+    ensures place { λ r. ⌜ r .ptr ≡ place-of (text .entry .ptr) (viewed (length (now (text .entry))) (now (words .entry)) count index) ⌝ }
 {
     match view_of(text, words, count, index) {
         Viewed::At { offset, length } => {

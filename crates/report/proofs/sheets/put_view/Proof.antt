@@ -63,7 +63,7 @@ returns c =
     (chain _ _ _ _
     (chain _ _ _ _ (at-put-bytes .put-bytes .ensures) (at-put-hex-bytes .put-hex-bytes .ensures))
     (at-put-byte .put-byte .ensures))
-    (view-shown _ _ _ _ _ _ (at-view-of .view-of .ensures) (at-told .enum-told .given .1) (at-view .view .ensures))
+    (view-shown _ _ _ _ _ _ (at-view-of .view-of .ensures) (at-told .enum-told .given .1) (at-view .view .ensures .0))
 
 same-length-2 : tie.Need-same-length-2
 same-length-2 c = search needs

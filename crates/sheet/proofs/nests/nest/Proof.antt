@@ -34,7 +34,12 @@ cast-walk : tie.Need-cast-walk Inv-loop μ-loop
 cast-walk c = search needs
 
 walk-requires : tie.Need-walk-requires Inv-loop μ-loop
-walk-requires c κs = walkable _ _ (c .before .before .before .before .before .loop-test .taken) (c .before .before .before .before .before .before .loop .inv) (c .before .before .before .before .before .before .before .before .pre) (read-link _ _ _ (c .before .before .before .before .token-of .ensures) (c .before .before .before .link-of .ensures) (c .before .end .given .1))
+walk-requires c κs =
+    let linked = c .before .before .before in
+    let in-loop = linked .before .before in
+    let at-loop = in-loop .before in
+    walkable _ _ (in-loop .loop-test .taken) (at-loop .loop .inv) (at-loop .before .before .pre)
+    (read-link _ _ _ (linked .before .token-of .ensures) (linked .link-of .ensures) (c .before .end .given .1))
 
 returns : tie.Need-returns Inv-loop μ-loop
 returns c = nested-not _ _ (c .before .walk .ensures) (not-true _ (c .if1 .taken))
@@ -43,7 +48,9 @@ loop-less : tie.Need-loop-less Inv-loop μ-loop
 loop-less c = omega arith
 
 loop-again : tie.Need-loop-again Inv-loop μ-loop
-loop-again c = nested-more _ _ (c .before .before .before .before .before .before .before .loop-test .taken) (c .before .before .before .before .before .before .before .before .loop .inv) (c .before .walk .ensures .nests (not-false _ (c .if1 .left)))
+loop-again c =
+    let in-loop = c .before .before .before .before .before .before .before in
+    nested-more _ _ (in-loop .loop-test .taken) (in-loop .before .loop .inv) (c .before .walk .ensures .nests (not-false _ (c .if1 .left)))
 
 enum-told : tie.Need-enum-told Inv-loop μ-loop
 enum-told c = search needs
@@ -52,7 +59,11 @@ loop-less-2 : tie.Need-loop-less-2 Inv-loop μ-loop
 loop-less-2 c = omega arith
 
 loop-again-2 : tie.Need-loop-again-2 Inv-loop μ-loop
-loop-again-2 c = nested-end _ _ (c .before .before .before .before .loop-test .taken) (c .before .before .before .before .before .loop .inv) (read-link _ _ _ (c .before .before .before .token-of .ensures) (c .before .before .link-of .ensures) (c .enum-told .given .1))
+loop-again-2 c =
+    let linked = c .before .before in
+    let in-loop = linked .before .before in
+    nested-end _ _ (in-loop .loop-test .taken) (in-loop .before .loop .inv)
+    (read-link _ _ _ (linked .before .token-of .ensures) (linked .link-of .ensures) (c .enum-told .given .1))
 
 enum-told-2 : tie.Need-enum-told-2 Inv-loop μ-loop
 enum-told-2 c = search needs
@@ -61,7 +72,11 @@ loop-less-3 : tie.Need-loop-less-3 Inv-loop μ-loop
 loop-less-3 c = omega arith
 
 loop-again-3 : tie.Need-loop-again-3 Inv-loop μ-loop
-loop-again-3 c = nested-none _ _ (c .before .before .before .before .loop-test .taken) (c .before .before .before .before .before .loop .inv) (read-link _ _ _ (c .before .before .before .token-of .ensures) (c .before .before .link-of .ensures) (c .enum-told2 .given .1))
+loop-again-3 c =
+    let linked = c .before .before in
+    let in-loop = linked .before .before in
+    nested-none _ _ (in-loop .loop-test .taken) (in-loop .before .loop .inv)
+    (read-link _ _ _ (linked .before .token-of .ensures) (linked .link-of .ensures) (c .enum-told2 .given .1))
 
 returns-2 : tie.Need-returns-2 Inv-loop μ-loop
 returns-2 c = nested-all _ (c .before .loop .inv) (c .loop-test .left)

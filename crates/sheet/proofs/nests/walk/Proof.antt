@@ -37,16 +37,31 @@ add-at-2 : tie.Need-add-at-2 Inv-loop μ-loop
 add-at-2 c = search needs
 
 loop-less : tie.Need-loop-less Inv-loop μ-loop
-loop-less c = let h = jump-ahead _ _ _ (c .before .before .before .before .before .before .before .before .pre) _ (read-link _ _ _ (c .before .before .before .before .token-of .ensures) (c .before .before .before .link-of .ensures) (c .before .inner .given .1)) in omega arith
+loop-less c =
+    let linked = c .before .before .before in
+    let at-loop = linked .before .before .before in
+    let link = read-link _ _ _ (linked .before .token-of .ensures) (linked .link-of .ensures) (c .before .inner .given .1) in
+    let h = jump-ahead _ _ _ (at-loop .before .before .pre) _ link in
+    omega arith
 
 loop-again : tie.Need-loop-again Inv-loop μ-loop
-loop-again c = come-over _ _ _ (c .before .before .before .before .before .before .before .before .pre) _ (c .before .before .before .before .before .before .loop .inv) (c .before .before .before .before .before .loop-test .taken) (read-link _ _ _ (c .before .before .before .before .token-of .ensures) (c .before .before .before .link-of .ensures) (c .before .inner .given .1))
+loop-again c =
+    let linked = c .before .before .before in
+    let in-loop = linked .before .before in
+    let at-loop = in-loop .before in
+    come-over _ _ _ (at-loop .before .before .pre) _ (at-loop .loop .inv) (in-loop .loop-test .taken)
+    (read-link _ _ _ (linked .before .token-of .ensures) (linked .link-of .ensures) (c .before .inner .given .1))
 
 enum-told : tie.Need-enum-told Inv-loop μ-loop
 enum-told c = search needs
 
 returns : tie.Need-returns Inv-loop μ-loop
-returns c = come-crossed _ _ _ (c .before .before .before .before .before .before .before .pre) _ (c .before .before .before .before .before .loop .inv) (c .before .before .before .before .loop-test .taken) (read-link _ _ _ (c .before .before .before .token-of .ensures) (c .before .before .link-of .ensures) (c .enum-told .given .1))
+returns c =
+    let linked = c .before .before in
+    let in-loop = linked .before .before in
+    let at-loop = in-loop .before in
+    come-crossed _ _ _ (at-loop .before .before .pre) _ (at-loop .loop .inv) (in-loop .loop-test .taken)
+    (read-link _ _ _ (linked .before .token-of .ensures) (linked .link-of .ensures) (c .enum-told .given .1))
 
 enum-told-2 : tie.Need-enum-told-2 Inv-loop μ-loop
 enum-told-2 c = search needs
@@ -58,7 +73,12 @@ loop-less-2 : tie.Need-loop-less-2 Inv-loop μ-loop
 loop-less-2 c = omega arith
 
 loop-again-2 : tie.Need-loop-again-2 Inv-loop μ-loop
-loop-again-2 c = come-on _ _ _ (c .before .before .before .before .before .before .before .pre) _ (c .before .before .before .before .before .loop .inv) (c .before .before .before .before .loop-test .taken) (read-link _ _ _ (c .before .before .before .token-of .ensures) (c .before .before .link-of .ensures) (c .enum-told2 .given .1))
+loop-again-2 c =
+    let linked = c .before .before in
+    let in-loop = linked .before .before in
+    let at-loop = in-loop .before in
+    come-on _ _ _ (at-loop .before .before .pre) _ (at-loop .loop .inv) (in-loop .loop-test .taken)
+    (read-link _ _ _ (linked .before .token-of .ensures) (linked .link-of .ensures) (c .enum-told2 .given .1))
 
 returns-2 : tie.Need-returns-2 Inv-loop μ-loop
 returns-2 c = come-out _ _ _ (c .before .before .before .pre) _ (c .before .loop .inv) (c .loop-test .left)

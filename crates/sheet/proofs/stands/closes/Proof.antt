@@ -27,13 +27,20 @@ enum-told-2 : tie.Need-enum-told-2
 enum-told-2 c = search needs
 
 returns-2 : tie.Need-returns-2
-returns-2 c = closes-opener _ _ _ (read-link _ _ _ (c .before .before .before .token-of .ensures) (c .before .before .link-of .ensures) (c .enum-told .given .1))
+returns-2 c =
+    let linked = c .before .before in
+    closes-opener _ _ _ (read-link _ _ _ (linked .before .token-of .ensures) (linked .link-of .ensures) (c .enum-told .given .1))
 
 returns-3 : tie.Need-returns-3
-returns-3 c = closes-end _ _ _ _ (c .before .before .before .before .before .if1 .left) (read-link _ _ _ (c .before .before .before .before .token-of .ensures) (c .before .before .before .link-of .ensures) (c .before .opener .given .1))
+returns-3 c =
+    let linked = c .before .before .before in
+    closes-end _ _ _ _ (linked .before .before .if1 .left)
+    (read-link _ _ _ (linked .before .token-of .ensures) (linked .link-of .ensures) (c .before .opener .given .1))
 
 returns-4 : tie.Need-returns-4
-returns-4 c = closes-none _ _ _ (read-link _ _ _ (c .before .before .before .token-of .ensures) (c .before .before .link-of .ensures) (c .enum-told2 .given .1))
+returns-4 c =
+    let linked = c .before .before in
+    closes-none _ _ _ (read-link _ _ _ (linked .before .token-of .ensures) (linked .link-of .ensures) (c .enum-told2 .given .1))
 
 pub closes-spec : {M : Type 1} → statement M
 closes-spec =

@@ -27,13 +27,20 @@ enum-told-2 : tie.Need-enum-told-2
 enum-told-2 c = search needs
 
 returns-2 : tie.Need-returns-2
-returns-2 c = opened-opener _ _ _ _ (c .before .before .before .before .before .if1 .left) (read-link _ _ _ (c .before .before .before .before .token-of .ensures) (c .before .before .before .link-of .ensures) (c .before .end .given .1))
+returns-2 c =
+    let linked = c .before .before .before in
+    opened-opener _ _ _ _ (linked .before .before .if1 .left)
+    (read-link _ _ _ (linked .before .token-of .ensures) (linked .link-of .ensures) (c .before .end .given .1))
 
 returns-3 : tie.Need-returns-3
-returns-3 c = opened-end _ _ _ (read-link _ _ _ (c .before .before .before .token-of .ensures) (c .before .before .link-of .ensures) (c .enum-told .given .1))
+returns-3 c =
+    let linked = c .before .before in
+    opened-end _ _ _ (read-link _ _ _ (linked .before .token-of .ensures) (linked .link-of .ensures) (c .enum-told .given .1))
 
 returns-4 : tie.Need-returns-4
-returns-4 c = opened-none _ _ _ (read-link _ _ _ (c .before .before .before .token-of .ensures) (c .before .before .link-of .ensures) (c .enum-told2 .given .1))
+returns-4 c =
+    let linked = c .before .before in
+    opened-none _ _ _ (read-link _ _ _ (linked .before .token-of .ensures) (linked .link-of .ensures) (c .enum-told2 .given .1))
 
 pub opened-spec : {M : Type 1} → statement M
 opened-spec =

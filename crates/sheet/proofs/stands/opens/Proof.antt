@@ -21,13 +21,19 @@ enum-told-3 : tie.Need-enum-told-3
 enum-told-3 c = search needs
 
 returns : tie.Need-returns
-returns c = opens-opener _ (read-link _ _ _ (c .before .before .before .token-of .ensures) (c .before .before .link-of .ensures) (c .enum-told .given .1))
+returns c =
+    let linked = c .before .before in
+    opens-opener _ (read-link _ _ _ (linked .before .token-of .ensures) (linked .link-of .ensures) (c .enum-told .given .1))
 
 returns-2 : tie.Need-returns-2
-returns-2 c = opens-end _ (read-link _ _ _ (c .before .before .before .token-of .ensures) (c .before .before .link-of .ensures) (c .enum-told2 .given .1))
+returns-2 c =
+    let linked = c .before .before in
+    opens-end _ (read-link _ _ _ (linked .before .token-of .ensures) (linked .link-of .ensures) (c .enum-told2 .given .1))
 
 returns-3 : tie.Need-returns-3
-returns-3 c = opens-none _ (read-link _ _ _ (c .before .before .before .token-of .ensures) (c .before .before .link-of .ensures) (c .enum-told3 .given .1))
+returns-3 c =
+    let linked = c .before .before in
+    opens-none _ (read-link _ _ _ (linked .before .token-of .ensures) (linked .link-of .ensures) (c .enum-told3 .given .1))
 
 pub opens-spec : {M : Type 1} → statement M
 opens-spec =

@@ -10,7 +10,9 @@ enum-known-s : tie.Need-enum-known-s
 enum-known-s c = search needs
 
 returns : tie.Need-returns
-returns c = first-opens _ _ _ (sym (c .before .before .before .before .before .pre .2) ∙ c .before .before .s .given .1) (c .if1 .taken)
+returns c =
+    let opened = c .before .before in
+    first-opens _ _ _ (sym (opened .before .before .before .pre .2) ∙ opened .s .given .1) (c .if1 .taken)
 
 closes-requires : tie.Need-closes-requires
 closes-requires c κs = search needs
@@ -40,7 +42,9 @@ enum-told-3 : tie.Need-enum-told-3
 enum-told-3 c = search needs
 
 returns-2 : tie.Need-returns-2
-returns-2 c = opener-held _ _ _ (sym (c .before .before .before .before .before .before .pre .2) ∙ c .before .before .before .s .given .1) (c .before .if1 .left) (c .closes .ensures)
+returns-2 c =
+    let opened = c .before .before .before in
+    opener-held _ _ _ (sym (opened .before .before .before .pre .2) ∙ opened .s .given .1) (c .before .if1 .left) (c .closes .ensures)
 
 returns-3 : tie.Need-returns-3
 returns-3 c = mixed-container-held _ _ _ (sym (c .before .before .before .pre .2) ∙ c .enum-told .given .1)

@@ -25,15 +25,21 @@ enum-told c = search needs
 
 returns : tie.Need-returns
 unfolding link-in token-in
-returns c = sym (ap named (read-link _ _ _ (c .before .before .before .before .token-of .ensures) (c .before .before .before .link-of .ensures) (c .before .end .given .1)))
+returns c =
+    let linked = c .before .before .before in
+    sym (ap named (read-link _ _ _ (linked .before .token-of .ensures) (linked .link-of .ensures) (c .before .end .given .1)))
 
 returns-2 : tie.Need-returns-2
 unfolding link-in token-in
-returns-2 c = sym (ap named (read-link _ _ _ (c .before .before .before .before .token-of .ensures) (c .before .before .before .link-of .ensures) (c .before .opener .given .1)))
+returns-2 c =
+    let linked = c .before .before .before in
+    sym (ap named (read-link _ _ _ (linked .before .token-of .ensures) (linked .link-of .ensures) (c .before .opener .given .1)))
 
 returns-3 : tie.Need-returns-3
 unfolding link-in token-in
-returns-3 c = sym (ap named (read-link _ _ _ (c .before .before .before .token-of .ensures) (c .before .before .link-of .ensures) (c .enum-told .given .1)))
+returns-3 c =
+    let linked = c .before .before in
+    sym (ap named (read-link _ _ _ (linked .before .token-of .ensures) (linked .link-of .ensures) (c .enum-told .given .1)))
 
 pub link-spec : {M : Type 1} → statement M
 link-spec =

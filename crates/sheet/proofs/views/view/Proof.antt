@@ -14,7 +14,9 @@ enum-known-offset : tie.Need-enum-known-offset
 enum-known-offset c = search needs
 
 add-end : tie.Need-add-end
-add-end c = let h = viewed-within _ _ _ _ (sym (c .before .before .before .view-of .ensures) ∙ c .before .offset .given .1) in omega arith
+add-end c =
+    let h = viewed-within _ _ _ _ (sym (c .before .before .before .view-of .ensures) ∙ c .before .offset .given .1) in
+    omega arith
 
 sub-result : tie.Need-sub-result
 sub-result c = search needs
@@ -23,7 +25,9 @@ part-result-start : tie.Need-part-result-start
 part-result-start c = search needs
 
 part-result-end : tie.Need-part-result-end
-part-result-end c = let h = viewed-within _ _ _ _ (sym (c .before .before .before .view-of .ensures) ∙ c .before .offset .given .1) in omega arith
+part-result-end c =
+    let h = viewed-within _ _ _ _ (sym (c .before .before .before .view-of .ensures) ∙ c .before .offset .given .1) in
+    omega arith
 
 enum-told : tie.Need-enum-told
 enum-told c = search needs
@@ -32,10 +36,10 @@ slice-aggregate-result : tie.Need-slice-aggregate-result
 slice-aggregate-result c = search needs
 
 returns : tie.Need-returns
-returns c = part-here _ (sym (c .before .before .before .before .view-of .ensures) ∙ c .before .before .offset .given .1)
+returns c = part-here _ _ (sym (c .before .before .before .before .view-of .ensures) ∙ c .before .before .offset .given .1)
 
 returns-2 : tie.Need-returns-2
-returns-2 c = part-none _ (sym (c .before .before .before .view-of .ensures) ∙ c .before .enum-told .given .1)
+returns-2 c = part-none _ _ (sym (c .before .before .before .view-of .ensures) ∙ c .before .enum-told .given .1)
 
 pub view-spec : {M : Type 1} → statement M
 view-spec =

@@ -26,7 +26,17 @@ place-requires : tie.Need-place-requires
 place-requires c κs = search needs
 
 returns-3 : tie.Need-returns-3
-returns-3 c = c .place .ensures ∙ view-placed _ _ _ _ (c .before .before .before .before .before .if1 .left) (c .before .before .before .before .holds .ensures) (not-false _ (c .before .before .before .if2 .left)) (c .before .before .token-of .ensures) (c .before .shape-of .ensures)
+returns-3 c =
+    let read = c .before .before in
+    let asked = read .before in
+    let held = asked .before in
+    c .place .ensures
+    ∙ view-placed _ _ _ _
+    (held .before .if1 .left)
+    (held .holds .ensures)
+    (not-false _ (asked .if2 .left))
+    (read .token-of .ensures)
+    (c .before .shape-of .ensures)
 
 pub view-of-spec : {M : Type 1} → statement M
 view-of-spec =
