@@ -1,5 +1,8 @@
 // The numbers of a line, gathered byte by byte.
 
+// A line has at most so many numbers; what comes after them is left out.
+pub const MOST: usize = 256;
+
 // What a line has given so far: its first byte, the number that is being read, and how many numbers have been put away.
 pub struct Line {
     pub kind: u8,
@@ -29,10 +32,10 @@ fn longer(value: u64, digit: u8) -> u64 {
 }
 
 // The line once the number that is being read, if any, has been put away.
-pub(crate) fn put_away(line: Line, numbers: &mut [u64; 256]) -> Line {
+pub(crate) fn put_away(line: Line, numbers: &mut [u64; MOST]) -> Line {
     let count = line.count;
     if line.inside {
-        if count < 256 {
+        if count < MOST {
             numbers[count] = line.value;
             return Line {
                 kind: line.kind,
@@ -51,7 +54,7 @@ pub(crate) fn put_away(line: Line, numbers: &mut [u64; 256]) -> Line {
 }
 
 // The line after one byte more.
-pub(crate) fn read(line: Line, byte: u8, numbers: &mut [u64; 256]) -> Line {
+pub(crate) fn read(line: Line, byte: u8, numbers: &mut [u64; MOST]) -> Line {
     if line.kind == 0 {
         return Line {
             kind: byte,
@@ -74,20 +77,23 @@ pub(crate) fn read(line: Line, byte: u8, numbers: &mut [u64; 256]) -> Line {
     }
 }
 
+// The largest number of a word.
+const GREATEST_WORD: u64 = 4294967295;
+
 // A number as a word, the largest where it does not fit.
 fn word(value: u64) -> u32 {
-    if value < 4294967296 {
+    if value <= GREATEST_WORD {
         value as u32
     } else {
-        4294967295
+        u32::MAX
     }
 }
 
 // Lays the numbers from a place on down as words.
-pub(crate) fn fill(numbers: &[u64; 256], from: usize, words: &mut [u32; 256]) {
+pub(crate) fn fill(numbers: &[u64; MOST], from: usize, words: &mut [u32; MOST]) {
     let mut i = 0;
     let mut at = from;
-    while at < 256 {
+    while at < MOST {
         words[i] = word(numbers[at]);
         i += 1;
         at += 1;
@@ -95,7 +101,7 @@ pub(crate) fn fill(numbers: &[u64; 256], from: usize, words: &mut [u32; 256]) {
 }
 
 // The words of a line when its first numbers are something else.
-pub(crate) fn words<'a>(line: Line, first: usize, all: &'a [u32; 256]) -> &'a [u32] {
+pub(crate) fn words<'a>(line: Line, first: usize, all: &'a [u32; MOST]) -> &'a [u32] {
     let s: &[u32] = all;
     let count = line.count;
     if first <= count {

@@ -19,8 +19,8 @@ fn print_number(n: usize) {
 }
 
 // check LENGTH COUNT WORD ..
-fn run_check(line: Line, numbers: &[u64; 256]) {
-    let mut words = [0u32; 256];
+fn run_check(line: Line, numbers: &[u64; line::MOST]) {
+    let mut words = [0u32; line::MOST];
     line::fill(numbers, 2, &mut words);
     if sheet::check(
         numbers[0] as usize,
@@ -43,8 +43,8 @@ fn first(text: &[u8], length: usize) -> &[u8] {
 }
 
 // view LENGTH COUNT INDEX WORD ..
-fn run_view(line: Line, numbers: &[u64; 256]) {
-    let mut words = [0u32; 256];
+fn run_view(line: Line, numbers: &[u64; line::MOST]) {
+    let mut words = [0u32; line::MOST];
     line::fill(numbers, 3, &mut words);
     print_view(
         first(b"abcdefghijklmnopqrstuvwxyz", numbers[0] as usize),
@@ -73,8 +73,8 @@ fn print_view(text: &[u8], words: &[u32], count: usize, index: usize) {
 }
 
 // token COUNT INDEX WORD ..
-fn run_token(line: Line, numbers: &[u64; 256]) {
-    let mut words = [0u32; 256];
+fn run_token(line: Line, numbers: &[u64; line::MOST]) {
+    let mut words = [0u32; line::MOST];
     line::fill(numbers, 2, &mut words);
     let count = numbers[0] as usize;
     let index = numbers[1] as usize;
@@ -89,7 +89,7 @@ fn print_token(words: &[u32], count: usize, index: usize) {
 }
 
 // Runs a line that is whole.
-fn run(line: Line, numbers: &[u64; 256]) {
+fn run(line: Line, numbers: &[u64; line::MOST]) {
     let kind = line.kind;
     if kind == b'c' {
         run_check(line, numbers);
@@ -114,7 +114,7 @@ fn is_case(kind: u8) -> bool {
 }
 
 // One byte of the input: the end of a line runs it, a byte of a remark is written.
-fn step(before: Line, byte: u8, numbers: &mut [u64; 256]) -> Line {
+fn step(before: Line, byte: u8, numbers: &mut [u64; line::MOST]) -> Line {
     if byte == b'\n' {
         let line = line::put_away(before, numbers);
         run(line, numbers);
@@ -129,7 +129,7 @@ fn step(before: Line, byte: u8, numbers: &mut [u64; 256]) -> Line {
 
 // Runs every line.
 fn run_all(input: &[u8]) {
-    let mut numbers = [0u64; 256];
+    let mut numbers = [0u64; line::MOST];
     let mut line = line::new();
     let mut i = 0;
     while i < input.len() {
