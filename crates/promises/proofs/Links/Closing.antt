@@ -74,7 +74,7 @@ resumes c ts p opener r = go c
     some = omega (arith, add-length ts (end-of opener))
 
     apart : Apart (ts ++ (end-of opener ∷ []))
-    apart = apart-unscaled _ (r .kept .row) (λ s. not-scalar (end-uncoded opener) (rw (add-last ts (end-of opener)) at s))
+    apart = apart-unscaled _ (r .kept .row) (λ s. not-scalar {t = end-of opener} (end-uncoded opener) (rw (add-last ts (end-of opener)) at s))
 
     signed : (mixed : Bool) → Signed mixed (ts ++ (end-of opener ∷ []))
     signed mixed e = codes-differ (λ z. omega arith) (rw (add-last ts (end-of opener)) at e)

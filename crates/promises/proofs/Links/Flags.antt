@@ -34,7 +34,7 @@ not-both on off = let z : _≡_ {A = ℕ} 0 1 = cc in absurd (omega arith)
 
 -- a scalar is no operator
 pub scalar-no-equal : {t : Token} {P : Type 0} → Scalar t → t ≡ equal-token → P
-scalar-no-equal s e = absurd (not-scalar (operator-uncoded _) (rw e at s))
+scalar-no-equal s e = absurd (not-scalar {t = equal-token} (operator-uncoded (equal-token .a)) (rw e at s))
 
 -- where an opener is read there is a token
 object-below : (ts : List Token) (i c : ℕ) (mixed : Bool) → nth ts i ≡ opener-of Object c mixed → i < length ts

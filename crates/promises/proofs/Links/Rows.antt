@@ -84,7 +84,7 @@ pub not-scalar : {t : Token} → is-scalar-code (t .code) ≡ false → Scalar t
 not-scalar other s = false≢true (sym other ∙ scalar-coded s)
 
 pub scalar-unmarked : {t : Token} → Scalar t → Unmarked t
-scalar-unmarked s e = not-scalar mixed-container-uncoded (rw e at s)
+scalar-unmarked s e = not-scalar {t = mixed-container-token} mixed-container-uncoded (rw e at s)
 
 pub scalar-unlinked : {t : Token} → Scalar t → link-of t ≡ Link.Nothing
 scalar-unlinked s = ap link-of (s .made) ∙ ap linked (scalar-shape (s .kind) (s .offset) (s .size))
@@ -96,7 +96,7 @@ scalar-below ts i s =
     (λ h. h)
     (λ h.
     let none : nth ts i ≡ no-token = List·getD-eq-default ts no-token {n = i} h in
-    absurd (not-scalar none-uncoded (rw none at s)))
+    absurd (not-scalar {t = no-token} none-uncoded (rw none at s)))
 
 -- ---- tokens that name none and are neither a Header nor a MixedContainer
 abbrev pub Unheaded : Token → Type 0
@@ -112,7 +112,7 @@ pub record Plain (t : Token) : Type 0 where
   pub bare : Unmarked t
 
 -- a kind of scalar that a run is cut as: any but a Header
-abbrev Off : Bool → Type 0
+abbrev pub Off : Bool → Type 0
 Off true = ⊥
 Off false = Unit {0}
 
