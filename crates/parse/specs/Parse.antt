@@ -7,7 +7,7 @@ use lib.ListN.{length, replicate}
 use Rattle.cut.specs.declared.Skipped.the-variants.{At, End}
 use Rattle.cut.specs.Blanks.{skip-ws}
 use Rattle.tape.specs.Words.{padded}
-use Rattle.tape.specs.Tape.{Tape, view}
+use Rattle.tape.specs.Tape.{Tape, empty-tape}
 use Rattle.parse.specs.declared.machine.State.the-variants.{Key, KeyValueSeparator, ObjectValue, ParseOpen, ArrayValue}
 use Rattle.parse.specs.declared.machine.Machine.{Machine}
 use Rattle.parse.specs.declared.machine.Refusal.{Refusal}
@@ -82,10 +82,10 @@ answer bom len (next m t) = refuse len Eof
 answer bom len (done n t) = outcome (Tokens n bom) (padded len (t .tokens))
 answer bom len (refused r) = refuse len r
 
--- the parse of a text on a tape of so many words
+-- the parse of a text on a tape of so many words: there is room for as many tokens as its length divided by 3, rounded down
 unfoldable pub parse-of : List ℕ → ℕ → Outcome
 parse-of text len =
     elim (ltb text-limit (length text)) [
       | true ↦ refuse len TooLong
-      | false ↦ answer (has-bom text) len (run text (enough text) (next (start (has-bom text)) (view (replicate len 0) 0)))
+      | false ↦ answer (has-bom text) len (run text (enough text) (next (start (has-bom text)) (empty-tape len)))
     ]

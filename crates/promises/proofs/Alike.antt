@@ -16,8 +16,8 @@ use Rattle.parse.specs.declared.machine.Machine.{Machine}
 use Rattle.parse.specs.declared.machine.Refusal.the-variants.{Full}
 use Rattle.parse.specs.Refusals.{number}
 use Rattle.parse.specs.Machine.{After, next, done, refused}
-use Rattle.promises.proofs.Moves.{Result, goes, ends, stops}
-use Rattle.promises.proofs.Walk.{told, if-room, laying}
+use Rattle.parse.proofs.Moves.{Result, goes, ends, stops}
+use Rattle.parse.proofs.Walk.{told, if-room, laying}
 use Rattle.promises.specs.Mixed.{Mixes}
 use Rattle.promises.specs.Room.{tape-of, laid-by}
 

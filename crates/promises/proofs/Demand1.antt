@@ -10,7 +10,7 @@ use lib.ListN.{length, replicate, length-replicate}
 use lib.Seq.{drop-at}
 use Rattle.data.proofs.Cases.{by-bool}
 use Rattle.tape.specs.declared.token.Token.{Token}
-use Rattle.tape.specs.Words.{words-for, room-of, words-of, padded}
+use Rattle.tape.specs.Words.{words-for, capacity, words-of, padded}
 use Rattle.tape.specs.Tape.{holds}
 use Rattle.tape.proofs.Views.{words-length, padded-length}
 use Rattle.parse.specs.declared.machine.Refusal as Refusals
@@ -31,18 +31,18 @@ abbrev Leaves : ℕ → Outcome → Type 0
 Leaves len (outcome (Tokens n bom) ws) = Laid-out len n ws
 Leaves len (outcome (Refused r) ws) = ws ≡ replicate len 0
 
-padded-out : (len n : ℕ) (ts : List Token) → length ts ≡ n → n ≤ room-of (replicate len 0) → Laid-out len n (padded len ts)
-unfolding padded room-of
+padded-out : (len n : ℕ) (ts : List Token) → length ts ≡ n → n ≤ capacity len → Laid-out len n (padded len ts)
+unfolding padded
 padded-out len n ts e h =
     let words : length (words-of ts) ≡ words-for n = omega (arith, words-length ts) in
-    let fit : words-for n ≤ len = omega (arith, length-replicate {A = ℕ} len 0) in
+    let fit : words-for n ≤ len = omega arith in
     record {
       kept = padded-length len ts (omega arith);
       within = fit;
       zero-past = rw (padded, words) (drop-at (words-of ts) (replicate (len - words-for n) 0) (words-for n) words);
     }
 
-answer-left : (bom : Bool) (len : ℕ) (x : After) → Finished (room-of (replicate len 0)) x → Leaves len (answer bom len x)
+answer-left : (bom : Bool) (len : ℕ) (x : After) → Finished (capacity len) x → Leaves len (answer bom len x)
 answer-left bom len (next m t) h = refl
 answer-left bom len (done n t) h = padded-out len n (t .tokens) (h .0) (h .1)
 answer-left bom len (refused r) h = refl
@@ -52,7 +52,7 @@ parse-left text len =
     by-bool (ltb text-limit (length text))
     (λ e. rw (parse-over text len e) refl)
     (λ e. rw (parse-within text len e)
-    (answer-left (has-bom text) len (run-in (holds (room-of (replicate len 0))) text) (run-finished text (room-of (replicate len 0)))))
+    (answer-left (has-bom text) len (run-in (holds (capacity len)) text) (run-finished text (capacity len))))
 
 -- a refusal, whichever, leaves as many words as were lent, and each is zero
 pub refusal-zeroes : (text : List ℕ) (len : ℕ) (r : Refusal) (ws : List ℕ) → outcome (Refused r) ws ≡ parse-of text len → ws ≡ replicate len 0

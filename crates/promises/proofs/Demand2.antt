@@ -2,12 +2,13 @@
 -- the tape holds. Before it, of every text: the refusal for room against a parse with no bound on tokens.
 -- Said of the contract of `parse` itself: of the text and the tape as they are lent, and of the tape as it is left.
 -- Assumes nothing.
-use Prim.Native.Nat.{ℕ, _/_, _<_}
+use Prim.Native.Nat.{ℕ, _<_}
 use mathlib.Core.Path.{_≡_, refl, _∙_, ap}
 use mathlib.Core.List.{List}
 use mathlib.Core.Logic.{_↔_}
 use native.Mathlib.Omega.{arith}
 use lib.ListN.{length}
+use Rattle.tape.specs.Words.{capacity}
 use Rattle.parse.specs.declared.machine.Refusal as Refusals
 use Rattle.parse.specs.declared.machine.Refusal.the-variants.{Full}
 use Rattle.parse.specs.declared.Parsed.{Parsed}
@@ -26,7 +27,7 @@ use Rattle.promises.proofs.RustParse.{rust-alike, rust-laid}
 pub parse-full-exactly : (κs : _) (args : _) (r : Parsed) (xs : _) → parse.Post κs args r xs
     → let text-lent = args .0 .now in
     let tape-lent = args .1 .0 .now in
-    (r ≡ Refused Full) ↔ (length tape-lent / 3 < laid-down text-lent)
+    (r ≡ Refused Full) ↔ (capacity (length tape-lent) < laid-down text-lent)
 parse-full-exactly κs args r xs p = full-exactly (args .0 .now) (length (args .1 .0 .now)) r (xs .1 .0 .now) p
 
 pub parse-same-otherwise : (κs : _) (args : _) (r : Parsed) (xs : _) → parse.Post κs args r xs → (r ≡ Refused Full → ⊥)
@@ -61,7 +62,7 @@ parse-as-rust κs args r xs p spoken =
     let text : List ℕ = args .0 .now in
     let len : ℕ = length (args .1 .0 .now) in
     let words : List ℕ = xs .1 .0 .now in
-    let room : (r ≡ Refused Full) ↔ (len / 3 < laid-down text) = parse-full-exactly κs args r xs p in
+    let room : (r ≡ Refused Full) ↔ (capacity len < laid-down text) = parse-full-exactly κs args r xs p in
     let laid : held (rust-parse text) ≡ laid-down text = rust-laid text spoken in
     let told : (q : Parsed) → q ≡ Refused Full → refusal-told (tell-parse (outcome q words)) ≡ number Full =
     λ q e. ap (λ (s : Parsed). refusal-told (tell-parse (outcome s words))) e in

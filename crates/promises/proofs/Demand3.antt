@@ -3,7 +3,7 @@
 use mathlib.Core.Path.{_≡_, refl, sym}
 use mathlib.Core.Bool.{Bool, true}
 use mathlib.Core.List.{List}
-use Prim.Native.Nat.{ℕ, _/_, _≤_, _<_}
+use Prim.Native.Nat.{ℕ, _≤_, _<_}
 use native.Mathlib.Omega.{arith}
 use lib.ListN.{length}
 use Rattle.sheet.specs.Sound.{Sound}
@@ -13,7 +13,7 @@ use Rattle.parse.specs.declared.Parsed.{Parsed}
 use Rattle.parse.specs.declared.Parsed.the-variants.{Tokens, Refused}
 use Rattle.parse.specs.Parse.{outcome, parse-of}
 use Rattle.parse.specs.Told.{tell-parse}
-use Rattle.tape.specs.Words.{words-for}
+use Rattle.tape.specs.Words.{capacity, words-for}
 use Rattle.parse.proofs.parse.Reads as parse
 use Rattle.promises.specs.Demand3.{most-tokens, Demand-3}
 use Rattle.promises.specs.Room.{laid-down}
@@ -64,7 +64,7 @@ parse-passes κs args r xs p =
     let tape-left : List ℕ = xs .1 .0 .now in
     told-passes text-lent (length tape-lent) r tape-left p
     (λ h e.
-    let past : length tape-lent / 3 < laid-down text-lent = parse-full-exactly κs args r xs p .0 e in
+    let past : capacity (length tape-lent) < laid-down text-lent = parse-full-exactly κs args r xs p .0 e in
     omega (arith, laid-most text-lent))
 
 -- and asked of the text's length, those words and that count, any answer that the contract of `check` allows is yes

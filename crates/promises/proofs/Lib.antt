@@ -7,7 +7,6 @@ pub mod Demand3
 pub mod Domain
 pub mod Links
 pub mod Mixed
-pub mod Moves
 pub mod PaperF64
 pub mod Rising
 pub mod Room
@@ -23,4 +22,3 @@ pub mod RustReadings
 pub mod RustReads
 pub mod RustTurns
 pub mod Uniqueness
-pub mod Walk

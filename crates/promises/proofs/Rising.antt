@@ -15,7 +15,7 @@ use lib.ListN.{length}
 use Rattle.tape.specs.Words.{tokens-in}
 use Rattle.parse.specs.declared.Parsed.the-variants.{Tokens}
 use Rattle.parse.specs.Parse.{start, has-bom, outcome, parse-of}
-use Rattle.promises.proofs.Walk.{parse-keeps}
+use Rattle.parse.proofs.Walk.{parse-keeps}
 use Rattle.promises.proofs.Rising.Spans.{spans, Upto}
 use Rattle.promises.proofs.Rising.Sheets.{Viewed, viewed}
 use Rattle.promises.proofs.Rising.Links.{stands-zero}

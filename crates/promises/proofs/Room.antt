@@ -4,13 +4,13 @@ use mathlib.Core.Path.{_≡_, refl, sym, _∙_, ap}
 use mathlib.Core.Bool.{Bool, true, false}
 use mathlib.Core.List.{List, []}
 use mathlib.Core.Logic.{_↔_}
-use Prim.Native.Nat.{ℕ, zero, suc, _+_, _*_, _/_, _≤_, _<_}
+use Prim.Native.Nat.{ℕ, zero, suc, _+_, _*_, _≤_, _<_}
 use native.Mathlib.Omega.{arith}
 use borrow.Author.Tests.{ltb-true, ltb-false}
 use lib.Dec.{ltb}
 use lib.ListN.{length, replicate, length-replicate}
 use Rattle.data.proofs.Cases.{by-bool}
-use Rattle.tape.specs.Words.{room-of, tokens-in}
+use Rattle.tape.specs.Words.{capacity}
 use Rattle.tape.specs.Tape.{Tape, holds, unbounded}
 use Rattle.parse.specs.declared.machine.Machine.{Machine}
 use Rattle.parse.specs.declared.machine.Refusal.{Refusal}
@@ -111,8 +111,8 @@ told-alike bom len k (refused r) = refl
 
 -- ---- a text within the limit, and one over it
 module _ (text : List ℕ) (len : ℕ) where
-  pub parse-within : ltb text-limit (length text) ≡ false → parse-of text len ≡ answer (has-bom text) len (run-in (holds (room-of (replicate len 0))) text)
-  unfolding parse-of run-in start tokens-in
+  pub parse-within : ltb text-limit (length text) ≡ false → parse-of text len ≡ answer (has-bom text) len (run-in (holds (capacity len)) text)
+  unfolding parse-of run-in start
   parse-within e = rw (parse-of, e)
 
   pub parse-over : ltb text-limit (length text) ≡ true → parse-of text len ≡ refuse len TooLong
@@ -142,32 +142,26 @@ laid-most text =
     (λ e. rw (laid-over text e) (omega arith))
     (λ e. rw (laid-within text e) (run-alike text 0 .most))
 
--- a tape's room in tokens, its length divided by 3: what a word can number is more than a text within the limit lays down
-room-known : (len : ℕ) (w n : ℕ) → w ≤ 2 * n + 1 → n ≤ text-limit
-    → (w ≤ len / 3 → w ≤ room-of (replicate len 0)) × (len / 3 < w → room-of (replicate len 0) < w)
-unfolding room-of
-room-known len w n h g = rw (room-of, length-replicate {A = ℕ} len 0) (omega arith)
-
 module _ (text : List ℕ) (len : ℕ) where
   -- while the tape has room for what is laid down, the parse answers as the one with no bound does
-  pub same-with-room : laid-down text ≤ len / 3 → parse-of text len ≡ unbounded-parse text len
+  pub same-with-room : laid-down text ≤ capacity len → parse-of text len ≡ unbounded-parse text len
   same-with-room h =
       by-bool (ltb text-limit (length text))
       (λ e. parse-over text len e ∙ sym (unbounded-over text len e))
       (λ e.
-      let k : ℕ = room-of (replicate len 0) in
-      let fit : laid-run text ≤ k = room-known len (laid-run text) (length text) (run-alike text 0 .most) (ltb-false _ _ e) .0 (rw (laid-within text e) at h) in
+      let k : ℕ = capacity len in
+      let fit : laid-run text ≤ k = rw (laid-within text e) at h in
       parse-within text len e ∙ ap (answer (has-bom text) len) (run-alike text k .fits fit) ∙ told-alike (has-bom text) len k (run-in unbounded text)
       ∙ sym (unbounded-within text len e))
 
   -- and past that it is refused for room
-  pub full-past-room : len / 3 < laid-down text → parse-of text len ≡ refuse len Full
+  pub full-past-room : capacity len < laid-down text → parse-of text len ≡ refuse len Full
   full-past-room h =
       by-bool (ltb text-limit (length text))
       (λ e. absurd (omega (arith, laid-over text e)))
       (λ e.
-      let k : ℕ = room-of (replicate len 0) in
-      let over : k < laid-run text = room-known len (laid-run text) (length text) (run-alike text 0 .most) (ltb-false _ _ e) .1 (rw (laid-within text e) at h) in
+      let k : ℕ = capacity len in
+      let over : k < laid-run text = rw (laid-within text e) at h in
       parse-within text len e ∙ ap (answer (has-bom text) len) (run-alike text k .full (omega arith) over))
 
 -- what a run with room for k tokens has where it is done: its count is that of its tokens, and they fit
@@ -227,9 +221,9 @@ unbounded-never-full text len ws e =
 
 -- Whatever answer and tape the contract of `parse` allows, the answer is Full exactly when the parse with no bound lays down more tokens
 -- than the tape has room for.
-pub full-exactly : (text : List ℕ) (len : ℕ) (r : Parsed) (ws : List ℕ) → outcome r ws ≡ parse-of text len → (r ≡ Refused Full) ↔ (len / 3 < laid-down text)
+pub full-exactly : (text : List ℕ) (len : ℕ) (r : Parsed) (ws : List ℕ) → outcome r ws ≡ parse-of text len → (r ≡ Refused Full) ↔ (capacity len < laid-down text)
 full-exactly text len r ws e = (
-  λ f. by-bool (ltb (len / 3) (laid-down text))
+  λ f. by-bool (ltb (capacity len) (laid-down text))
       (λ g. ltb-true _ _ g)
       (λ g. absurd (unbounded-never-full text len ws
       (ap (λ (x : Parsed). outcome x ws) (sym f) ∙ e ∙ same-with-room text len (ltb-false _ _ g)))),
@@ -240,6 +234,6 @@ full-exactly text len r ws e = (
 -- and any other answer is that of the parse with no bound
 pub same-otherwise : (text : List ℕ) (len : ℕ) (r : Parsed) (ws : List ℕ) → outcome r ws ≡ parse-of text len → (r ≡ Refused Full → ⊥) → outcome r ws ≡ unbounded-parse text len
 same-otherwise text len r ws e n =
-    by-bool (ltb (len / 3) (laid-down text))
+    by-bool (ltb (capacity len) (laid-down text))
     (λ g. absurd (n (full-exactly text len r ws e .1 (ltb-true _ _ g))))
     (λ g. e ∙ same-with-room text len (ltb-false _ _ g))

@@ -21,8 +21,8 @@ use Rattle.parse.specs.declared.machine.Machine.{Machine}
 use Rattle.parse.specs.Containers as C
 use Rattle.parse.specs.Containers.{container-at, state-in, mixed-in, resumed, nothing-open}
 use Rattle.parse.proofs.Splits.{by-container}
-use Rattle.promises.proofs.Moves.{Result, on-tape, container-in, above, closed-as, Over, done-bare, done-closed, too-early}
-use Rattle.promises.proofs.Walk.{Meets}
+use Rattle.parse.proofs.Moves.{Result, on-tape, container-in, above, closed-as, Over, done-bare, done-closed, too-early}
+use Rattle.parse.proofs.Walk.{Meets}
 use Rattle.promises.proofs.Links.Nest.{by-below, Parent}
 use Rattle.promises.proofs.Links.Rows.{add-length, add-last, not-scalar, Apart, apart-unscaled}
 use Rattle.promises.proofs.Links.Flags.{codes-differ}

@@ -14,8 +14,8 @@ use Rattle.parse.specs.declared.machine.State.{State}
 use Rattle.parse.specs.declared.machine.State.the-variants.{Key, KeyValueSeparator, ObjectValue, ParseOpen, ArrayValue}
 use Rattle.parse.specs.declared.machine.Machine.{Machine}
 use Rattle.parse.specs.Machine.{After, to}
-use Rattle.promises.proofs.Moves.{Taken, unquoted, quoted}
-use Rattle.promises.proofs.Walk as Walk
+use Rattle.parse.proofs.Moves.{Taken, unquoted, quoted}
+use Rattle.parse.proofs.Walk as Walk
 use Rattle.promises.specs.Mixed.{Scalar, equal-token}
 use Rattle.promises.proofs.Links.Rows.{last, add-length, add-last, scalar-made, Plain, plain-scalar, Apart, apart-add}
 use Rattle.promises.proofs.Links.Flags.{scalar-no-equal}

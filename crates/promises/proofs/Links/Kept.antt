@@ -20,7 +20,7 @@ use Rattle.tape.specs.Shape.{linked, link-of, Opens}
 use Rattle.tape.specs.Tape.{before-last}
 use Rattle.tape.proofs.Makers.{opener-container, scalar-container, opener-standing, mixed-container-standing, operator-standing, end-standing}
 use Rattle.tape.proofs.Shapes.{scalar-shape, opens-link, end-link, link-made, unlinked-opens}
-use Rattle.promises.proofs.Moves.{ScalarStands}
+use Rattle.parse.proofs.Moves.{ScalarStands}
 use Rattle.sheet.specs.Sound.{nth, Form, container, mixed-container, scalar, operator, closing, Closed, Opened, Nested, Headed}
 use Rattle.promises.specs.Mixed.{Flags, Marked, Scalar, Stored, equal-token}
 use Rattle.promises.proofs.Links.Nest.{by-equal, by-below, Nest, opener-below, end-below, widen, nest-open, nest-close, all-closed}

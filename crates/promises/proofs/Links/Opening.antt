@@ -24,7 +24,7 @@ use Rattle.parse.specs.Machine.{to}
 use Rattle.parse.specs.Containers.{resumed}
 use Rattle.parse.specs.ParseOpen.{flag-parent}
 use Rattle.parse.proofs.Splits.{by-container}
-use Rattle.promises.proofs.Moves.{container-in, closed-as, flagged, Taken, Settles, with-key, with-entry}
+use Rattle.parse.proofs.Moves.{container-in, closed-as, flagged, Taken, Settles, with-key, with-entry}
 use Rattle.promises.specs.Mixed.{Scalar, Stored, equal-token}
 use Rattle.promises.proofs.Links.Nest.{Parent, parent-below}
 use Rattle.promises.proofs.Links.Rows.{last, add-length, add-new, add-last, Plain, Apart, apart-add}

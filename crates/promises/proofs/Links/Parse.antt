@@ -14,7 +14,7 @@ use Rattle.tape.proofs.Shapes.{no-shape}
 use Rattle.parse.specs.declared.Parsed.the-variants.{Tokens}
 use Rattle.parse.specs.Machine.{next}
 use Rattle.parse.specs.Parse.{run, start, has-bom, outcome, parse-of}
-use Rattle.promises.proofs.Walk.{run-keeps, parse-keeps}
+use Rattle.parse.proofs.Walk.{run-keeps, parse-keeps}
 use Rattle.promises.proofs.Links.Nest.{nest-none}
 use Rattle.promises.proofs.Links.Rows.{unmarked, unheaded}
 use Rattle.promises.proofs.Links.Flags.{codes-differ}

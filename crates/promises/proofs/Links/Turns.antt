@@ -28,8 +28,8 @@ use Rattle.parse.specs.declared.machine.Machine.{Machine}
 use Rattle.parse.specs.Machine.{to}
 use Rattle.parse.specs.KeyValueSeparator.{mixed-on}
 use Rattle.parse.specs.Parse.{turn}
-use Rattle.promises.proofs.Moves.{Result, Named, defined, undefined, Asked, Valued, run-token, Takes, key, value, entry, Opens, in-value, in-array, Closes, as-object, as-own, Asks, asks-key, asks-open, ScalarStands, Came, passes, separates, takes, separates-by, operates, mixes, mixes-by, opens, heads, closes, empties, settles, begins, values, objects, refuses}
-use Rattle.promises.proofs.Walk.{Meets, Keeps, turn-keeps}
+use Rattle.parse.proofs.Moves.{Result, Named, defined, undefined, Asked, Valued, run-token, Takes, key, value, entry, Opens, in-value, in-array, Closes, as-object, as-own, Asks, asks-key, asks-open, ScalarStands, Came, passes, separates, takes, separates-by, operates, mixes, mixes-by, opens, heads, closes, empties, settles, begins, values, objects, refuses}
+use Rattle.parse.proofs.Walk.{Meets, Keeps, turn-keeps}
 use Rattle.promises.specs.Mixed.{Scalar, equal-token}
 use Rattle.promises.proofs.Links.Nest.{by-below}
 use Rattle.promises.proofs.Links.Rows.{last, add-length, add-last, insert-length, Cut-kind, scalar-made, plain-scalar, plain-operator, Apart}

@@ -28,8 +28,8 @@ use Rattle.parse.specs.Machine.{to}
 use Rattle.parse.specs.Containers.{parent-of, state-in}
 use Rattle.parse.specs.ParseOpen.{flag-parent}
 use Rattle.parse.proofs.Splits.{by-container}
-use Rattle.promises.proofs.Moves.{Result, container-in, above, unsettled, closed-as, flagged, Taken, unquoted, quoted, Asked, Valued, run-token, Takes, key, value, entry, Settles, with-key, with-entry, Asks, asks-key, asks-open, Came, passes, separates, takes, separates-by, operates, mixes, mixes-by, opens, heads, closes, empties, settles, begins, values, objects, refuses, Over, done-bare, done-closed, too-early, name-run, value-run, value-rest}
-use Rattle.promises.proofs.Walk.{Meets, Keeps}
+use Rattle.parse.proofs.Moves.{Result, container-in, above, unsettled, closed-as, flagged, Taken, unquoted, quoted, Asked, Valued, run-token, Takes, key, value, entry, Settles, with-key, with-entry, Asks, asks-key, asks-open, Came, passes, separates, takes, separates-by, operates, mixes, mixes-by, opens, heads, closes, empties, settles, begins, values, objects, refuses, Over, done-bare, done-closed, too-early, name-run, value-run, value-rest}
+use Rattle.parse.proofs.Walk.{Meets, Keeps}
 use Rattle.sheet.specs.Sound.{nth}
 use Rattle.promises.proofs.Rising.Spans.{span-of, spans, Upto, opener-bare, operator-bare, upto-later}
 use Rattle.promises.proofs.Rising.Links.{Stands, link, opener-link, stands-unlinked, stands-up, stands-set, nth-add, nth-last, nth-set}

@@ -25,33 +25,33 @@ use Rattle.tape.specs.declared.token.ContainerKind.{ContainerKind}
 use Rattle.tape.specs.declared.token.ContainerKind.the-variants.{Array, Object}
 use Rattle.tape.specs.declared.token.Standing as Standings
 use Rattle.tape.specs.Token.{mixed-container-token, opener-of, end-of, operator-of, standing-of, headed}
-use Rattle.tape.specs.Words.{room-of, tokens-in, padded}
+use Rattle.tape.specs.Words.{capacity, tokens-in, padded}
 use Rattle.tape.proofs.Views.{padded-tokens}
 use Rattle.tape.specs.Tape.{Tape, Room, holds, has-room, before-last, token-at, replace, add, add-before-last, lay, lay-mixed}
 use Rattle.parse.specs.declared.machine.State.{State}
 use Rattle.parse.specs.declared.machine.State.the-variants.{Key, KeyValueSeparator, ObjectValue, ParseOpen, ArrayValue}
 use Rattle.parse.specs.declared.machine.Machine.{Machine}
 use Rattle.parse.specs.declared.machine.Refusal.{Refusal}
 use Rattle.parse.specs.declared.machine.Refusal.the-variants.{Eof, Full}
 use Rattle.parse.specs.declared.key.KeyByte as KeyBytes
 use Rattle.parse.specs.declared.parse_open.OpenByte as OpenBytes
 use Rattle.parse.specs.declared.array_value.ValueByte as ValueBytes
 use Rattle.parse.specs.Refusals.{number}
 use Rattle.parse.specs.Machine.{After, next, done, refused, and-then, byte-at, to, within, or-full, lay-then}
 use Rattle.parse.specs.Scalars.{scalar-then}
 use Rattle.parse.specs.Containers.{open-then, resumed, close-at, close, nothing-open, is-key, key-end, text-end}
 use Rattle.parse.specs.Parameter.{parameter-object, value-or-object, parameter-value, parameter-named, parameter-name, parameter}
 use Rattle.parse.specs.Key.{key-byte, key-close, open-header, key-header, key-brace, key-turn}
 use Rattle.parse.specs.KeyValueSeparator.{mixed-on, mix-then, separator-then, separator-turn}
 use Rattle.parse.specs.ObjectValue.{object-value-turn}
 use Rattle.parse.specs.ParseOpen.{open-byte, settle, open-empty, open-parameter, open-brace, flag-parent, follows-key, open-as, open-scalar, parse-open-turn}
 use Rattle.parse.specs.ArrayValue.{value-byte, array-close, operator-then, after-end, unmixed-operator, array-operator, array-value-turn}
 use Rattle.parse.specs.declared.Parsed.the-variants.{Tokens, Refused}
 use Rattle.parse.specs.Parse.{state-turn, turn, run, has-bom, start, enough, text-limit, Outcome, outcome, answer, parse-of}
 use Rattle.parse.proofs.Splits.{by-skipped, by-cut, by-sighted, by-container, by-standing, by-state, by-key-byte, by-open-byte, by-value-byte}
 use Rattle.parse.proofs.States as States
-use Rattle.promises.proofs.Moves.{Result, goes, ends, stops, on-tape, token-in, container-in, above, unsettled, closed-as, flagged, Taken, unquoted, quoted, Named, defined, undefined, Asked, Valued, run-token, Takes, Opens, Closes, Settles, Asks, Bracketed, Unasked, lone, nameless, open-name, valueless, ScalarStands, Refuses, Came, Over, Turned, on-byte, at-end}
-use Rattle.promises.proofs.Moves as M
+use Rattle.parse.proofs.Moves.{Result, goes, ends, stops, on-tape, token-in, container-in, above, unsettled, closed-as, flagged, Taken, unquoted, quoted, Named, defined, undefined, Asked, Valued, run-token, Takes, Opens, Closes, Settles, Asks, Bracketed, Unasked, lone, nameless, open-name, valueless, ScalarStands, Refuses, Came, Over, Turned, on-byte, at-end}
+use Rattle.parse.proofs.Moves as M
 
 -- ---- what a result is on a tape of some room
 abbrev pub told : Room → Result → After
@@ -511,7 +511,7 @@ module _ (P : Machine → List Token → Type 0) (Q : ℕ → List Token → Typ
   pub parse-keeps : (len : ℕ) → Shown Q (parse-of text len)
   unfolding parse-of tokens-in
   parse-keeps len =
-      let room : Room = holds (room-of (replicate len 0)) in
+      let room : Room = holds (capacity len) in
       by-bool (ltb text-limit (length text))
       (λ e. rw (parse-of, e) tt)
       (λ e. rw (parse-of, e)
