@@ -28,11 +28,18 @@ use Rattle.parse.specs.Containers.{state-in, mixed-in}
 use Rattle.parse.specs.ParseOpen.{flag-parent}
 use Rattle.parse.specs.Parse.{turn}
 use Rattle.parse.proofs.Splits.{by-container}
-use Rattle.parse.proofs.Moves.{Result, goes, ends, stops, token-in, container-in, unsettled, run-token, above, closed-as, flagged, Taken, unquoted, quoted, Named, defined, undefined, Asked, Valued, Takes, key, value, entry, Settles, with-key, with-entry, Asks, asks-key, asks-open, Bracketed, key-bracket, open-bracket, Unasked, lone, nameless, open-name, valueless, ScalarStands, Refuses, brace-ends, no-header, key-ends, value-ends, entry-ends, first-uncut, no-value, mixed-parameter, inner-ends, first-ends, stack-empty, unknown, marked-unknown, nothing-precedes, no-parameter, Came, passes, separates, takes, separates-by, operates, mixes, mixes-by, opens, heads, closes, empties, settles, begins, values, objects, refuses, Over, done-bare, done-closed, too-early, Turned, on-byte, at-end, taken-moves, name-run, value-run, value-rest}
+use Rattle.parse.proofs.Moves.{Result, goes, ends, stops, token-in, container-in, unsettled, run-token, above, closed-as, flagged, Taken, unquoted, quoted}
+use Rattle.parse.proofs.Moves.{Named, defined, undefined, Asked, Valued, Takes, key, value, entry, Settles, with-key, with-entry, Asks, asks-key, asks-open}
+use Rattle.parse.proofs.Moves.{Bracketed, key-bracket, open-bracket, Unasked, lone, nameless, open-name, valueless, ScalarStands, Refuses, brace-ends}
+use Rattle.parse.proofs.Moves.{no-header, key-ends, value-ends, entry-ends, first-uncut, no-value, mixed-parameter, inner-ends, first-ends, stack-empty}
+use Rattle.parse.proofs.Moves.{unknown, marked-unknown, nothing-precedes, no-parameter, Came, passes, separates, takes, separates-by, operates, mixes, mixes-by}
+use Rattle.parse.proofs.Moves.{opens, heads, closes, empties, settles, begins, values, objects, refuses, Over, done-bare, done-closed, too-early, Turned}
+use Rattle.parse.proofs.Moves.{on-byte, at-end, taken-moves, name-run, value-run, value-rest}
 use Rattle.parse.proofs.Walk.{told, laying, turn-comes}
 use Rattle.cut.proofs.Blanks.{skip-lands}
 use Rattle.promises.specs.Mixed.{Mixes}
-use Rattle.promises.specs.Room.{tape-of, name-ended, parameter-lays, key-lays, is-cut, open-lays, is-scalar, value-lays, state-lays, turn-lays, and-one, laid-by}
+use Rattle.promises.specs.Room.{tape-of, name-ended, parameter-lays, key-lays, is-cut, open-lays, is-scalar, value-lays, state-lays, turn-lays, and-one}
+use Rattle.promises.specs.Room.{laid-by}
 use Rattle.promises.proofs.Alike.{spare, spare-few, Going, Alike, Paid, laying-alike, laying-free, added-sized, mixed-sized}
 
 -- which token the state lays down first
@@ -225,7 +232,8 @@ module _ (text : List ℕ) (budget : ℕ) (m : Machine) (ts : List Token) (g : G
   turn-pays (at-end e by) = end-pays text budget m ts (g .sized) (omega (arith, g .paid)) by
 
   -- where it refuses, that many tokens are told
-  turn-told : {n : ℕ} {x : Result} → Turned text m ts n x → laid-by (and-one (m .count) (turn-lays text (tape-of unbounded ts) m)) (told unbounded x) ≡ m .count + n
+  turn-told : {n : ℕ} {x : Result} → Turned text m ts n x
+      → laid-by (and-one (m .count) (turn-lays text (tape-of unbounded ts) m)) (told unbounded x) ≡ m .count + n
   unfolding turn-lays
   turn-told {x = goes m′ us} by = turn-pays by .0
   turn-told {x = ends n us} by = turn-pays by .0
@@ -241,9 +249,13 @@ module _ (text : List ℕ) (budget : ℕ) (m : Machine) (ts : List Token) (g : G
 
 -- each turn, from a machine whose tokens are counted and paid for
 pub turn-alike : (text : List ℕ) (budget k : ℕ) (m : Machine) (t : Tape) → Going text budget m t
-    → Alike text budget k (m .count) (laid-by (and-one (m .count) (turn-lays text t m)) (turn text t m)) (turn text (tape-of (holds k) (t .tokens)) m) (turn text t m)
+    → Alike text budget k (m .count) (laid-by (and-one (m .count) (turn-lays text t m)) (turn text t m))
+    (turn text (tape-of (holds k) (t .tokens)) m) (turn text t m)
 turn-alike text budget k m t g =
     let e : tape-of unbounded (t .tokens) ≡ t = λ i. record { room = sym (g .free) i; tokens = t .tokens } in
     let here : Going text budget m (tape-of unbounded (t .tokens)) = record { free = refl; sized = g .sized; mixes = g .mixes; paid = g .paid } in
-    subst (λ (u : Tape). Alike text budget k (m .count) (laid-by (and-one (m .count) (turn-lays text u m)) (turn text u m)) (turn text (tape-of (holds k) (t .tokens)) m) (turn text u m)) e
+    subst
+    (λ (u : Tape). Alike text budget k (m .count) (laid-by (and-one (m .count) (turn-lays text u m)) (turn text u m))
+    (turn text (tape-of (holds k) (t .tokens)) m) (turn text u m))
+    e
     (turn-same text budget m (t .tokens) here k)

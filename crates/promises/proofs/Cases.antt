@@ -25,5 +25,11 @@ use Rattle.promises.specs.Cases.{bytes, told, parsed, dumped, forgotten,
 
 -- what the parse answers to each text is what its line says
 pub cases-hold : map parsed cases ≡ map (λ c. c .answer) cases
-unfolding bytes told parsed dumped forgotten cases is-boundary is-blank blanks-from comment-from skip-ws stop-from run-of run-end-of run-end quoted-from skipped-from quoted-run closes-bracket bracket-run opens-variable variable-cut cut-of scalar-cut sighted container-of scalar-named standing-of room-of tokens-in words-of token-in padded token-at replace add add-before-last lay lay-mixed lay-then open-then close-at close key-end text-end scalar-then key-byte key-close open-header key-header key-brace key-turn mix-then separator-then separator-turn object-value-turn open-byte settle open-empty open-parameter open-brace flag-parent follows-key open-as open-scalar parse-open-turn begins-operator value-byte array-close operator-then after-end unmixed-operator array-operator array-value-turn parameter-object value-or-object parameter-value parameter-named parameter-name parameter state-turn turn run has-bom start parse-of
+unfolding bytes told parsed dumped forgotten cases is-boundary is-blank blanks-from comment-from skip-ws stop-from run-of run-end-of run-end
+    quoted-from skipped-from quoted-run closes-bracket bracket-run opens-variable variable-cut cut-of scalar-cut sighted container-of
+    scalar-named standing-of room-of tokens-in words-of token-in padded token-at replace add add-before-last lay lay-mixed lay-then open-then
+    close-at close key-end text-end scalar-then key-byte key-close open-header key-header key-brace key-turn mix-then separator-then
+    separator-turn object-value-turn open-byte settle open-empty open-parameter open-brace flag-parent follows-key open-as open-scalar
+    parse-open-turn begins-operator value-byte array-close operator-then after-end unmixed-operator array-operator array-value-turn
+    parameter-object value-or-object parameter-value parameter-named parameter-name parameter state-turn turn run has-bom start parse-of
 cases-hold = refl

@@ -23,7 +23,8 @@ use Rattle.promises.proofs.Demand2.{full-told, parse-full-exactly}
 use Rattle.promises.proofs.Links.Parse.{parse-tied}
 use Rattle.promises.proofs.Rising.{parse-viewed}
 
-pub parse-sound : (text : List ℕ) (len count : ℕ) (bom : Bool) (words : List ℕ) → parse-of text len ≡ outcome (Tokens count bom) words → Sound (length text) words count
+pub parse-sound : (text : List ℕ) (len count : ℕ) (bom : Bool) (words : List ℕ) → parse-of text len ≡ outcome (Tokens count bom) words
+    → Sound (length text) words count
 parse-sound text len count bom words e =
     let out = success-zeroes-past text len count bom words (sym e) in
     let v = parse-viewed text len count bom words e in
@@ -45,7 +46,8 @@ parse-sound text len count bom words e =
     }
 
 -- ---- of the contracts of `parse` and `check` themselves
-told-passes : (text : List ℕ) (len : ℕ) (r : Parsed) (words : List ℕ) → outcome r words ≡ parse-of text len → (words-for (most-tokens (length text)) ≤ len → r ≡ Refused Full → ⊥)
+told-passes : (text : List ℕ) (len : ℕ) (r : Parsed) (words : List ℕ) → outcome r words ≡ parse-of text len
+    → (words-for (most-tokens (length text)) ≤ len → r ≡ Refused Full → ⊥)
     → Demand-3 text len (tell-parse (outcome r words))
 told-passes text len (Tokens count bom) words e room =
     record { sound = λ z. parse-sound text len count bom words (sym e); never-full = λ h f. absurd (omega arith) }

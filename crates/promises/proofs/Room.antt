@@ -43,7 +43,8 @@ module _ (text : List ℕ) (budget k : ℕ) where
       → Alike text budget k (m .count) (laid-in text n w (next m t)) (run text n (next m (tape-of (holds k) (t .tokens)))) (run text n (next m t))
 
   -- a turn, and the rest of the run
-  rest-alike : (n : ℕ) (c w : ℕ) (b u : After) → Runs n → Alike text budget k c (laid-by w u) b u → Alike text budget k c (laid-in text n w u) (run text n b) (run text n u)
+  rest-alike : (n : ℕ) (c w : ℕ) (b u : After) → Runs n → Alike text budget k c (laid-by w u) b u
+      → Alike text budget k c (laid-in text n w u) (run text n b) (run text n u)
   rest-alike n c w b (next m t) runs a =
       let i = runs m t w (a .known) in
       record {
@@ -82,7 +83,8 @@ module _ (text : List ℕ) (budget k : ℕ) where
   runs-alike zero m t w g =
       record { grows = omega arith; most = omega (arith, g .paid); fits = λ h. refl; full = λ h i. absurd (omega arith); told = refl; known = g }
   runs-alike (suc n) m t w g =
-      rest-alike n (m .count) (and-one (m .count) (turn-lays text t m)) (turn text (tape-of (holds k) (t .tokens)) m) (turn text t m) (runs-alike n) (turn-alike text budget k m t g)
+      rest-alike n (m .count) (and-one (m .count) (turn-lays text t m)) (turn text (tape-of (holds k) (t .tokens)) m) (turn text t m)
+      (runs-alike n) (turn-alike text budget k m t g)
 
 module _ (text : List ℕ) where
   -- how many tokens so many turns with no bound lay down
@@ -190,7 +192,8 @@ count-laid text len n bom ws e =
     (λ f. let g : outcome (Tokens n bom) ws ≡ refuse len TooLong = e ∙ unbounded-over text len f in
     let no : _≡_ {A = ℕ} 0 1 = cc in
     absurd (omega arith))
-    (λ f. laid-within text f ∙ sym (run-alike text 0 .told) ∙ count-told (has-bom text) len n (laid-run text) bom ws (run-in unbounded text) (e ∙ unbounded-within text len f))
+    (λ f. laid-within text f ∙ sym (run-alike text 0 .told)
+    ∙ count-told (has-bom text) len n (laid-run text) bom ws (run-in unbounded text) (e ∙ unbounded-within text len f))
   where
     count-told : (has : Bool) (len n w : ℕ) (bom : Bool) (ws : List ℕ) (x : After) → outcome (Tokens n bom) ws ≡ answer has len x → laid-by w x ≡ n
     count-told has len n w bom ws (next m t) e = let no : _≡_ {A = ℕ} 0 1 = cc in absurd (omega arith)
@@ -221,7 +224,8 @@ unbounded-never-full text len ws e =
 
 -- Whatever answer and tape the contract of `parse` allows, the answer is Full exactly when the parse with no bound lays down more tokens
 -- than the tape has room for.
-pub full-exactly : (text : List ℕ) (len : ℕ) (r : Parsed) (ws : List ℕ) → outcome r ws ≡ parse-of text len → (r ≡ Refused Full) ↔ (capacity len < laid-down text)
+pub full-exactly : (text : List ℕ) (len : ℕ) (r : Parsed) (ws : List ℕ) → outcome r ws ≡ parse-of text len
+    → (r ≡ Refused Full) ↔ (capacity len < laid-down text)
 full-exactly text len r ws e = (
   λ f. by-bool (ltb (capacity len) (laid-down text))
       (λ g. ltb-true _ _ g)
@@ -232,7 +236,8 @@ full-exactly text len r ws e = (
 )
 
 -- and any other answer is that of the parse with no bound
-pub same-otherwise : (text : List ℕ) (len : ℕ) (r : Parsed) (ws : List ℕ) → outcome r ws ≡ parse-of text len → (r ≡ Refused Full → ⊥) → outcome r ws ≡ unbounded-parse text len
+pub same-otherwise : (text : List ℕ) (len : ℕ) (r : Parsed) (ws : List ℕ) → outcome r ws ≡ parse-of text len → (r ≡ Refused Full → ⊥)
+    → outcome r ws ≡ unbounded-parse text len
 same-otherwise text len r ws e n =
     by-bool (ltb (capacity len) (laid-down text))
     (λ g. absurd (n (full-exactly text len r ws e .1 (ltb-true _ _ g))))

@@ -105,7 +105,8 @@ use Rattle.capi.proofs.tackacorn_to_f64.Reads as tackacorn-to-f64
 use Rattle.capi.proofs.tackacorn_kind.Reads as tackacorn-kind
 
 -- a contract that says `r ≡ definition` allows one result
-by-definition : {K : Type 0} {A R : K → Type 0} (X : K → Type 0) (definition : (κs : K) → A κs → R κs) → One-result {X = X} (λ κs args r xs. r ≡ definition κs args)
+by-definition : {K : Type 0} {A R : K → Type 0} (X : K → Type 0) (definition : (κs : K) → A κs → R κs)
+    → One-result {X = X} (λ κs args r xs. r ≡ definition κs args)
 by-definition X definition κs args r s xs ys p q = p ∙ sym q
 
 -- and so does one that says `(r ≡ true) ↔ P`

@@ -30,7 +30,8 @@ use Rattle.promises.proofs.Links.Kept.{link-at, Kept, Resting, containe
 use Rattle.promises.proofs.Links.Held.{Signed, Shaped, Held, Finished, Resting-at, Ready}
 
 -- what is read as an opener is one
-pub reads-opener : (ts : List Token) {p : ℕ} → Kept ts p → (i : ℕ) {kind : ContainerKind} {link : ℕ} {mixed : Bool} → container-of (nth ts i) ≡ Containers.the-variants.Opened kind link mixed → link-at ts i ≡ ToEnd link
+pub reads-opener : (ts : List Token) {p : ℕ} → Kept ts p → (i : ℕ) {kind : ContainerKind} {link : ℕ} {mixed : Bool}
+    → container-of (nth ts i) ≡ Containers.the-variants.Opened kind link mixed → link-at ts i ≡ ToEnd link
 unfolding container-of
 reads-opener ts s i e =
     by-below i (length ts)
@@ -67,7 +68,8 @@ in-container t p s e = inside t p (λ z. let n = none z in let y : _≡_ {A = �
         (λ c. rw (c, z))
 
 -- a parent taken up behind an End
-pub resumes : (c : Containers.Container) (ts : List Token) (p opener : ℕ) → Resting (ts ++ (end-of opener ∷ [])) p → Shaped (state-in c) (mixed-in c) p (ts ++ (end-of opener ∷ []))
+pub resumes : (c : Containers.Container) (ts : List Token) (p opener : ℕ) → Resting (ts ++ (end-of opener ∷ [])) p
+    → Shaped (state-in c) (mixed-in c) p (ts ++ (end-of opener ∷ []))
 resumes c ts p opener r = go c
   where
     some : 1 ≤ length (ts ++ (end-of opener ∷ []))

@@ -45,7 +45,8 @@ stored-kept ts us c e (inl z) = inl z
 stored-kept ts us c e (inr f) = inr (rw e f)
 
 -- ---- a token added: an Object behind an Equal only inside a container whose flag is set
-pub flags-add : (ts : List Token) (x : Token) → Flags ts → ((c : ℕ) (mixed : Bool) → x ≡ opener-of Object c mixed → last ts ≡ equal-token → Stored ts c) → Flags (ts ++ (x ∷ []))
+pub flags-add : (ts : List Token) (x : Token) → Flags ts → ((c : ℕ) (mixed : Bool) → x ≡ opener-of Object c mixed → last ts ≡ equal-token → Stored ts c)
+    → Flags (ts ++ (x ∷ []))
 flags-add ts x f suits i c mixed e o h =
     let l : length (ts ++ (x ∷ [])) ≡ length ts + 1 = add-length ts x in
     let below : i + 1 < length (ts ++ (x ∷ [])) = object-below (ts ++ (x ∷ [])) (i + 1) c mixed o in

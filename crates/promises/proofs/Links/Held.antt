@@ -98,12 +98,15 @@ settled-before ParseOpen mixed x d s = d
 settled-before ArrayValue mixed x d s = λ e. scalar-no-equal s e
 
 -- a plain token may come before any such state
-pub rest-add : (ts : List Token) (x : Token) (p : ℕ) → Resting ts p → Plain x → (state : State) (mixed : Bool) → Before state mixed x → Shaped state mixed p (ts ++ (x ∷ []))
+pub rest-add : (ts : List Token) (x : Token) (p : ℕ) → Resting ts p → Plain x → (state : State) (mixed : Bool) → Before state mixed x
+    → Shaped state mixed p (ts ++ (x ∷ []))
 rest-add ts x p r plain Key mixed d = kept-plain ts x r plain
-rest-add ts x p r plain KeyValueSeparator mixed d = (kept-plain ts x r plain, omega (arith, add-length ts x), rw (add-last ts x) d, apart-add ts x (r .kept .row))
+rest-add ts x p r plain KeyValueSeparator mixed d =
+    (kept-plain ts x r plain, omega (arith, add-length ts x), rw (add-last ts x) d, apart-add ts x (r .kept .row))
 rest-add ts x p r plain ObjectValue mixed d = (kept-plain ts x r plain, omega (arith, add-length ts x), rw (add-last ts x) d)
 rest-add ts x p r plain ParseOpen mixed d = absurd d
-rest-add ts x p r plain ArrayValue mixed d = (kept-plain ts x r plain, omega (arith, add-length ts x), rw (add-last ts x) d, λ e. apart-add ts x (r .kept .row))
+rest-add ts x p r plain ArrayValue mixed d =
+    (kept-plain ts x r plain, omega (arith, add-length ts x), rw (add-last ts x) d, λ e. apart-add ts x (r .kept .row))
 
 -- a machine that has laid one down
 pub added : (m : Machine) (ts : List Token) (x : Token) (at : ℕ) (state : State) → Resting-at (m .count) (m .parent) ts → Plain x → Before state (m .mixed) x

@@ -25,7 +25,9 @@ use Rattle.sheet.specs.Sound.{nth, Form, container, mixed-container, scalar, op
 use Rattle.promises.specs.Mixed.{Flags, Marked, Scalar, Stored, equal-token}
 use Rattle.promises.proofs.Links.Nest.{by-equal, by-below, Nest, opener-below, end-below, widen, nest-open, nest-close, all-closed}
 use Rattle.promises.proofs.Links.Flags.{codes-differ, flags-add, flags-set, flags-insert}
-use Rattle.promises.proofs.Links.Rows.{last, add-length, add-new, add-same, add-last, insert-length, insert-new, insert-last, insert-same, Unmarked, unmarked, scalar-made, scalar-unlinked, Unheaded, unheaded, Plain, mixed-unlinked, Row, Apart, row-add, row-set, row-insert}
+use Rattle.promises.proofs.Links.Rows.{last, add-length, add-new, add-same, add-last, insert-length, insert-new, insert-last, insert-same, Unmarked}
+use Rattle.promises.proofs.Links.Rows.{unmarked, scalar-made, scalar-unlinked, Unheaded, unheaded, Plain, mixed-unlinked, Row, Apart, row-add, row-set}
+use Rattle.promises.proofs.Links.Rows.{row-insert}
 
 -- the link at each index
 abbrev pub link-at : List Token → ℕ → Link
@@ -65,7 +67,8 @@ opener-no-scalar : {t : Token} {link : ℕ} {P : Type 0} → link-of t ≡ ToEnd
 opener-no-scalar {t} e s = absurd (unlinked-opens t (scalar-unlinked s) (link-made t e))
 
 -- a token of a form that is read as an opener names what it is read to name
-pub container-link : {t : Token} {kind : ContainerKind} {link : ℕ} {mixed : Bool} → Form t → container-of t ≡ Containers.the-variants.Opened kind link mixed → link-of t ≡ ToEnd link
+pub container-link : {t : Token} {kind : ContainerKind} {link : ℕ} {mixed : Bool} → Form t → container-of t ≡ Containers.the-variants.Opened kind link mixed
+    → link-of t ≡ ToEnd link
 unfolding container-of
 container-link {t} {kind} {link} {mixed} (container end o) e =
     let r : container-of t ≡ Containers.the-variants.Opened (o .0) end (o .1) = ap container-of (o .2) ∙ opener-container (o .0) end (o .1) in
@@ -79,13 +82,15 @@ container-link {t} (operator number low high q) e = let z : _≡_ {A = ℕ} 0 1 
 container-link {t} (closing opener q) e = let z : _≡_ {A = ℕ} 0 1 = cc in absurd (omega arith)
 
 -- and one that names another token behind or before it is read so
-pub link-container : (t : Token) {link : ℕ} → link-of t ≡ ToEnd link → (kind : ContainerKind) × (mixed : Bool) × (container-of t ≡ Containers.the-variants.Opened kind link mixed)
+pub link-container : (t : Token) {link : ℕ} → link-of t ≡ ToEnd link
+    → (kind : ContainerKind) × (mixed : Bool) × (container-of t ≡ Containers.the-variants.Opened kind link mixed)
 link-container t {link} e =
     let o = link-made t e in
     (o .0, o .1, ap container-of (o .2) ∙ opener-container (o .0) link (o .1))
 
 -- what is read as an opener was made as it is read
-container-made : {t : Token} {kind : ContainerKind} {link : ℕ} {mixed : Bool} → Form t → container-of t ≡ Containers.the-variants.Opened kind link mixed → t ≡ opener-of kind link mixed
+container-made : {t : Token} {kind : ContainerKind} {link : ℕ} {mixed : Bool} → Form t → container-of t ≡ Containers.the-variants.Opened kind link mixed
+    → t ≡ opener-of kind link mixed
 container-made {t} {kind} {link} {mixed} form e =
     let o = link-made t (container-link form e) in
     let r : container-of t ≡ Containers.the-variants.Opened (o .0) link (o .1) = ap container-of (o .2) ∙ opener-container (o .0) link (o .1) in
@@ -174,7 +179,10 @@ kept-close ts p up kind mixed r here inner =
     let below : p < n = opener-below (r .kept .links) here in
     let l : length us ≡ n = length-set ts p x in
     let at : nth us p ≡ x = getD-set-same ts p x no-token below in
-    let row : Row us = row-set ts p x below (r .kept .row) (container n (opens-self kind n mixed)) (opener-unmarked kind n mixed) (λ o. (n, opens-self kind n mixed)) (opener-no-scalar here) (λ h. opener-unheaded kind n mixed) in
+    let row : Row us =
+    row-set ts p x below (r .kept .row) (container n (opens-self kind n mixed)) (opener-unmarked kind n mixed) (λ o. (n, opens-self kind n mixed))
+    (opener-no-scalar here) (λ h. opener-unheaded kind n mixed)
+    in
     let flags : Flags us =
     flags-set ts p x below (r .kept .flags) (opener-no-equal kind n mixed)
     (λ c m e h. let o = object-kind kind n mixed c m e .1 in absurd (omega arith))
@@ -199,7 +207,8 @@ kept-close ts p up kind mixed r here inner =
     }
 
 -- ---- a token changed for one that names the same
-pub kept-alike : (ts : List Token) (k : ℕ) (x : Token) {p : ℕ} → k < length ts → Kept ts p → Form x → Unmarked x → (Scalar (nth ts k) → Scalar x) → link-of x ≡ link-at ts k
+pub kept-alike : (ts : List Token) (k : ℕ) (x : Token) {p : ℕ} → k < length ts → Kept ts p → Form x → Unmarked x → (Scalar (nth ts k) → Scalar x)
+    → link-of x ≡ link-at ts k
     → (k + 1 < length ts → Unheaded x) → Flags (set ts k x) → Kept (set ts k x) p
 kept-alike ts k x {p} below s form bare scalars same other flags =
     record {
@@ -213,7 +222,8 @@ kept-alike ts k x {p} below s form bare scalars same other flags =
     }
 
 -- the last, an Unquoted, as a Header
-pub kept-header : (ts : List Token) {p : ℕ} → Resting ts p → 1 ≤ length ts → standing-of (last ts) ≡ Standings.the-variants.Unquoted → Kept (set ts (length ts - 1) (headed (last ts))) p
+pub kept-header : (ts : List Token) {p : ℕ} → Resting ts p → 1 ≤ length ts → standing-of (last ts) ≡ Standings.the-variants.Unquoted
+    → Kept (set ts (length ts - 1) (headed (last ts))) p
 kept-header ts r some e =
     let t : Token = last ts in
     let one : Scalar t = standing-scalar (r .kept .row .forms (length ts - 1) (omega arith)) (rw e tt) in
@@ -240,7 +250,10 @@ kept-flag ts p kind link mixed below s e =
     (opener-link kind link true ∙ sym here)
     (λ h. opener-unheaded kind link true)
     (flags-set ts p (opener-of kind link true) below (s .flags) (opener-no-equal kind link true)
-    (λ c m f h. let o = object-kind kind link true c m f in (mixed, container-made (s .row .forms p below) e ∙ ap (λ (k : ContainerKind). opener-of k link mixed) (o .0) ∙ ap (λ (l : ℕ). opener-of Object l mixed) (o .1)))
+    (λ c m f h. let o = object-kind kind link true c m f in (
+      mixed,
+      container-made (s .row .forms p below) e ∙ ap (λ (k : ContainerKind). opener-of k link mixed) (o .0) ∙ ap (λ (l : ℕ). opener-of Object l mixed) (o .1),
+    ))
     (λ j m f h g. record { kind = kind; link = link; made = refl }))
 
 -- ---- nothing open: the sentences of a sound sheet that speak of forms, links and Headers; and MixedContainers

@@ -61,7 +61,8 @@ Remembers p us = last us ≡ equal-token → Stored us p
 -- the opener settles
 settle-held : (m : Machine) (ts : List Token) (kind : ContainerKind) (at : ℕ) (state : State) → Settled state
     → Fresh (Remembers (m .parent)) (m .count) (m .parent) ts
-    → Held (record { at = at; state = state; parent = m .count - 2; mixed = false; count = m .count }) (set ts (m .count - 2) (opener-of kind (m .parent) false))
+    → Held (record { at = at; state = state; parent = m .count - 2; mixed = false; count = m .count })
+    (set ts (m .count - 2) (opener-of kind (m .parent) false))
 settle-held m ts kind at state d f =
     let us : List Token = f .before in
     let x : Token = opener-of kind (m .parent) false in
@@ -85,7 +86,8 @@ none-open ts {p} k e = go (k .links .parent)
     go (inr o) = let c = link-container (nth ts p) (o .1) .2 in let z : _≡_ {A = ℕ} 0 1 = cc in absurd (omega arith)
 
 -- the parent's flag set, where mixed is on
-flag-held : (m : Machine) (ts : List Token) → Fresh (Signed (m .mixed)) (m .count) (m .parent) ts → Fresh (Remembers (m .parent)) (m .count) (m .parent) (flagged ts m)
+flag-held : (m : Machine) (ts : List Token) → Fresh (Signed (m .mixed)) (m .count) (m .parent) ts
+    → Fresh (Remembers (m .parent)) (m .count) (m .parent) (flagged ts m)
 unfolding flag-parent replace token-at
 flag-held m ts f =
     let us : List Token = f .before in
@@ -136,7 +138,8 @@ module _ (m : Machine) (ts : List Token) (c : m .count ≡ length ts) (us : List
   settled-tokens : (kind : ContainerKind) → set ts (m .count - 1) (opener-of kind (m .parent) false) ≡ us ++ (opener-of kind (m .parent) false ∷ [])
   settled-tokens kind = rw standing (reset us unsettled (opener-of kind (m .parent) false) [] place)
 
-  settled : (kind : ContainerKind) → (kind ≡ Object → Remembers (m .parent) us) → Ready (m .count) (m .count - 1) (set ts (m .count - 1) (opener-of kind (m .parent) false))
+  settled : (kind : ContainerKind) → (kind ≡ Object → Remembers (m .parent) us)
+      → Ready (m .count) (m .count - 1) (set ts (m .count - 1) (opener-of kind (m .parent) false))
   settled kind led =
       let x : Token = opener-of kind (m .parent) false in
       let l : length (set ts (m .count - 1) x) ≡ length ts = length-set ts (m .count - 1) x in
@@ -177,7 +180,8 @@ module _ (m : Machine) (ts : List Token) (c : m .count ≡ length ts) (us : List
       settle-held past (flagged (ts ++ (x ∷ [])) past) kind at state (settles-settled s) (flag-held past (ts ++ (x ∷ [])) fresh)
 
   -- a container for a first entry
-  pub settled-held : Held (record { at = m .at; state = ArrayValue; parent = m .count - 1; mixed = false; count = m .count }) (set ts (m .count - 1) (opener-of Array (m .parent) false))
+  pub settled-held : Held (record { at = m .at; state = ArrayValue; parent = m .count - 1; mixed = false; count = m .count })
+      (set ts (m .count - 1) (opener-of Array (m .parent) false))
   settled-held =
       let g = array-settled in
       record { counted = g .rest .counted; shaped = (g .rest .resting, g .some, opener-last, λ z. settled-apart Array) }
@@ -187,7 +191,8 @@ module _ (m : Machine) (ts : List Token) (c : m .count ≡ length ts) (us : List
   object-rests off = settled Object (λ o h. not-both (signed h) off) .rest
 
   -- the opener and its End are those of a settled Array that is closed
-  pub emptied-held : Held (resumed (container-in ts (m .parent)) (m .parent) (m .at + 1) (m .count + 1)) (closed-as ts (m .count - 1) (opener-of Array (m .count) false))
+  pub emptied-held : Held (resumed (container-in ts (m .parent)) (m .parent) (m .at + 1) (m .count + 1))
+      (closed-as ts (m .count - 1) (opener-of Array (m .count) false))
   emptied-held =
       let op : Token = opener-of Array (m .parent) false in
       let vs : List Token = us ++ (op ∷ []) in

@@ -28,7 +28,11 @@ start-held bom = record {
   counted = refl;
   shaped = record {
     kept = record {
-      row = record { forms = λ i h. absurd (omega arith); headed = λ i offset size e h. absurd (omega arith); marked = λ i e. absurd (unmarked no-token (λ z. omega arith) e) };
+      row = record {
+        forms = λ i h. absurd (omega arith);
+        headed = λ i offset size e h. absurd (omega arith);
+        marked = λ i e. absurd (unmarked no-token (λ z. omega arith) e);
+      };
       links = nest-none (λ i. ap linked no-shape);
       flags = λ i c mixed e. codes-differ (λ z. omega arith) e;
     };
@@ -40,5 +44,6 @@ pub run-from-start : (text : List ℕ) (n : ℕ) (bom : Bool) (t : Tape) → t .
 run-from-start text n bom t none = run-keeps Held Finished text (turn-moves text) n (next (start bom) t) (rw none (start-held bom))
 
 -- the words of a successful parse hold as many tokens as it answers, and they are tied
-pub parse-tied : (text : List ℕ) (len count : ℕ) (bom : Bool) (words : List ℕ) → parse-of text len ≡ outcome (Tokens count bom) words → Finished count (tokens-in words count)
+pub parse-tied : (text : List ℕ) (len count : ℕ) (bom : Bool) (words : List ℕ) → parse-of text len ≡ outcome (Tokens count bom) words
+    → Finished count (tokens-in words count)
 parse-tied text len count bom words e = rw e at (parse-keeps Held Finished text (start-held (has-bom text)) (turn-moves text) (λ n ts h. h .counted) len)

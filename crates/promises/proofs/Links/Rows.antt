@@ -16,7 +16,8 @@ use Rattle.tape.specs.declared.token.Token.{Token}
 use Rattle.tape.specs.declared.token.ScalarKind.{ScalarKind}
 use Rattle.tape.specs.declared.token.ScalarKind.the-variants.{Header}
 use Rattle.tape.specs.declared.shape.Link.{Link}
-use Rattle.tape.specs.Token.{no-token, least-operator, greatest-operator, is-scalar-code, is-header, mixed-container-token, scalar-of, operator-of, header-code, mixed-container-code, scalar-code}
+use Rattle.tape.specs.Token.{no-token, least-operator, greatest-operator, is-scalar-code, is-header, mixed-container-token, scalar-of, operator-of, header-code}
+use Rattle.tape.specs.Token.{mixed-container-code, scalar-code}
 use Rattle.tape.specs.Shape.{linked, link-of, Opens}
 use Rattle.tape.specs.Tape.{before-last}
 use Rattle.tape.proofs.Shapes.{scalar-shape, operator-shape, mixed-container-shape, unlinked-opens}
@@ -146,7 +147,12 @@ numbered Exists = omega arith
 pub plain-operator : (o : Operator) → Plain (operator-of (number-of o))
 plain-operator o =
     let r = numbered o in
-    record { form = operator (number-of o) (r .0) (r .1) refl; unlinked = ap linked (operator-shape (number-of o) (r .0) (r .1)); other = unheaded _ (λ z. omega arith); bare = unmarked _ (λ z. omega arith) }
+    record {
+      form = operator (number-of o) (r .0) (r .1) refl;
+      unlinked = ap linked (operator-shape (number-of o) (r .0) (r .1));
+      other = unheaded _ (λ z. omega arith);
+      bare = unmarked _ (λ z. omega arith);
+    }
 
 pub mixed-unlinked : link-of mixed-container-token ≡ Link.Nothing
 mixed-unlinked = ap linked mixed-container-shape
@@ -178,7 +184,8 @@ apart-add ts x r j h e =
     omega arith
 
 -- a token added: behind a Header only an opener
-pub row-add : (ts : List Token) (x : Token) → Row ts → Form x → Unmarked x → ((offset size : ℕ) → last ts ≡ scalar-of Header offset size → Opener x) → Row (ts ++ (x ∷ []))
+pub row-add : (ts : List Token) (x : Token) → Row ts → Form x → Unmarked x → ((offset size : ℕ) → last ts ≡ scalar-of Header offset size → Opener x)
+    → Row (ts ++ (x ∷ []))
 row-add ts x r form bare suits = record {
   forms = λ i h.
       by-equal i (length ts)
@@ -202,7 +209,8 @@ row-add ts x r form bare suits = record {
 }
 
 -- a token changed: an opener stays one, a scalar stays one, and a Header is made of the last alone
-pub row-set : (ts : List Token) (k : ℕ) (x : Token) → k < length ts → Row ts → Form x → Unmarked x → (Opener (nth ts k) → Opener x) → (Scalar (nth ts k) → Scalar x)
+pub row-set : (ts : List Token) (k : ℕ) (x : Token) → k < length ts → Row ts → Form x → Unmarked x → (Opener (nth ts k) → Opener x)
+    → (Scalar (nth ts k) → Scalar x)
     → (k + 1 < length ts → Unheaded x) → Row (set ts k x)
 row-set ts k x below r form bare keeps scalars other = record {
   forms = λ i h.
@@ -231,7 +239,8 @@ row-set ts k x below r form bare keeps scalars other = record {
 }
 
 -- a MixedContainer put in before the last, which is a scalar and no Header, and has none before it
-pub row-insert : (ts : List Token) (k : ℕ) → length ts ≡ suc k → Row ts → Scalar (nth ts k) → Unheaded (nth ts k) → Apart ts → Row (before-last ts mixed-container-token)
+pub row-insert : (ts : List Token) (k : ℕ) → length ts ≡ suc k → Row ts → Scalar (nth ts k) → Unheaded (nth ts k) → Apart ts
+    → Row (before-last ts mixed-container-token)
 row-insert ts k counted r last-one other apart =
     let x : Token = mixed-container-token in
     let l : length (before-last ts x) ≡ length ts + 1 = insert-length ts x k counted in

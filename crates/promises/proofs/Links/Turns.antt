@@ -28,14 +28,17 @@ use Rattle.parse.specs.declared.machine.Machine.{Machine}
 use Rattle.parse.specs.Machine.{to}
 use Rattle.parse.specs.KeyValueSeparator.{mixed-on}
 use Rattle.parse.specs.Parse.{turn}
-use Rattle.parse.proofs.Moves.{Result, Named, defined, undefined, Asked, Valued, run-token, Takes, key, value, entry, Opens, in-value, in-array, Closes, as-object, as-own, Asks, asks-key, asks-open, ScalarStands, Came, passes, separates, takes, separates-by, operates, mixes, mixes-by, opens, heads, closes, empties, settles, begins, values, objects, refuses}
+use Rattle.parse.proofs.Moves.{Result, Named, defined, undefined, Asked, Valued, run-token, Takes, key, value, entry, Opens, in-value, in-array, Closes}
+use Rattle.parse.proofs.Moves.{as-object, as-own, Asks, asks-key, asks-open, ScalarStands, Came, passes, separates, takes, separates-by, operates, mixes}
+use Rattle.parse.proofs.Moves.{mixes-by, opens, heads, closes, empties, settles, begins, values, objects, refuses}
 use Rattle.parse.proofs.Walk.{Meets, Keeps, turn-keeps}
 use Rattle.promises.specs.Mixed.{Scalar, equal-token}
 use Rattle.promises.proofs.Links.Nest.{by-below}
 use Rattle.promises.proofs.Links.Rows.{last, add-length, add-last, insert-length, Cut-kind, scalar-made, plain-scalar, plain-operator, Apart}
 use Rattle.promises.proofs.Links.Flags.{codes-differ, not-both, scalar-no-equal}
 use Rattle.promises.proofs.Links.Kept.{Kept, Resting, standing-scalar, kept-plain, kept-opener, kept-insert, kept-header}
-use Rattle.promises.proofs.Links.Held.{Signed, Shaped, unsettled, Held, Finished, Resting-at, Ready, All, counted-add, Settled, settled-before, added, taken-plain}
+use Rattle.promises.proofs.Links.Held.{Signed, Shaped, unsettled, Held, Finished, Resting-at, Ready, All, counted-add, Settled, settled-before, added}
+use Rattle.promises.proofs.Links.Held.{taken-plain}
 use Rattle.promises.proofs.Links.Closing.{close-held, end-held}
 use Rattle.promises.proofs.Links.Opening.{begun-held, settled-held, object-rests, emptied-held}
 
@@ -159,7 +162,9 @@ module _ (text : List ℕ) (m : Machine) (ts : List Token) (h : Held m ts) where
       let l : length us ≡ length ts = length-set ts (m .count - 1) x in
       let there : m .count - 1 < length ts = omega (arith, r .counted) in
       let k : Kept us (m .parent) = rw (r .counted) (kept-header ts (r .resting) some s) in
-      let header-last : Signed (m .mixed) us = λ f. codes-differ (λ z. omega arith) (rw (l, ← (r .counted), getD-set-same ts (m .count - 1) x no-token there) at f) in
+      let header-last : Signed (m .mixed) us =
+      λ f. codes-differ (λ z. omega arith) (rw (l, ← (r .counted), getD-set-same ts (m .count - 1) x no-token there) at f)
+      in
       opened-held m us at (r .counted ∙ sym l) k (rw l some) header-last
 
   move-held : {n : ℕ} {x : Result} → Came text m ts n x → Meets Held Finished x

@@ -14,14 +14,17 @@ use Rattle.tape.specs.declared.token.ScalarKind.{ScalarKind}
 use Rattle.tape.specs.declared.token.ContainerKind.{ContainerKind}
 use Rattle.tape.specs.declared.token.Container.the-variants.{Opened, Nothing}
 use Rattle.tape.specs.declared.token.Standing as Standings
-use Rattle.tape.specs.Token.{array-code, object-code, scalar-named, mixed-container-token, opener-of, scalar-of, operator-of, end-of, headed, container-of, standing-of}
+use Rattle.tape.specs.Token.{array-code, object-code, scalar-named, mixed-container-token, opener-of, scalar-of, operator-of, end-of, headed, container-of}
+use Rattle.tape.specs.Token.{standing-of}
 use Rattle.tape.specs.Tape.{before-last}
 use Rattle.tape.proofs.Makers.{scalar-container, unquoted-coded}
 use Rattle.parse.specs.Containers.{nothing-open}
 use Rattle.parse.proofs.Splits.{by-container}
 use Rattle.sheet.specs.Sound.{nth}
-use Rattle.promises.proofs.Rising.Spans.{span, span-of, spans, Follows, Upto, opener-bare, end-bare, mixed-bare, scalar-span, spans-add, spans-set, spans-before-last, upto-later, upto-add}
-use Rattle.promises.proofs.Rising.Links.{Stands, Linked, link, stands-unlinked, stands-add, stands-set, linked-add, linked-set, linked-mixed, linked-in, linked-close}
+use Rattle.promises.proofs.Rising.Spans.{span, span-of, spans, Follows, Upto, opener-bare, end-bare, mixed-bare, scalar-span, spans-add, spans-set}
+use Rattle.promises.proofs.Rising.Spans.{spans-before-last, upto-later, upto-add}
+use Rattle.promises.proofs.Rising.Links.{Stands, Linked, link, stands-unlinked, stands-add, stands-set, linked-add, linked-set, linked-mixed, linked-in}
+use Rattle.promises.proofs.Rising.Links.{linked-close}
 
 -- ---- tokens
 pub scalar-link : (kind : ScalarKind) (offset size : ℕ) → link (scalar-of kind offset size) ≡ 0

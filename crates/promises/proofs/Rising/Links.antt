@@ -102,7 +102,8 @@ stands-add ts x i s h =
     let k = s h in
     (omega (arith, k .0, length-append ts (x ∷ [])), rw (nth-add ts x i (k .0)) (k .1))
 
-pub linked-add : (ts : List Token) (count parent : ℕ) (x : Token) → Stands (ts ++ (x ∷ [])) (link x) → Linked count parent ts → Linked (count + 1) parent (ts ++ (x ∷ []))
+pub linked-add : (ts : List Token) (count parent : ℕ) (x : Token) → Stands (ts ++ (x ∷ [])) (link x) → Linked count parent ts
+    → Linked (count + 1) parent (ts ++ (x ∷ []))
 linked-add ts count parent x s l =
     record {
       counted = omega (arith, l .counted, length-append ts (x ∷ []));
@@ -125,7 +126,8 @@ stands-set ts i x j e s h =
     let k = s h in
     (rw (length-set ts i x) (k .0), nth-set ts i x j e ∙ k .1)
 
-pub linked-set : (ts : List Token) (count parent i : ℕ) (x : Token) → span-of x ≡ span-of (nth ts i) → Stands ts (link x) → Linked count parent ts → Linked count parent (set ts i x)
+pub linked-set : (ts : List Token) (count parent i : ℕ) (x : Token) → span-of x ≡ span-of (nth ts i) → Stands ts (link x) → Linked count parent ts
+    → Linked count parent (set ts i x)
 linked-set ts count parent i x e s l =
     record {
       counted = l .counted ∙ sym (length-set ts i x);
@@ -178,7 +180,9 @@ linked-close ts count parent i kind mixed e l =
     by-bool (ltb i (length ts))
     (λ h.
     let within : i < length ts = ltb-true _ _ h in
-    let here : Stands (ts ++ (y ∷ [])) (link x) = rw (opener-link kind count mixed, l .counted) (λ z. (omega (arith, length-append ts (y ∷ [])), rw (nth-last ts y) (end-bare i))) in
+    let here : Stands (ts ++ (y ∷ [])) (link x) =
+    rw (opener-link kind count mixed, l .counted) (λ z. (omega (arith, length-append ts (y ∷ [])), rw (nth-last ts y) (end-bare i)))
+    in
     rw (← set-append-left ts (y ∷ []) i x within)
     (linked-set (ts ++ (y ∷ [])) (count + 1) parent i x (rw (nth-add ts y i within) (opener-bare kind count mixed ∙ sym e)) here more))
     (λ h. rw (set-out ts i x (ltb-false _ _ h)) more)

@@ -131,7 +131,8 @@ view-none kind offset size e =
     omega arith
 
 -- a first token's view follows the floor, and the others rise from its end
-upto-first : (t : Token) (ts : List Token) (floor end : ℕ) (kind : ScalarKind) (offset size : ℕ) → Upto floor (spans (t ∷ ts)) end → t ≡ scalar-of kind offset size
+upto-first : (t : Token) (ts : List Token) (floor end : ℕ) (kind : ScalarKind) (offset size : ℕ) → Upto floor (spans (t ∷ ts)) end
+    → t ≡ scalar-of kind offset size
     → (mid : ℕ) × Follows floor (span kind offset size) mid × Upto mid (spans ts) end
 unfolding Upto spans
 upto-first t ts floor end kind offset size u e =
@@ -140,7 +141,8 @@ upto-first t ts floor end kind offset size u e =
     rw s at v
 
 -- any view among the tokens follows the floor
-pub upto-at : (ts : List Token) (floor end i : ℕ) (kind : ScalarKind) (offset size : ℕ) → Upto floor (spans ts) end → nth ts i ≡ scalar-of kind offset size → Follows floor (span kind offset size) end
+pub upto-at : (ts : List Token) (floor end i : ℕ) (kind : ScalarKind) (offset size : ℕ) → Upto floor (spans ts) end → nth ts i ≡ scalar-of kind offset size
+    → Follows floor (span kind offset size) end
 unfolding spans
 upto-at [] floor end i kind offset size u e = absurd (view-none kind offset size e)
 upto-at (t ∷ ts) floor end zero kind offset size u e =

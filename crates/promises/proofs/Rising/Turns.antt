@@ -28,12 +28,16 @@ use Rattle.parse.specs.Machine.{to}
 use Rattle.parse.specs.Containers.{parent-of, state-in}
 use Rattle.parse.specs.ParseOpen.{flag-parent}
 use Rattle.parse.proofs.Splits.{by-container}
-use Rattle.parse.proofs.Moves.{Result, container-in, above, unsettled, closed-as, flagged, Taken, unquoted, quoted, Asked, Valued, run-token, Takes, key, value, entry, Settles, with-key, with-entry, Asks, asks-key, asks-open, Came, passes, separates, takes, separates-by, operates, mixes, mixes-by, opens, heads, closes, empties, settles, begins, values, objects, refuses, Over, done-bare, done-closed, too-early, name-run, value-run, value-rest}
+use Rattle.parse.proofs.Moves.{Result, container-in, above, unsettled, closed-as, flagged, Taken, unquoted, quoted, Asked, Valued, run-token, Takes, key, value}
+use Rattle.parse.proofs.Moves.{entry, Settles, with-key, with-entry, Asks, asks-key, asks-open, Came, passes, separates, takes, separates-by, operates, mixes}
+use Rattle.parse.proofs.Moves.{mixes-by, opens, heads, closes, empties, settles, begins, values, objects, refuses, Over, done-bare, done-closed, too-early}
+use Rattle.parse.proofs.Moves.{name-run, value-run, value-rest}
 use Rattle.parse.proofs.Walk.{Meets, Keeps}
 use Rattle.sheet.specs.Sound.{nth}
 use Rattle.promises.proofs.Rising.Spans.{span-of, spans, Upto, opener-bare, operator-bare, upto-later}
 use Rattle.promises.proofs.Rising.Links.{Stands, link, opener-link, stands-unlinked, stands-up, stands-set, nth-add, nth-last, nth-set}
-use Rattle.promises.proofs.Rising.Laid.{Base, operator-link, opened-bare, headed-span, headed-link, base-later, base-in, base-bare, base-scalar, base-run, base-set, base-mixed, base-close, stands-closed, open-bare}
+use Rattle.promises.proofs.Rising.Laid.{Base, operator-link, opened-bare, headed-span, headed-link, base-later, base-in, base-bare, base-scalar}
+use Rattle.promises.proofs.Rising.Laid.{base-run, base-set, base-mixed, base-close, stands-closed, open-bare}
 
 -- in ParseOpen the last token is no scalar
 abbrev pub Topped : State → ℕ → List Token → Type 0
@@ -80,7 +84,8 @@ module _ {L at count parent : ℕ} {ts : List Token} (b : Base L at count parent
 
   -- an unsettled opener, which then stands last
   unsettled-base : (later : ℕ) → at ≤ later → Base L later (count + 1) parent (ts ++ (unsettled ∷ []))
-  unsettled-base later h = base-later (base-bare b unsettled (opener-bare Array 0 false) (stands-unlinked ts (link unsettled) (opener-link Array 0 false))) later h
+  unsettled-base later h =
+      base-later (base-bare b unsettled (opener-bare Array 0 false) (stands-unlinked ts (link unsettled) (opener-link Array 0 false))) later h
 
   unsettled-topped : Topped ParseOpen (count + 1) (ts ++ (unsettled ∷ []))
   unsettled-topped = (omega arith, rw (add-sub-cancel count 1, b .linked .counted, nth-last ts unsettled) (opener-bare Array 0 false))
@@ -102,7 +107,8 @@ module _ {L at count parent : ℕ} {ts : List Token} (b : Base L at count parent
       base-in (base-bare b x bare up) count (rw (b .linked .counted) (λ z. (omega (arith, length-append ts (x ∷ [])), rw (nth-last ts x) bare)))
 
 -- a scalar that is cut
-taken-base : {text : List ℕ} {at : ℕ} {x : Token} {rest : ℕ} → Taken text at x rest → {count parent : ℕ} {ts : List Token} → Base (length text) at count parent ts
+taken-base : {text : List ℕ} {at : ℕ} {x : Token} {rest : ℕ} → Taken text at x rest → {count parent : ℕ} {ts : List Token}
+    → Base (length text) at count parent ts
     → Base (length text) rest (count + 1) parent (ts ++ (x ∷ []))
 taken-base {text} {at} (unquoted start end rest q) b =
     let v = unquoted-bounds text at start end rest q in
@@ -166,7 +172,8 @@ module _ (text : List ℕ) (m : Machine) (ts : List Token) (k : Kept (length tex
 
   -- the first scalar of a container, with the parent's flag set and the opener settled
   begun-base : {x : Token} {rest : ℕ} → m .state ≡ ParseOpen → Taken text (m .at) x rest → (kind : ContainerKind)
-      → Base L rest (m .count + 1) (m .count + 1 - 2) (set (flagged (ts ++ (x ∷ [])) (to m rest ParseOpen (m .count + 1))) (m .count + 1 - 2) (opener-of kind (m .parent) false))
+      → Base L rest (m .count + 1) (m .count + 1 - 2)
+      (set (flagged (ts ++ (x ∷ [])) (to m rest ParseOpen (m .count + 1))) (m .count + 1 - 2) (opener-of kind (m .parent) false))
   begun-base {x} {rest} e taken kind =
       let top : Topped ParseOpen (m .count) ts = rw e at (k .topped) in
       let past : Machine = to m rest ParseOpen (m .count + 1) in
@@ -174,7 +181,8 @@ module _ (text : List ℕ) (m : Machine) (ts : List Token) (k : Kept (length tex
       let one-back : m .count + 1 - 2 ≡ m .count - 1 = omega arith in
       let below : m .count - 1 < length ts = omega (arith, b .linked .counted, top .0) in
       let bare : span-of (nth (ts ++ (x ∷ [])) (m .count + 1 - 2)) ≡ [] = rw (one-back, nth-add ts x (m .count - 1) below) (top .1) in
-      settled-base (flag-keeps past (ts ++ (x ∷ [])) c) kind (m .count + 1 - 2) (omega (arith, top .0)) (flag-views past (ts ++ (x ∷ [])) c (m .count + 1 - 2) ∙ bare)
+      settled-base (flag-keeps past (ts ++ (x ∷ [])) c) kind (m .count + 1 - 2) (omega (arith, top .0))
+      (flag-views past (ts ++ (x ∷ [])) c (m .count + 1 - 2) ∙ bare)
 
   move-keeps : {n : ℕ} {x : Result} → Came text m ts n x → Meets (Kept L) (Finished L) x
   move-keeps (passes at e h) = record { base = base-later b at (omega arith); topped = rw e at (k .topped) }
@@ -210,13 +218,15 @@ module _ (text : List ℕ) (m : Machine) (ts : List Token) (k : Kept (length tex
   move-keeps (values {start = start} {rest = rest} asks asked valued) =
       let v = value-run valued in
       record {
-        base = base-run (named-base asks asked) Unquoted start (run-end text start) (rest + 1) (v .from) (v .moves) (v .within) (omega (arith, value-rest valued .from));
+        base = base-run (named-base asks asked) Unquoted start (run-end text start) (rest + 1) (v .from) (v .moves) (v .within)
+            (omega (arith, value-rest valued .from));
         topped = tt;
       }
   move-keeps (objects {start = start} {rest = rest} asks asked valued) =
       let v = value-run valued in
       record {
-        base = base-run (object-base (named-base asks asked)) Unquoted start (run-end text start) rest (v .from) (v .moves) (v .within) (value-rest valued .from);
+        base = base-run (object-base (named-base asks asked)) Unquoted start (run-end text start) rest (v .from) (v .moves) (v .within)
+            (value-rest valued .from);
         topped = tt;
       }
   move-keeps (refuses r few) = tt
