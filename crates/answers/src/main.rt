@@ -2,9 +2,35 @@
 // bytes and a body of that length; numbers have their larger bytes first. Input is read and answers are written in large blocks.
 use libc::STDIN_FILENO;
 use libc::STDOUT_FILENO;
+use report::limits::DUMP_BYTES;
+use report::limits::MOST_INPUT;
+use report::limits::TAPE_WORDS;
 use report::put::front;
+use tape::words::WORDS_PER_TOKEN;
 ghost use Prim.Native.Nat.{_+_, _≤_, _<_};
 ghost use lib.ListN.{length};
+
+// The bytes of a record before its body: its kind, its capacity and its length.
+const HEAD: usize = 5;
+
+// The bytes of a word in a body.
+const WORD: usize = 4;
+
+// The bytes of a body before its words, where a check is asked for, and where a view is.
+const CHECK_HEAD: usize = 2 * WORD;
+
+const VIEW_HEAD: usize = 2 * WORD + 2;
+
+// Where a view's record has the two bytes that say how many words there are.
+const WORDS_HIGH: usize = 2 * WORD;
+
+const WORDS_LOW: usize = 2 * WORD + 1;
+
+// How many bytes are read at a time.
+const BLOCK: usize = 4 * MOST_INPUT;
+
+// Bytes for the answers that are not yet written: while no more than half of them are taken, any answer finds room.
+const ANSWER_BYTES: usize = 2 * DUMP_BYTES;
 
 // The answer to a record: the place after its lines, or that the record is bad.
 enum Answer {
@@ -43,10 +69,10 @@ fn take_words(bytes: &[u8], words: &mut [u32]) -> usize
 {
     let mut n = 0;
     while n < words.len() {
-        if bytes.len() / 4 <= n {
+        if bytes.len() / WORD <= n {
             return n;
         }
-        words[n] = word_at(bytes, n * 4);
+        words[n] = word_at(bytes, n * WORD);
         n += 1;
     }
     n
@@ -60,10 +86,10 @@ fn tokens_answer(
     text: &[u8],
     words: &mut [u32],
 ) -> Answer {
-    if words.len() / 3 < capacity {
+    if words.len() / WORDS_PER_TOKEN < capacity {
         return Answer::Bad;
     }
-    let room = capacity * 3;
+    let room = capacity * WORDS_PER_TOKEN;
     Answer::Put(report::dump::put_dump(out, at, text, &mut words[..room]))
 }
 
@@ -74,30 +100,30 @@ fn readings_answer(out: &mut [u8], at: usize, scalar: &[u8]) -> Answer {
 
 // Kind `C`: whether a sheet is sound. The text's length, the count, and the words to the body's end.
 fn check_answer(out: &mut [u8], at: usize, body: &[u8], words: &mut [u32]) -> Answer {
-    if body.len() < 8 {
+    if body.len() < CHECK_HEAD {
         return Answer::Bad;
     }
-    if body.len() % 4 != 0 {
+    if body.len() % WORD != 0 {
         return Answer::Bad;
     }
     let text_length = word_at(body, 0) as usize;
-    let count = word_at(body, 4) as usize;
-    let n = take_words(&body[8..], words);
+    let count = word_at(body, WORD) as usize;
+    let n = take_words(&body[CHECK_HEAD..], words);
     Answer::Put(report::sheets::put_check(out, at, text_length, &words[..n], count))
 }
 
 // Kind `V`: a token's view. The index, the count, how many words, the words, and the text to the body's end.
 fn view_answer(out: &mut [u8], at: usize, body: &[u8], words: &mut [u32]) -> Answer {
-    if body.len() < 10 {
+    if body.len() < VIEW_HEAD {
         return Answer::Bad;
     }
     let index = word_at(body, 0) as usize;
-    let count = word_at(body, 4) as usize;
-    let text = 10 + pair(body[8], body[9]) * 4;
+    let count = word_at(body, WORD) as usize;
+    let text = VIEW_HEAD + pair(body[WORDS_HIGH], body[WORDS_LOW]) * WORD;
     if body.len() < text {
         return Answer::Bad;
     }
-    let n = take_words(&body[10..text], words);
+    let n = take_words(&body[VIEW_HEAD..text], words);
     Answer::Put(report::sheets::put_view(out, at, &body[text..], &words[..n], count, index))
 }
 
@@ -125,23 +151,23 @@ fn stop(out: &mut [u8], at: usize) {
     io::write_all(STDOUT_FILENO, front(out, n));
 }
 
-// Answers the records that are all there. A line of a dump has at most 46 bytes, so that half of the buffer holds any answer.
+// Answers the records that are all there. It writes when more than half of the buffer is taken, and the other half holds any answer.
 fn answer_block(input: &[u8], words: &mut [u32], out: &mut [u8]) -> Answered {
     let mut to = 0;
     let mut at = 0;
-    while at + 5 <= input.len() {
+    while at + HEAD <= input.len() {
         let size = pair(input[at + 3], input[at + 4]);
-        if 32768 < size {
+        if MOST_INPUT < size {
             stop(out, to);
             return Answered::Stopped;
         }
-        let start = at + 5;
+        let start = at + HEAD;
         if input.len() - start < size {
             io::write_all(STDOUT_FILENO, front(out, to));
             return Answered::Until(at);
         }
         let end = start + size;
-        if 262144 < to {
+        if DUMP_BYTES < to {
             io::write_all(STDOUT_FILENO, front(out, to));
             to = 0;
         }
@@ -201,8 +227,8 @@ fn run(input: &mut [u8], words: &mut [u32], out: &mut [u8]) {
 }
 
 fn main() {
-    let mut input = [0u8; 131072];
-    let mut words = [0u32; 15000];
-    let mut out = [0u8; 524288];
+    let mut input = [0u8; BLOCK];
+    let mut words = [0u32; TAPE_WORDS];
+    let mut out = [0u8; ANSWER_BYTES];
     run(&mut input, &mut words, &mut out);
 }

@@ -12,6 +12,7 @@ use Rattle.parse.specs.Parse.{Outcome, outcome}
 use Rattle.parse.specs.Told.{bit, parse-told, tell-parse}
 use Rattle.sheet.specs.declared.views.Viewed.{Viewed}
 use Rattle.sheet.specs.declared.views.Viewed.the-variants.{At, NoScalar}
+use Rattle.sheet.specs.Views.{refusal-of}
 use Rattle.capi.specs.Told.{read-told, view-told, tell-view}
 
 -- the refusal and the value of a reading, told as they are
@@ -22,7 +23,8 @@ reads refusal value p v n t = cc
 -- a parsed text
 pub tells-tokens : {r : Parsed} {words : List ℕ} {spec : Outcome} {count b : ℕ} {bom : Bool} →
     outcome r words ≡ spec → r ≡ Tokens count bom → b ≡ bit bom → parse-told 0 count b 0 words ≡ tell-parse spec
-tells-tokens {words = words} {count = count} {bom = bom} p e b = ap (λ (k : ℕ). parse-told 0 count k 0 words) b ∙ ap tell-parse (sym (ap (λ (q : Parsed). outcome q words) e) ∙ p)
+tells-tokens {words = words} {count = count} {bom = bom} p e b =
+    ap (λ (k : ℕ). parse-told 0 count k 0 words) b ∙ ap tell-parse (sym (ap (λ (q : Parsed). outcome q words) e) ∙ p)
 
 -- a refused one
 pub tells-refusal : {r : Parsed} {words : List ℕ} {spec : Outcome} {n at : ℕ} {refusal : Refusal} →
@@ -32,8 +34,9 @@ tells-refusal {words = words} {at = at} {refusal = refusal} p e n l =
     ∙ ap tell-parse (sym (ap (λ (q : Parsed). outcome q words) e) ∙ p)
 
 -- a view, and none
-pub tells-view : {v spec : Viewed} {offset size : ℕ} → v ≡ spec → v ≡ At offset size → view-told 0 offset size ≡ tell-view spec
-tells-view p e = ap tell-view (sym e ∙ p)
+pub tells-view : {v spec : Viewed} {n offset size : ℕ} → v ≡ spec → v ≡ At offset size → n ≡ refusal-of (At offset size)
+    → view-told n offset size ≡ tell-view spec
+tells-view {offset = offset} {size = size} p e n = ap (λ (k : ℕ). view-told k offset size) n ∙ ap tell-view (sym e ∙ p)
 
-pub tells-none : {v spec : Viewed} → v ≡ spec → v ≡ NoScalar → view-told 12 0 0 ≡ tell-view spec
-tells-none p e = ap tell-view (sym e ∙ p)
+pub tells-none : {v spec : Viewed} {n : ℕ} → v ≡ spec → v ≡ NoScalar → n ≡ refusal-of v → view-told n 0 0 ≡ tell-view spec
+tells-none p e n = ap (λ (k : ℕ). view-told k 0 0) (n ∙ ap refusal-of e) ∙ ap tell-view (sym e ∙ p)

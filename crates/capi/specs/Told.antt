@@ -4,7 +4,8 @@ use Prim.Native.Nat.{ℕ}
 use lib.Ieee.{Float}
 use lib.IntN.{ℤ}
 use Rattle.parse.specs.Told.{bit}
-use Rattle.scalar.specs.Numbers.{bool-refusal-of, bool-value-of, u64-refusal-of, u64-value-of, i64-refusal-of, i64-value-of, f64-refusal-of, f64-value-of}
+use Rattle.scalar.specs.Numbers.{bool-refusal-of, bool-value-of, u64-refusal-of, u64-value-of}
+use Rattle.scalar.specs.Numbers.{i64-refusal-of, i64-value-of, f64-refusal-of, f64-value-of}
 use Rattle.scalar.specs.declared.truth.BoolRead.{BoolRead}
 use Rattle.scalar.specs.declared.whole.U64Read.{U64Read}
 use Rattle.scalar.specs.declared.whole.I64Read.{I64Read}
@@ -39,6 +40,9 @@ tell-i64 r = read-told (i64-refusal-of r) (i64-value-of r)
 abbrev pub tell-f64 : F64Read → ReadTold Float
 tell-f64 r = read-told (f64-refusal-of r) (f64-value-of r)
 
--- a token's three words
-abbrev pub token-told : ℕ → ℕ → ℕ → Token
-token-told code a b = record { code = code; a = a; b = b }
+-- a token: its code, a and b
+pub data TokenTold : Type 0 where
+  token-told : (code a b : ℕ) → TokenTold
+
+abbrev pub tell-token : Token → TokenTold
+tell-token t = token-told (t .code) (t .a) (t .b)

@@ -19,7 +19,8 @@ ghost use Rattle.scalar.specs.Numbers.{kind-number-of};
 ghost use Rattle.sheet.specs.Sound.{Sound};
 ghost use Rattle.sheet.specs.Views.{viewed};
 ghost use Rattle.tape.specs.Words.{token-in};
-ghost use Rattle.capi.specs.Told.{view-told, tell-view, read-told, tell-bool, tell-u64, tell-i64, tell-f64, token-told};
+ghost use Rattle.capi.specs.Told.{view-told, tell-view, token-told, tell-token};
+ghost use Rattle.capi.specs.Told.{read-told, tell-bool, tell-u64, tell-i64, tell-f64};
 
 // 1 for yes and 0 for no.
 fn bit_of(yes: bool) -> u32
@@ -44,7 +45,8 @@ pub extern "C" fn tackacorn_parse(
     bom: &mut u32,
     place: &mut usize,
 ) -> u32
-    ensures { λ r. ⌜ parse-told r (now (count .exit)) (now (bom .exit)) (now (place .exit)) (now (tape .exit)) ≡ tell-parse (parse-of (now (text .entry)) (length (now (tape .entry)))) ⌝ }
+    ensures { λ r. ⌜ parse-told r (now (count .exit)) (now (bom .exit)) (now (place .exit)) (now (tape .exit))
+        ≡ tell-parse (parse-of (now (text .entry)) (length (now (tape .entry)))) ⌝ }
 {
     match parse::parse(text, tape) {
         Parsed::Tokens {
@@ -60,7 +62,8 @@ pub extern "C" fn tackacorn_parse(
             *count = 0;
             *bom = 0;
             *place = refusal.place();
-            refusal.number()
+            let number = refusal.number();
+            number
         }
     }
 }
@@ -83,26 +86,28 @@ pub extern "C" fn tackacorn_view(
     offset: &mut usize,
     size: &mut usize,
 ) -> u32
-    ensures { λ r. ⌜ view-told r (now (offset .exit)) (now (size .exit)) ≡ tell-view (viewed (length (now (text .entry))) (now (words .entry)) count index) ⌝ }
+    ensures { λ r. ⌜ view-told r (now (offset .exit)) (now (size .exit))
+        ≡ tell-view (viewed (length (now (text .entry))) (now (words .entry)) count index) ⌝ }
 {
-    match views::view_of(text, words, count, index) {
+    let found = views::view_of(text, words, count, index);
+    match found {
         Viewed::At {
             offset: start,
             length,
         } => {
             *offset = start;
             *size = length;
-            0
+            found.refusal()
         }
         Viewed::NoScalar => {
             *offset = 0;
             *size = 0;
-            12
+            found.refusal()
         }
     }
 }
 
-// The three words of token `index`.
+// The words of token `index`.
 #[no_mangle]
 pub extern "C" fn tackacorn_token(
     words: &[u32],
@@ -112,7 +117,7 @@ pub extern "C" fn tackacorn_token(
     a: &mut u32,
     b: &mut u32,
 )
-    ensures { λ r. ⌜ token-told (now (code .exit)) (now (a .exit)) (now (b .exit)) ≡ token-in (now (words .entry)) count index ⌝ }
+    ensures { λ r. ⌜ token-told (now (code .exit)) (now (a .exit)) (now (b .exit)) ≡ tell-token (token-in (now (words .entry)) count index) ⌝ }
 {
     let token = words::token_of(words, count, index);
     *code = token.code;

@@ -1,17 +1,13 @@
 -- Any two results that a contract allows are equal, and so are the tapes at exit: said of each public call's contract itself, by the
 -- claim `Post` that the toolchain reads off its `ensures`. Every public call stands here, in a record for each crate.
 -- Assumes nothing.
-use mathlib.Core.Path.{_≡_, refl, sym, _∙_, ap}
+use mathlib.Core.Path.{_≡_, sym, _∙_, ap}
 use mathlib.Core.Bool.{Bool, true, false}
-use mathlib.Core.List.{List, [], _∷_}
+use mathlib.Core.List.{List}
 use mathlib.Core.Logic.{_↔_}
 use Prim.Native.Nat.{ℕ}
-use native.Mathlib.Omega.{arith}
-use borrow.Author.Tests.{eqb-true, eqb-false}
-use lib.Dec.{eqb}
-use Rattle.data.proofs.Cases.{by-bool}
-use Rattle.tape.specs.declared.token.Token.{Token}
-use Rattle.report.specs.Append.{Wrote, wrote}
+use Rattle.report.specs.Append.{Wrote, wrote, append}
+use Rattle.report.specs.Sheets.{verdict, Judged}
 use Rattle.promises.specs.Unique.{One-result, One-left, One-line}
 use Rattle.data.proofs.character_class.Reads as character-class
 use Rattle.operator.proofs.Operator.number.Reads as operator-number
@@ -86,6 +82,7 @@ use Rattle.report.proofs.tokens.put_header.Reads as put-header
 use Rattle.report.proofs.tokens.put_refused.Reads as put-refused
 use Rattle.report.proofs.dump.put_dump.Reads as put-dump
 use Rattle.report.proofs.dump.put_save.Reads as put-save
+use Rattle.report.proofs.dump.save_lines.Reads as save-lines
 use Rattle.report.proofs.readings.put_bool.Reads as put-bool
 use Rattle.report.proofs.readings.put_u64.Reads as put-u64
 use Rattle.report.proofs.readings.put_i64.Reads as put-i64
@@ -121,32 +118,10 @@ by-bytes : {K : Type 0} {A X : K → Type 0} (out : (κs : K) → X κs → List
     → One-line {R = λ κs. ℕ} (λ κs args r xs. wrote r (out κs xs) ≡ definition κs args) out
 by-bytes out definition = (λ κs args r s xs ys p q. cc, λ κs args r s xs ys p q. cc)
 
--- what cannot differ is equal: numbers and rows of numbers can be compared
-same-number : (m n : ℕ) → ((m ≡ n → ⊥) → ⊥) → m ≡ n
-same-number m n h = by-bool (eqb m n) (λ e. eqb-true m n e) (λ e. absurd (h (eqb-false m n e)))
-
-same-row : (ms ns : List ℕ) → ((ms ≡ ns → ⊥) → ⊥) → ms ≡ ns
-same-row [] [] h = refl
-same-row [] (n ∷ ns) h = absurd (h (λ e. let z : _≡_ {A = ℕ} 0 1 = cc in omega arith))
-same-row (m ∷ ms) [] h = absurd (h (λ e. let z : _≡_ {A = ℕ} 0 1 = cc in omega arith))
-same-row (m ∷ ms) (n ∷ ns) h =
-    let a : m ≡ n = same-number m n (λ d. h (λ e. d cc)) in
-    let b : ms ≡ ns = same-row ms ns (λ d. h (λ e. d cc)) in
-    cc
-
-same-written : (w v : Wrote) → ((w ≡ v → ⊥) → ⊥) → w ≡ v
-same-written (wrote r o) (wrote s p) h =
-    let a : r ≡ s = same-number r s (λ d. h (λ e. d cc)) in
-    let b : o ≡ p = same-row o p (λ d. h (λ e. d cc)) in
-    cc
-
--- one that says what was put where a claim holds, and what where it does not, allows one as well: which of the two need not be known
-either-way : (P : Type 0) (x y w v : Wrote) → (P → w ≡ x) × ((P → ⊥) → w ≡ y) → (P → v ≡ x) × ((P → ⊥) → v ≡ y) → w ≡ v
-either-way P x y w v first second =
-    same-written w v
-    (λ d.
-    let no : P → ⊥ = λ h. d (first .0 h ∙ sym (second .0 h)) in
-    d (first .1 no ∙ sym (second .1 no)))
+-- and one that names a verdict, true exactly when a claim holds, and says that it was put, allows one place and one buffer
+one-judgment : (P : Type 0) (out : List ℕ) (at : ℕ) (w v : Wrote) → Judged P out at w → Judged P out at v → w ≡ v
+one-judgment P out at w v p q =
+    p .put ∙ ap (λ (b : Bool). append out at (verdict b)) (one-verdict P (p .sound) (q .sound) (p .holds) (q .holds)) ∙ sym (q .put)
 
 pub record Data : Type 0 where
   pub character-class : One-result character-class.Post
@@ -341,12 +316,16 @@ pub record Report : Type 0 where
   pub put-readings : One-line put-readings.Post (λ κs xs. xs .0 .now)
   pub put-hex-bytes : One-line put-hex-bytes.Post (λ κs xs. xs .0 .now)
   pub put-view : One-line put-view.Post (λ κs xs. xs .0 .now)
-  pub front : (κs : _) (args : _) (r s : _) (xs ys : _) → front.Post κs args r xs → front.Post κs args s ys → r .now ≡ s .now
+  -- the part's bytes, and where they stand
+  pub front : (κs : _) (args : _) (r s : _) (xs ys : _) → front.Post κs args r xs → front.Post κs args s ys
+      → (r .now ≡ s .now) × (r .ptr ≡ s .ptr)
   pub put-check : One-line put-check.Post (λ κs xs. xs .0 .now)
   pub put-dump-line : One-line put-dump.Post (λ κs xs. xs .0 .now)
   pub put-dump-tape : One-left put-dump.Post (λ κs xs. xs .1 .1 .1 .0 .now)
   pub put-save-line : One-line put-save.Post (λ κs xs. xs .0 .now)
   pub put-save-tape : One-left put-save.Post (λ κs xs. xs .1 .1 .1 .0 .now)
+  pub save-lines-line : One-line save-lines.Post (λ κs xs. xs .0 .now)
+  pub save-lines-tape : One-left save-lines.Post (λ κs xs. xs .1 .1 .0 .now)
 
 pub report-calls : Report
 report-calls =
@@ -369,12 +348,17 @@ report-calls =
       put-readings = by-bytes _ _;
       put-hex-bytes = by-bytes _ _;
       put-view = by-bytes _ _;
-      front = λ κs args r s xs ys p q. p ∙ sym q;
-      put-check = (λ κs args r s xs ys p q. let e = either-way _ _ _ _ _ p q in cc, λ κs args r s xs ys p q. let e = either-way _ _ _ _ _ p q in cc);
+      front = λ κs args r s xs ys p q. (p .0 ∙ sym (q .0), p .1 ∙ sym (q .1));
+      put-check = (
+        λ κs args r s xs ys p q. let e = one-judgment _ _ _ _ _ p q in cc,
+        λ κs args r s xs ys p q. let e = one-judgment _ _ _ _ _ p q in cc,
+      );
       put-dump-line = (λ κs args r s xs ys p q. cc, λ κs args r s xs ys p q. cc);
       put-dump-tape = λ κs args r s xs ys p q. cc;
       put-save-line = (λ κs args r s xs ys p q. cc, λ κs args r s xs ys p q. cc);
       put-save-tape = λ κs args r s xs ys p q. cc;
+      save-lines-line = (λ κs args r s xs ys p q. cc, λ κs args r s xs ys p q. cc);
+      save-lines-tape = λ κs args r s xs ys p q. cc;
     }
 
 pub record Capi : Type 0 where
@@ -412,9 +396,9 @@ capi-calls =
       tackacorn-view-result = λ κs args r s xs ys p q. cc;
       tackacorn-view-offset = λ κs args r s xs ys p q. cc;
       tackacorn-view-size = λ κs args r s xs ys p q. cc;
-      tackacorn-token-code = λ κs args r s xs ys p q. ap (λ (t : Token). t .code) (p ∙ sym q);
-      tackacorn-token-a = λ κs args r s xs ys p q. ap (λ (t : Token). t .a) (p ∙ sym q);
-      tackacorn-token-b = λ κs args r s xs ys p q. ap (λ (t : Token). t .b) (p ∙ sym q);
+      tackacorn-token-code = λ κs args r s xs ys p q. cc;
+      tackacorn-token-a = λ κs args r s xs ys p q. cc;
+      tackacorn-token-b = λ κs args r s xs ys p q. cc;
       tackacorn-to-bool-result = λ κs args r s xs ys p q. cc;
       tackacorn-to-bool-value = λ κs args r s xs ys p q. cc;
       tackacorn-to-u64-result = λ κs args r s xs ys p q. cc;

@@ -1,6 +1,8 @@
--- Bytes in hexadecimal, one at a time, and the lines of a view.
+-- Bytes in hexadecimal, one at a time, the line of a check, and the lines of a view.
 -- Assumes nothing.
-use mathlib.Core.Path.{_≡_, sym, ap, _∙_}
+use mathlib.Core.Path.{_≡_, sym, ap, subst, _∙_}
+use mathlib.Core.Bool.{Bool, true}
+use mathlib.Core.Logic.{_↔_}
 use mathlib.Core.List.{List, [], _∷_, _++_}
 use Prim.Native.Nat.{ℕ, _+_, _≤_, _<_}
 use native.Mathlib.Numerals.{add-one}
@@ -11,7 +13,8 @@ use Rattle.sheet.specs.declared.views.Viewed.{Viewed}
 use Rattle.sheet.specs.declared.views.Viewed.the-variants.{At, NoScalar}
 use Rattle.sheet.specs.Views.{refusal-of, part-of}
 use Rattle.report.specs.Digits.{decimal, hex}
-use Rattle.report.specs.Sheets.{hex-bytes, view-text}
+use Rattle.report.specs.Append.{Wrote, append}
+use Rattle.report.specs.Sheets.{verdict, Judged, hex-bytes, view-text}
 use Rattle.report.specs.Words as words
 
 -- the digits of the byte at an index stand before those of the bytes after it
@@ -23,6 +26,12 @@ hex-on bytes i h = rw (drop-cons bytes i 0 h, add-one i)
 pub hex-none-left : (bytes : List ℕ) (i : ℕ) → length bytes ≤ i → hex-bytes (drop i bytes) ≡ []
 unfolding hex-bytes
 hex-none-left bytes i h = rw (drop-of-length-le bytes h)
+
+-- what a check decides, and the verdict that is put for it
+pub judged-as : {Holds : Type 0} {out : List ℕ} {at : ℕ} {left : Wrote} {decided : Bool} (sound : Bool) → (decided ≡ true) ↔ Holds
+    → decided ≡ sound → left ≡ append out at (verdict sound) → Judged Holds out at left
+judged-as {Holds = Holds} sound holds is put =
+    record { sound = sound; holds = subst (λ (b : Bool). (b ≡ true) ↔ Holds) is holds; put = put }
 
 -- the line of a view that lies in the text, and of one that is refused
 pub view-shown : (text part : List ℕ) (found v : Viewed) (offset size : ℕ) → found ≡ v → found ≡ At offset size → part ≡ part-of text v

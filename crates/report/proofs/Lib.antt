@@ -5,3 +5,4 @@ pub mod Hexes
 pub mod Decimal
 pub mod Refused
 pub mod Room
+pub mod Lengths

@@ -1,38 +1,61 @@
 -- The lines of a dump, one at a time.
 -- Assumes nothing.
-use mathlib.Core.Path.{_≡_, ap}
+use mathlib.Core.Path.{_≡_, refl, sym}
 use mathlib.Core.Bool.{Bool}
 use mathlib.Core.List.{List, [], _++_}
-use Prim.Native.Nat.{ℕ, suc, _+_, _-_, _≤_, _<_}
+use Prim.Native.Nat.{ℕ, _+_, _≤_, _<_}
+use native.Mathlib.Numerals.{add-one}
 use native.Mathlib.Omega.{arith}
-use Rattle.tape.specs.Words.{token-in}
+use lib.ListN.{length, drop, drop-of-length-le}
+use lib.Seq.{drop-cons}
+use Rattle.tape.specs.declared.token.Token.{Token}
+use Rattle.tape.specs.Token.{no-token}
+use Rattle.tape.specs.Words.{tokens-in, token-in}
 use Rattle.parse.specs.declared.Parsed.{Parsed}
 use Rattle.parse.specs.declared.Parsed.the-variants.{Tokens, Refused}
 use Rattle.parse.specs.declared.machine.Refusal.{Refusal}
 use Rattle.parse.specs.Parse.{outcome, parse-of}
+use Rattle.parse.specs.declared.machine.Refusal.the-variants.{TooLong, Eof, StackEmpty, NoHeader, NoValue, MixedParameter, Full}
+use Rattle.parse.specs.declared.machine.Refusal.the-variants.{NothingPrecedes, UnknownOperator, NoParameter, OpenName}
+use Rattle.parse.specs.Refusals.{number, place}
+use Rattle.parse.specs.Told.{bit, tell-parse}
 use Rattle.report.specs.Dump.{line-of, lines-from, header-of, refused-of, lines-of, dump-of}
 
 -- the line of token i stands before those of the tokens after it
-pub lines-on : (ws : List ℕ) (n i : ℕ) → i < n → lines-from ws n i (n - i) ≡ line-of i (token-in ws n i) ++ lines-from ws n (i + 1) (n - (i + 1))
-unfolding lines-from
-lines-on ws n i h = ap (lines-from ws n i) {x = n - i} {y = suc (n - (i + 1))} (omega arith)
-
--- from the first on they are all
-pub lines-all : (ws : List ℕ) (n : ℕ) → lines-from ws n 0 (n - 0) ≡ lines-from ws n 0 n
-lines-all ws n = ap (lines-from ws n 0) {x = n - 0} {y = n} (omega arith)
+pub lines-on : (ws : List ℕ) (n i all : ℕ) → all ≡ length (tokens-in ws n) → i < all
+    → lines-from i (drop i (tokens-in ws n)) ≡ line-of i (token-in ws n i) ++ lines-from (i + 1) (drop (i + 1) (tokens-in ws n))
+unfolding lines-from token-in
+lines-on ws n i all e h = rw (drop-cons (tokens-in ws n) i no-token (omega arith), add-one i)
 
 -- and past the last there is none
-pub lines-none : (ws : List ℕ) (n i : ℕ) → n ≤ i → lines-from ws n i (n - i) ≡ []
+pub lines-none : (ts : List Token) (i all : ℕ) → all ≡ length ts → all ≤ i → lines-from i (drop i ts) ≡ []
 unfolding lines-from
-lines-none ws n i h = ap (lines-from ws n i) {x = n - i} {y = 0} (omega arith)
+lines-none ts i all e h =
+    let past : length ts ≤ i = omega arith in
+    rw (drop-of-length-le ts past)
 
 -- the dump of a text that parses, and of one that is refused
 pub dump-tokens : (text ws : List ℕ) (len count : ℕ) (bom : Bool) (p : Parsed) → outcome p ws ≡ parse-of text len → p ≡ Tokens count bom
-    → header-of count bom ++ lines-from ws count 0 count ≡ dump-of text len
+    → header-of count (bit bom) ++ lines-from 0 (tokens-in ws count) ≡ dump-of text len
 unfolding dump-of lines-of
 dump-tokens text ws len count bom p e told = rw (dump-of, ← e, told)
 
-pub dump-refused : (text ws : List ℕ) (len : ℕ) (r : Refusal) (p : Parsed) → outcome p ws ≡ parse-of text len → p ≡ Refused r
-    → refused-of r ≡ dump-of text len
-unfolding dump-of lines-of
-dump-refused text ws len r p e told = rw (dump-of, ← e, told)
+-- no refusal has the number of none
+refusal-told : (r : Refusal) (ws : List ℕ) → lines-of (tell-parse (outcome (Refused r) ws)) ≡ refused-of (number r) (place r)
+unfolding lines-of
+refusal-told TooLong ws = refl
+refusal-told Eof ws = refl
+refusal-told (StackEmpty p) ws = refl
+refusal-told (NoHeader p) ws = refl
+refusal-told (NoValue p) ws = refl
+refusal-told (MixedParameter p) ws = refl
+refusal-told (NothingPrecedes p) ws = refl
+refusal-told (UnknownOperator p) ws = refl
+refusal-told (NoParameter p) ws = refl
+refusal-told (OpenName p) ws = refl
+refusal-told Full ws = refl
+
+pub dump-refused : (text ws : List ℕ) (len n at : ℕ) (r : Refusal) (p : Parsed) → outcome p ws ≡ parse-of text len → p ≡ Refused r
+    → n ≡ number r → at ≡ place r → refused-of n at ≡ dump-of text len
+unfolding dump-of
+dump-refused text ws len n at r p e told numbered placed = rw (numbered, placed, dump-of, ← e, told) (sym (refusal-told r ws))

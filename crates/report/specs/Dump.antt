@@ -1,6 +1,6 @@
 -- The dump of a text: document 01, 'The dump'.
-use Prim.Native.Nat.{ℕ, zero, suc, _+_}
-use mathlib.Core.Bool.{Bool, true, false}
+use Prim.Native.Nat.{ℕ, _+_}
+use mathlib.Core.Bool.{true, false}
 use mathlib.Core.List.{List, [], _∷_, _++_}
 use lib.Dec.{eqb, ltb}
 use lib.ListN.{length}
@@ -8,13 +8,11 @@ use Rattle.data.specs.Bytes.{space, line-feed}
 use Rattle.tape.specs.declared.token.Token.{Token}
 use Rattle.tape.specs.Token.{array-code, object-code, mixed-container-code, operator-code, end-code}
 use Rattle.tape.specs.Token.{unquoted-code, quoted-code, parameter-code, undefined-parameter-code, header-code}
-use Rattle.tape.specs.Words.{token-in}
-use Rattle.parse.specs.declared.Parsed.the-variants.{Tokens, Refused}
-use Rattle.parse.specs.declared.machine.Refusal.{Refusal}
+use Rattle.tape.specs.Words.{tokens-in}
 use Rattle.parse.specs.Parse.{Outcome, outcome, parse-of}
-use Rattle.parse.specs.Refusals.{number, place}
-use Rattle.parse.specs.Told.{bit}
+use Rattle.parse.specs.Told.{ParseTold, parse-told, tell-parse}
 use Rattle.report.specs.Digits.{decimal}
+use Rattle.report.specs.Room.{most-input}
 use Rattle.report.specs.Words as words
 
 -- a code with the name of its tokens
@@ -53,36 +51,35 @@ field n = space ∷ [] ++ decimal n
 unfoldable pub line-of : ℕ → Token → List ℕ
 line-of i t = decimal i ++ (space ∷ []) ++ name-of (t .code) ++ field (t .a) ++ field (t .b) ++ (line-feed ∷ [])
 
--- the lines of k tokens of n, from token i on
-unfoldable pub lines-from : List ℕ → ℕ → ℕ → ℕ → List ℕ
-lines-from ws n i zero = []
-lines-from ws n i (suc k) = line-of i (token-in ws n i) ++ lines-from ws n (i + 1) k
+-- then index, name, a, b per token: the lines of tokens whose first has index i
+unfoldable pub lines-from : ℕ → List Token → List ℕ
+lines-from i [] = []
+lines-from i (t ∷ ts) = line-of i t ++ lines-from (i + 1) ts
 
 -- a header with count and BOM as 0 or 1
-unfoldable pub header-of : ℕ → Bool → List ℕ
-header-of count bom = words.tokens ++ decimal count ++ words.bom ++ decimal (bit bom) ++ (line-feed ∷ [])
+unfoldable pub header-of : ℕ → ℕ → List ℕ
+header-of count bom = words.tokens ++ decimal count ++ words.bom ++ decimal bom ++ (line-feed ∷ [])
 
 -- `refused NUMBER PLACE`
-unfoldable pub refused-of : Refusal → List ℕ
-refused-of r = words.refused ++ decimal (number r) ++ field (place r) ++ (line-feed ∷ [])
+unfoldable pub refused-of : ℕ → ℕ → List ℕ
+refused-of number place = words.refused ++ decimal number ++ field place ++ (line-feed ∷ [])
 
--- the lines of an answer, with the words that it left
-unfoldable pub lines-of : Outcome → List ℕ
-lines-of (outcome (Tokens count bom) ws) = header-of count bom ++ lines-from ws count 0 count
-lines-of (outcome (Refused r) ws) = refused-of r
+-- what a parse tells, by document 01's numbers: a refusal prints its line, and success a header and the tokens
+unfoldable pub lines-of : ParseTold → List ℕ
+lines-of (parse-told refusal count bom place ws) =
+    elim (eqb refusal 0) [
+      | true ↦ header-of count bom ++ lines-from 0 (tokens-in ws count)
+      | false ↦ refused-of refusal place
+    ]
 
 -- the dump of a text with a tape of so many words
 unfoldable pub dump-of : List ℕ → ℕ → List ℕ
 unfolding lines-of
-dump-of text len = lines-of (parse-of text len)
+dump-of text len = lines-of (tell-parse (parse-of text len))
 
 -- the words that a parse leaves
 abbrev pub left-by : Outcome → List ℕ
 left-by (outcome p ws) = ws
-
--- the most bytes that the program reads
-abbrev pub most-input : ℕ
-most-input = 32768
 
 -- what the program prints: the dump of its input, or that the input is too long
 unfoldable pub save-of : List ℕ → ℕ → List ℕ

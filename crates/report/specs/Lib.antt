@@ -2,6 +2,7 @@ pub mod Letters
 pub mod Words
 pub mod Append
 pub mod Digits
+pub mod Room
 pub mod Dump
 pub mod Readings
 pub mod Sheets

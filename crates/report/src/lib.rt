@@ -3,6 +3,8 @@
 
 // The dump of a text.
 pub mod dump;
+// How much is read, and the room that is lent.
+pub mod limits;
 // Decimal and hexadecimal digits.
 pub mod numbers;
 // Bytes, as far as the buffer has room.

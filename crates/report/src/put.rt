@@ -2,6 +2,7 @@
 ghost use mathlib.Core.Path.{_≡_};
 ghost use mathlib.Core.List.{[], _∷_};
 ghost use lib.ListN.{take};
+ghost use denote.Ref.{ptr};
 ghost use Rattle.report.specs.Append.{wrote, append};
 
 // Puts one byte.
@@ -28,9 +29,10 @@ pub fn put_bytes(out: &mut [u8], at: usize, bytes: &[u8]) -> usize
     next
 }
 
-// The first n bytes of a buffer, or all where there are fewer: what was put, to be written in one piece.
+// The first n bytes of a buffer, or all where there are fewer: what was put, to be written in one piece. They stand where the buffer does.
 pub fn front(buffer: &[u8], n: usize) -> &[u8]
-    ensures { λ r. ⌜ now r ≡ take n (now (buffer .entry)) ⌝ }
+    ensures bytes { λ r. ⌜ now r ≡ take n (now (buffer .entry)) ⌝ }
+    ensures place { λ r. ⌜ ptr r ≡ ptr (buffer .entry) ⌝ }
 {
     if n < buffer.len() {
         return &buffer[..n];

@@ -5,12 +5,11 @@ use crate::put::put_byte;
 use crate::put::put_bytes;
 use sheet::views::Viewed;
 ghost use mathlib.Core.Path.{_≡_};
-ghost use mathlib.Core.Bool.{true, false};
 ghost use lib.ListN.{length};
 ghost use Rattle.sheet.specs.Sound.{Sound};
 ghost use Rattle.sheet.specs.Views.{viewed};
 ghost use Rattle.report.specs.Append.{wrote, append};
-ghost use Rattle.report.specs.Sheets.{verdict, hex-bytes, view-text};
+ghost use Rattle.report.specs.Sheets.{Judged, hex-bytes, view-text};
 
 // Puts whether the first count tokens of the words are a sound sheet for a text of a length.
 pub fn put_check(
@@ -20,10 +19,7 @@ pub fn put_check(
     words: &[u32],
     count: usize,
 ) -> usize
-    ensures sound { λ r. ⌜ (Sound «text_length» (now (words .entry)) count
-        → wrote r (now (out .exit)) ≡ append (now (out .entry)) at (verdict true)) ⌝ }
-    ensures unsound { λ r. ⌜ ((Sound «text_length» (now (words .entry)) count → ⊥)
-        → wrote r (now (out .exit)) ≡ append (now (out .entry)) at (verdict false)) ⌝ }
+    ensures { λ r. ⌜ Judged (Sound «text_length» (now (words .entry)) count) (now (out .entry)) at (wrote r (now (out .exit))) ⌝ }
 {
     if sheet::check(text_length, words, count) {
         return put_bytes(out, at, b"sound\n");

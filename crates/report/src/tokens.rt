@@ -2,10 +2,12 @@
 use crate::numbers::put_decimal;
 use crate::put::put_byte;
 use crate::put::put_bytes;
-use parse::machine::Refusal;
+use tape::codes;
 use tape::token::Token;
 use tape::words;
 ghost use mathlib.Core.Path.{_≡_};
+ghost use lib.ListN.{length};
+ghost use Rattle.tape.specs.Words.{tokens-in};
 ghost use Rattle.report.specs.Append.{wrote, append};
 ghost use Rattle.parse.specs.Told.{bit};
 ghost use Rattle.report.specs.Dump.{name-of, field, line-of, lines-from, header-of, refused-of};
@@ -14,34 +16,34 @@ ghost use Rattle.report.specs.Dump.{name-of, field, line-of, lines-from,
 pub fn put_name(out: &mut [u8], at: usize, code: u32) -> usize
     ensures { λ r. ⌜ wrote r (now (out .exit)) ≡ append (now (out .entry)) at (name-of code) ⌝ }
 {
-    if code == 1 {
+    if code == codes::ARRAY {
         return put_bytes(out, at, b"Array");
     }
-    if code == 2 {
+    if code == codes::OBJECT {
         return put_bytes(out, at, b"Object");
     }
-    if code == 3 {
+    if code == codes::MIXED_CONTAINER {
         return put_bytes(out, at, b"MixedContainer");
     }
-    if code == 4 {
+    if code == codes::UNQUOTED {
         return put_bytes(out, at, b"Unquoted");
     }
-    if code == 5 {
+    if code == codes::QUOTED {
         return put_bytes(out, at, b"Quoted");
     }
-    if code == 6 {
+    if code == codes::PARAMETER {
         return put_bytes(out, at, b"Parameter");
     }
-    if code == 7 {
+    if code == codes::UNDEFINED_PARAMETER {
         return put_bytes(out, at, b"UndefinedParameter");
     }
-    if code == 8 {
+    if code == codes::OPERATOR {
         return put_bytes(out, at, b"Operator");
     }
-    if code == 9 {
+    if code == codes::END {
         return put_bytes(out, at, b"End");
     }
-    if code == 10 {
+    if code == codes::HEADER {
         return put_bytes(out, at, b"Header");
     }
     at
@@ -67,13 +69,25 @@ pub fn put_token(out: &mut [u8], at: usize, i: u32, t: Token) -> usize
     put_byte(out, b, b'\n')
 }
 
-// Puts the lines of all tokens of a tape.
-pub fn put_tokens(out: &mut [u8], at: usize, tape: &[u32], count: u32) -> usize
-    ensures { λ r. ⌜ wrote r (now (out .exit)) ≡ append (now (out .entry)) at (lines-from (now (tape .entry)) count 0 count) ⌝ }
+// How many of count tokens stand on a tape whole.
+fn standing(tape: &[u32], count: u32) -> u32
+    ensures { λ r. ⌜ r ≡ length (tokens-in (now (tape .entry)) count) ⌝ }
 {
+    let most = words::capacity(tape);
+    if most < count as usize {
+        return most as u32;
+    }
+    count
+}
+
+// Puts the lines of the first count tokens of a tape, or of as many as stand there.
+pub fn put_tokens(out: &mut [u8], at: usize, tape: &[u32], count: u32) -> usize
+    ensures { λ r. ⌜ wrote r (now (out .exit)) ≡ append (now (out .entry)) at (lines-from 0 (tokens-in (now (tape .entry)) count)) ⌝ }
+{
+    let all = standing(tape, count);
     let mut next = at;
     let mut i: u32 = 0;
-    while i < count {
+    while i < all {
         next = put_token(out, next, i, words::token(tape, count, i));
         i += 1;
     }
@@ -89,7 +103,7 @@ pub(crate) fn bit(b: bool) -> u64
 
 // Puts the header of a dump.
 pub fn put_header(out: &mut [u8], at: usize, count: u32, bom: bool) -> usize
-    ensures { λ r. ⌜ wrote r (now (out .exit)) ≡ append (now (out .entry)) at (header-of count bom) ⌝ }
+    ensures { λ r. ⌜ wrote r (now (out .exit)) ≡ append (now (out .entry)) at (header-of count (bit bom)) ⌝ }
 {
     let tokens = put_bytes(out, at, b"tokens ");
     let counted = put_decimal(out, tokens, count as u64);
@@ -99,11 +113,9 @@ pub fn put_header(out: &mut [u8], at: usize, count: u32, bom: bool) -> usize
 }
 
 // Puts the line of a refusal: its number and its place.
-pub fn put_refused(out: &mut [u8], at: usize, refusal: Refusal) -> usize
-    ensures { λ r. ⌜ wrote r (now (out .exit)) ≡ append (now (out .entry)) at (refused-of refusal) ⌝ }
+pub fn put_refused(out: &mut [u8], at: usize, number: u64, place: u64) -> usize
+    ensures { λ r. ⌜ wrote r (now (out .exit)) ≡ append (now (out .entry)) at (refused-of number place) ⌝ }
 {
-    let number = refusal.number() as u64;
-    let place = refusal.place() as u64;
     let word = put_bytes(out, at, b"refused ");
     let first = put_decimal(out, word, number);
     let second = put_field(out, first, place);

@@ -27,13 +27,20 @@ same-length : tie.Need-same-length
 same-length c = search needs
 
 returns : tie.Need-returns
-returns c = tells-tokens (c .before .before .before .before .before .before .parse .ensures) (c .before .before .tokens .given .1) (c .bit-of .ensures)
+returns c =
+    let at-tokens = c .before .before in
+    let at-parse = at-tokens .before .before .before .before in
+    tells-tokens (at-parse .parse .ensures) (at-tokens .tokens .given .1) (c .bit-of .ensures)
 
 same-length-2 : tie.Need-same-length-2
 same-length-2 c = search needs
 
 returns-2 : tie.Need-returns-2
-returns-2 c = tells-refusal (c .before .before .before .before .before .before .before .parse .ensures) (c .before .before .before .refusal .given .1) (c .number .ensures) (c .before .place .ensures)
+returns-2 c =
+    let at-place = c .before in
+    let at-refusal = at-place .before .before in
+    let at-parse = at-refusal .before .before .before .before in
+    tells-refusal (at-parse .parse .ensures) (at-refusal .refusal .given .1) (c .number .ensures) (at-place .place .ensures)
 
 pub tackacorn-parse-spec : {M : Type 1} → statement M
 tackacorn-parse-spec =

@@ -25,7 +25,16 @@ wide-requires : tie.Need-wide-requires
 wide-requires c κs = search needs
 
 returns : tie.Need-returns
-returns c = reads bool-refusal-of (λ (r : BoolRead). bit (bool-value-of r)) (c .before .before .before .before .to-bool .ensures) (c .before .before .bit-of .ensures ∙ ap bit (c .before .before .before .bool-value .ensures)) (c .before .bool-refusal .ensures) (c .wide .ensures)
+returns c =
+    let at-refusal = c .before in
+    let at-bit-of = at-refusal .before in
+    let at-value = at-bit-of .before in
+    let at-read = at-value .before in
+    reads bool-refusal-of (λ (r : BoolRead). bit (bool-value-of r))
+    (at-read .to-bool .ensures)
+    (at-bit-of .bit-of .ensures ∙ ap bit (at-value .bool-value .ensures))
+    (at-refusal .bool-refusal .ensures)
+    (c .wide .ensures)
 
 pub tackacorn-to-bool-spec : {M : Type 1} → statement M
 tackacorn-to-bool-spec =

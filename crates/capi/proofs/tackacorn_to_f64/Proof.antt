@@ -19,7 +19,15 @@ wide-requires : tie.Need-wide-requires
 wide-requires c κs = search needs
 
 returns : tie.Need-returns
-returns c = reads f64-refusal-of f64-value-of (c .before .before .before .to-f64 .ensures) (c .before .before .f64-value .ensures) (c .before .f64-refusal .ensures) (c .wide .ensures)
+returns c =
+    let at-refusal = c .before in
+    let at-value = at-refusal .before in
+    let at-read = at-value .before in
+    reads f64-refusal-of f64-value-of
+    (at-read .to-f64 .ensures)
+    (at-value .f64-value .ensures)
+    (at-refusal .f64-refusal .ensures)
+    (c .wide .ensures)
 
 pub tackacorn-to-f64-spec : {M : Type 1} → statement M
 tackacorn-to-f64-spec =

@@ -21,7 +21,15 @@ wide-requires : tie.Need-wide-requires
 wide-requires c κs = search needs
 
 returns : tie.Need-returns
-returns c = reads i64-refusal-of i64-value-of (c .before .before .before .to-i64 .ensures) (toZ-ofZ (record { sfits = c .before .before .i64-value .ok }) ∙ c .before .before .i64-value .ensures) (c .before .i64-refusal .ensures) (c .wide .ensures)
+returns c =
+    let at-refusal = c .before in
+    let at-value = at-refusal .before in
+    let at-read = at-value .before in
+    reads i64-refusal-of i64-value-of
+    (at-read .to-i64 .ensures)
+    (toZ-ofZ (record { sfits = at-value .i64-value .ok }) ∙ at-value .i64-value .ensures)
+    (at-refusal .i64-refusal .ensures)
+    (c .wide .ensures)
 
 pub tackacorn-to-i64-spec : {M : Type 1} → statement M
 tackacorn-to-i64-spec =

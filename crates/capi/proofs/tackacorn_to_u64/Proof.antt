@@ -19,7 +19,15 @@ wide-requires : tie.Need-wide-requires
 wide-requires c κs = search needs
 
 returns : tie.Need-returns
-returns c = reads u64-refusal-of u64-value-of (c .before .before .before .to-u64 .ensures) (c .before .before .u64-value .ensures) (c .before .u64-refusal .ensures) (c .wide .ensures)
+returns c =
+    let at-refusal = c .before in
+    let at-value = at-refusal .before in
+    let at-read = at-value .before in
+    reads u64-refusal-of u64-value-of
+    (at-read .to-u64 .ensures)
+    (at-value .u64-value .ensures)
+    (at-refusal .u64-refusal .ensures)
+    (c .wide .ensures)
 
 pub tackacorn-to-u64-spec : {M : Type 1} → statement M
 tackacorn-to-u64-spec =

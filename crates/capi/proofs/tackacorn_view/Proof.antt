@@ -8,18 +8,30 @@ use Rattle.capi.proofs.tackacorn_view.Tie as tie
 view-of-requires : tie.Need-view-of-requires
 view-of-requires c κs = search needs
 
-enum-known-start : tie.Need-enum-known-start
-enum-known-start c = search needs
+enum-known-found : tie.Need-enum-known-found
+enum-known-found c = search needs
 
 enum-told : tie.Need-enum-told
 enum-told c = search needs
 
+refusal-requires : tie.Need-refusal-requires
+refusal-requires c κs = search needs
+
+refusal-requires-2 : tie.Need-refusal-requires-2
+refusal-requires-2 c κs = search needs
+
 returns : tie.Need-returns
-returns c = tells-view (c .before .before .before .view-of .ensures) (c .before .start .given .1)
+returns c =
+    let at-found = c .before .before in
+    let at-view-of = at-found .before .before in
+    tells-view (at-view-of .view-of .ensures) (at-found .found .given .1) (c .refusal .ensures)
 
 returns-2 : tie.Need-returns-2
-returns-2 c = tells-none (c .before .before .view-of .ensures) (c .enum-told .given .1)
+returns-2 c =
+    let at-told = c .before in
+    let at-view-of = at-told .before .before in
+    tells-none (at-view-of .view-of .ensures) (at-told .enum-told .given .1) (c .refusal2 .ensures)
 
 pub tackacorn-view-spec : {M : Type 1} → statement M
 tackacorn-view-spec =
-    tie.close (tie.spec view-of-requires enum-known-start enum-told returns returns-2)
+    tie.close (tie.spec view-of-requires enum-known-found refusal-requires enum-told refusal-requires-2 returns returns-2)

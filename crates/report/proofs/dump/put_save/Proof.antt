@@ -1,6 +1,7 @@
 -- `report::dump::put_save` meets its contract, by whether the input is too long.
 -- Assumes nothing.
 use Rattle.report.specs.Dump.{save-of, save-leaves}
+use Rattle.report.proofs.Room.{over-held, save-held}
 use borrow.Author.Tests.{lt-ltb, le-ltb}
 use borrow.Author.Needs.{needs}
 use Rattle.report.proofs.dump.put_save.Statement.{statement}
@@ -16,8 +17,10 @@ returns : tie.Need-returns
 unfolding save-of save-leaves
 returns c =
     let at-put-over = c .before .before in
-    let longer = lt-ltb _ _ (at-put-over .before .before .if1 .taken) in
-    (rw (save-of, longer) (at-put-over .put-over .ensures), rw (save-leaves, longer))
+    let at-if1 = at-put-over .before .before in
+    let at-args = at-if1 .before .before .before .before in
+    let longer = lt-ltb _ _ (at-if1 .if1 .taken) in
+    (rw (save-of, longer) (at-put-over .put-over .ensures), (rw (save-leaves, longer), over-held (at-args .args .input .now) _ longer))
 
 put-dump-requires : tie.Need-put-dump-requires
 put-dump-requires c κs = search needs
@@ -32,8 +35,10 @@ returns-2 : tie.Need-returns-2
 unfolding save-of save-leaves
 returns-2 c =
     let at-put-dump = c .before .before .before .before in
-    let within = le-ltb _ _ (at-put-dump .before .before .before .if1 .left) in
-    (rw (save-of, within) (at-put-dump .put-dump .ensures .0), rw (save-leaves, within) (at-put-dump .put-dump .ensures .1))
+    let within = le-ltb _ _ (at-put-dump .before .before .before .if1 .left) in (
+      rw (save-of, within) (at-put-dump .put-dump .ensures .0),
+      (rw (save-leaves, within) (at-put-dump .put-dump .ensures .1 .0), save-held _ _ within (at-put-dump .put-dump .ensures .1 .1)),
+    )
 
 pub put-save-spec : {M : Type 1} → statement M
 put-save-spec =

@@ -1,8 +1,8 @@
 -- `report::sheets::put_check` meets its contract, by what the check decides.
 -- Assumes nothing.
-use mathlib.Core.Bool.{false≢true}
-use mathlib.Core.Path.{sym, _∙_}
+use mathlib.Core.Bool.{true, false}
 use borrow.Author.Needs.{needs}
+use Rattle.report.proofs.Hexes.{judged-as}
 use Rattle.report.proofs.sheets.put_check.Statement.{statement}
 use Rattle.report.proofs.sheets.put_check.Tie as tie
 
@@ -23,7 +23,7 @@ returns c =
     let at-put-bytes = c .before .before in
     let at-if1 = at-put-bytes .before .before .before in
     let at-check = at-if1 .before in
-    (λ sound. at-put-bytes .put-bytes .ensures, λ unsound. absurd (unsound (at-check .check .ensures .0 (at-if1 .if1 .taken))))
+    judged-as true (at-check .check .ensures) (at-if1 .if1 .taken) (at-put-bytes .put-bytes .ensures)
 
 slice-aggregate-put-bytes-2 : tie.Need-slice-aggregate-put-bytes-2
 slice-aggregate-put-bytes-2 c = search needs
@@ -36,10 +36,10 @@ same-length-2 c = search needs
 
 returns-2 : tie.Need-returns-2
 returns-2 c =
-    let at-put-bytes2 = c .before .before in
-    let at-if1 = at-put-bytes2 .before .before .before in
+    let at-put-bytes = c .before .before in
+    let at-if1 = at-put-bytes .before .before .before in
     let at-check = at-if1 .before in
-    (λ sound. absurd (false≢true (sym (at-if1 .if1 .left) ∙ at-check .check .ensures .1 sound)), λ unsound. at-put-bytes2 .put-bytes2 .ensures)
+    judged-as false (at-check .check .ensures) (at-if1 .if1 .left) (at-put-bytes .put-bytes2 .ensures)
 
 pub put-check-spec : {M : Type 1} → statement M
 put-check-spec =

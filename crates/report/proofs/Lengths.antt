@@ -1,0 +1,150 @@
+-- How long the lines are that answer for a scalar and for a sheet.
+-- Assumes nothing.
+use mathlib.Core.Path.{_≡_, refl}
+use mathlib.Core.Bool.{Bool, true, false}
+use mathlib.Core.List.{List, [], _∷_, _++_}
+use Prim.Native.Nat.{ℕ, zero, suc, _+_, _*_, _/_, _^_, _≤_, _<_, min}
+use native.Mathlib.Omega.{arith}
+use borrow.Author.Tests.{ltb-false}
+use lib.Dec.{eqb, ltb}
+use lib.IntN.{ℤ, pos, negsuc, negℤ}
+use lib.ListN.{length, take, drop, length-append, length-take, length-drop}
+use Rattle.data.proofs.Cases.{by-bool}
+use Rattle.data.specs.Bytes.{plus, minus}
+use Rattle.scalar.specs.Digits.{is-digit, run, value, most-u64}
+use Rattle.scalar.specs.Float.{f64-read, pattern-of}
+use Rattle.scalar.specs.Kind.{kind-of}
+use Rattle.scalar.specs.Numbers.{kind-number-of}
+use Rattle.scalar.specs.Truth.{bool-read}
+use Rattle.scalar.specs.Whole.{most-i64, has-tail, u64-digits, u64-read, signed, i64-digits, i64-part, whole-only, i64-read}
+use Rattle.scalar.specs.declared.float.F64Read.the-variants as F64
+use Rattle.scalar.specs.declared.float.F64Read.{F64Read}
+use Rattle.scalar.specs.declared.kinds.ReadingKind.the-variants as Kind
+use Rattle.scalar.specs.declared.kinds.ReadingKind.{ReadingKind}
+use Rattle.scalar.specs.declared.truth.BoolRead.the-variants as Truth
+use Rattle.scalar.specs.declared.truth.BoolRead.{BoolRead}
+use Rattle.scalar.specs.declared.whole.I64Part.the-variants as Part
+use Rattle.scalar.specs.declared.whole.I64Part.{I64Part}
+use Rattle.scalar.specs.declared.whole.I64Read.the-variants as I64
+use Rattle.sheet.specs.declared.views.Viewed.{Viewed}
+use Rattle.sheet.specs.declared.views.Viewed.the-variants.{At, NoScalar}
+use Rattle.report.proofs.Room.{decimal-short, bit-short, number-short}
+use Rattle.report.specs.Digits.{decimal, hex-by, most-hex, hex}
+use Rattle.report.specs.Readings.{integer, bool-text, u64-text, i64-text, f64-text, exact-of, readings-of}
+use Rattle.report.specs.Sheets.{verdict, hex-bytes, view-text}
+
+-- a refusal of a reading has two digits
+two-short : (n : ℕ) → n < 100 → length (decimal n) ≤ 2
+two-short n h = decimal-short 1 n (omega arith)
+
+-- ---- hexadecimal
+hex-by-length : (k n : ℕ) → length (hex-by k n) ≡ k
+unfolding hex-by
+hex-by-length zero n = refl
+hex-by-length (suc k) n = rw (hex-by, length-append) (omega (arith, hex-by-length k (n / 16)))
+
+hex-short : (k n : ℕ) → length (hex k n) ≤ k
+unfolding hex
+hex-short k n =
+    let written : length (hex k n) ≡ min k most-hex = hex-by-length (min k most-hex) n in
+    omega arith
+
+hex-bytes-short : (bs : List ℕ) → length (hex-bytes bs) ≤ 2 * length bs
+unfolding hex-bytes
+hex-bytes-short [] = omega arith
+hex-bytes-short (b ∷ bs) = rw (hex-bytes, length-append) (omega (arith, hex-short 2 b, hex-bytes-short bs))
+
+-- ---- the readings, each by what it answers
+bool-short : (r : BoolRead) → length (bool-text r) ≤ 2
+bool-short (Truth.Is b) = omega (arith, bit-short b)
+bool-short Truth.InvalidBool = two-short 23 (omega arith)
+
+u64-digits-short : (s : List ℕ) → length (u64-text (u64-digits s)) ≤ 21
+unfolding u64-digits
+u64-digits-short s =
+    by-bool (has-tail s)
+    (λ tail. rw (u64-digits, tail) (omega (arith, two-short 21 (omega arith))))
+    (λ none. by-bool (ltb most-u64 (value 0 (run s)))
+    (λ over. rw (u64-digits, none, over) (omega (arith, two-short 22 (omega arith))))
+    (λ within. rw (u64-digits, none, within) (omega (arith, number-short (value 0 (run s)) (omega (arith, ltb-false most-u64 (value 0 (run s)) within))))))
+
+u64-short : (d : List ℕ) → length (u64-text (u64-read d)) ≤ 21
+unfolding u64-read
+u64-short [] = omega (arith, two-short 21 (omega arith))
+u64-short (b ∷ d) =
+    by-bool (eqb b plus)
+    (λ e. rw (u64-read, e) (u64-digits-short d))
+    (λ e. rw (u64-read, e) (u64-digits-short (b ∷ d)))
+
+signed-short : (negative : Bool) (n : ℕ) → n ≤ most-i64 → length (integer (signed negative n)) ≤ 21
+signed-short true zero h = omega (arith, number-short 0 (omega arith))
+signed-short true (suc n) h = omega (arith, number-short (suc n) (omega arith))
+signed-short false n h = omega (arith, number-short n (omega arith))
+
+-- what may be left of a part is short
+abbrev Part-short : I64Part → Type 0
+Part-short (Part.Is i rest) = length (integer i) ≤ 21
+Part-short Part.AllDigits = Unit {0}
+Part-short Part.Overflow = Unit {0}
+
+i64-digits-short : (negative : Bool) (sign : ℕ) (s : List ℕ) → Part-short (i64-digits negative sign s)
+unfolding i64-digits
+i64-digits-short negative sign s =
+    by-bool (ltb most-i64 (value 0 (run s)))
+    (λ over. rw (i64-digits, over) tt)
+    (λ within. rw (i64-digits, within) (signed-short negative (value 0 (run s)) (ltb-false _ _ within)))
+
+i64-part-short : (d : List ℕ) → Part-short (i64-part d)
+unfolding i64-part
+i64-part-short [] = tt
+i64-part-short (b ∷ d) =
+    by-bool (eqb b minus)
+    (λ e. rw (i64-part, e) (i64-digits-short true 1 d))
+    (λ e. by-bool (eqb b plus)
+    (λ f. rw (i64-part, e, f) (i64-digits-short false 1 d))
+    (λ f. by-bool (is-digit b)
+    (λ g. rw (i64-part, e, f, g) (i64-digits-short false 0 (b ∷ d)))
+    (λ g. rw (i64-part, e, f, g) tt)))
+
+kept-short : (tail : Bool) (i : ℤ) → length (integer i) ≤ 21 → length (i64-text (elim tail [ true ↦ I64.AllDigits | false ↦ I64.Is i ])) ≤ 22
+kept-short true i h = omega (arith, two-short 21 (omega arith))
+kept-short false i h = omega arith
+
+whole-short : (n : ℕ) (p : I64Part) → Part-short p → length (i64-text (whole-only n p)) ≤ 22
+whole-short n (Part.Is i rest) h = kept-short (ltb rest n) i h
+whole-short n Part.AllDigits h = omega (arith, two-short 21 (omega arith))
+whole-short n Part.Overflow h = omega (arith, two-short 22 (omega arith))
+
+i64-short : (d : List ℕ) → length (i64-text (i64-read d)) ≤ 22
+unfolding i64-read
+i64-short d = whole-short (length d) (i64-part d) (i64-part-short d)
+
+f64-short : (r : F64Read) → length (f64-text r) ≤ 19
+f64-short (F64.Is x) = omega (arith, hex-short 16 (pattern-of x))
+f64-short F64.AllDigits = omega (arith, two-short 21 (omega arith))
+f64-short F64.Overflow = omega (arith, two-short 22 (omega arith))
+f64-short (F64.PrecisionLoss x) = simp length-append (omega (arith, two-short 24 (omega arith), hex-short 16 (pattern-of x)))
+
+kind-short : (k : ReadingKind) → length (decimal (kind-number-of k)) ≤ 1
+kind-short Kind.Bool = decimal-short 0 1 (omega arith)
+kind-short Kind.Whole = decimal-short 0 2 (omega arith)
+kind-short Kind.Decimal = decimal-short 0 3 (omega arith)
+kind-short Kind.Name = decimal-short 0 4 (omega arith)
+
+-- the line of a scalar
+pub readings-short : (d : List ℕ) → length (readings-of d) ≤ 70
+unfolding readings-of exact-of
+readings-short d =
+    simp length-append
+    (omega (arith, bool-short (bool-read d), u64-short d, i64-short d, f64-short (f64-read d), kind-short (kind-of d)))
+
+-- the line of a check, and of a view
+pub verdict-short : (sound : Bool) → length (verdict sound) ≤ 8
+verdict-short true = omega arith
+verdict-short false = omega arith
+
+pub view-short : (text : List ℕ) (v : Viewed) → length (view-text text v) ≤ 2 * length text + 11
+view-short text (At offset size) =
+    simp length-append
+    (omega (arith, hex-bytes-short (take size (drop offset text)), length-take size (drop offset text), length-drop offset text))
+view-short text NoScalar = simp length-append (omega (arith, two-short 12 (omega arith)))
