@@ -78,7 +78,7 @@ pub fn skip_ws_t(text: &[u8], at: usize) -> Skipped
 
 // How long the unquoted run at the head of a part is. A boundary byte at the head is a run of its own, as in `==bar`, so that every cut
 // moves on.
-pub fn split_at_scalar(d: &[u8], classes: &[u8; 256]) -> usize
+pub fn split_at_scalar(d: &[u8], classes: &[u8; data::BYTE_COUNT]) -> usize
     ensures { λ r. ⌜ r ≡ run-by (now (classes .entry)) (now (d .entry)) ⌝ }
 {
     let mut i = 0;
@@ -129,7 +129,7 @@ pub fn parse_variable(d: &[u8]) -> usize
 }
 
 // The place after the unquoted run that starts at a place.
-pub fn run_end(text: &[u8], at: usize, classes: &[u8; 256]) -> usize
+pub fn run_end(text: &[u8], at: usize, classes: &[u8; data::BYTE_COUNT]) -> usize
     ensures { λ r. ⌜ r ≡ run-end-by (now (classes .entry)) (now (text .entry)) at ⌝ }
 {
     if at < text.len() {
@@ -193,7 +193,7 @@ fn variable_at(text: &[u8], at: usize) -> Cut
 }
 
 // The scalar that starts at a place: its first byte says which kind of run it is.
-pub fn scalar_at(text: &[u8], at: usize, classes: &[u8; 256]) -> Cut
+pub fn scalar_at(text: &[u8], at: usize, classes: &[u8; data::BYTE_COUNT]) -> Cut
     ensures { λ r. ⌜ r ≡ scalar-cut-by (now (classes .entry)) (now (text .entry)) at ⌝ }
 {
     if at >= text.len() {

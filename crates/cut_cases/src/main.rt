@@ -95,7 +95,7 @@ fn say_quoted(text: &[u8]) {
     }
 }
 
-fn say_scalar(text: &[u8], place: usize, classes: &[u8; 256]) {
+fn say_scalar(text: &[u8], place: usize, classes: &[u8; data::BYTE_COUNT]) {
     match cut::scalar_at(text, place, classes) {
         Cut::Unquoted { start, end, rest } => {
             say(b" unquoted");
@@ -110,7 +110,7 @@ fn say_scalar(text: &[u8], place: usize, classes: &[u8; 256]) {
 }
 
 // The answer of the cut that a letter names.
-fn answer(name: u8, place: usize, text: &[u8], classes: &[u8; 256]) {
+fn answer(name: u8, place: usize, text: &[u8], classes: &[u8; data::BYTE_COUNT]) {
     match name {
         b'b' => say_blanks(text, place),
         b'r' => say_number(cut::run_end(text, place, classes)),
@@ -123,7 +123,7 @@ fn answer(name: u8, place: usize, text: &[u8], classes: &[u8; 256]) {
 }
 
 // A line: the letter, a space, the place, a space, the text.
-fn line_answer(line: &[u8], classes: &[u8; 256]) {
+fn line_answer(line: &[u8], classes: &[u8; data::BYTE_COUNT]) {
     if line.len() == 0 {
         return;
     }
@@ -153,7 +153,7 @@ fn line_end(input: &[u8], at: usize) -> usize
     i
 }
 
-fn lines(input: &[u8], classes: &[u8; 256]) {
+fn lines(input: &[u8], classes: &[u8; data::BYTE_COUNT]) {
     let mut i = 0;
     while i < input.len() {
         let end = line_end(input, i);

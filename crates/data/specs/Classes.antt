@@ -26,6 +26,10 @@ abbrev pub classes-from : ℕ → ℕ → List ℕ
 classes-from b zero = []
 classes-from b (suc n) = class-of b ∷ classes-from (b + 1) n
 
+-- how many bytes there are
+abbrev pub byte-count : ℕ
+byte-count = 256
+
 -- the whole table
 unfoldable pub classes : List ℕ
-classes = classes-from 0 256
+classes = classes-from 0 byte-count

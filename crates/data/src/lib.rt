@@ -2,8 +2,11 @@
 ghost use mathlib.Core.Path.{_≡_};
 ghost use Rattle.data.specs.Classes.{classes};
 
+// How many bytes there are, each with its class.
+pub const BYTE_COUNT: usize = 256;
+
 // The class of each byte: 1 where it ends an unquoted run, 0 elsewhere.
-const CHARACTER_CLASS: [u8; 256] = [
+const CHARACTER_CLASS: [u8; BYTE_COUNT] = [
     0,
     0,
     0,
@@ -263,7 +266,7 @@ const CHARACTER_CLASS: [u8; 256] = [
 ];
 
 // The table by value: taken once by whoever loops over bytes, and lent from there.
-pub fn character_class() -> [u8; 256]
+pub fn character_class() -> [u8; BYTE_COUNT]
     ensures { λ r. ⌜ r ≡ classes ⌝ }
 {
     CHARACTER_CLASS

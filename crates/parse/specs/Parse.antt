@@ -48,13 +48,26 @@ run text (suc n) (next m t) = run text n (turn text t m)
 run text (suc n) (done k t) = done k t
 run text (suc n) (refused r) = refused r
 
--- whether the text begins with ef bb bf
+-- a BOM: ef bb bf
+abbrev pub bom-first : ℕ
+bom-first = 0xef
+
+abbrev pub bom-second : ℕ
+bom-second = 0xbb
+
+abbrev pub bom-third : ℕ
+bom-third = 0xbf
+
+abbrev pub bom-length : ℕ
+bom-length = 3
+
+-- whether the text begins with one
 unfoldable pub has-bom : List ℕ → Bool
-has-bom text = eqb (byte-at text 0) 0xef && (eqb (byte-at text 1) 0xbb && eqb (byte-at text 2) 0xbf)
+has-bom text = eqb (byte-at text 0) bom-first && (eqb (byte-at text 1) bom-second && eqb (byte-at text 2) bom-third)
 
 -- Start: Key, parent 0, mixed off, past the BOM
 abbrev pub first-place : Bool → ℕ
-first-place true = 3
+first-place true = bom-length
 first-place false = 0
 
 unfoldable pub start : Bool → Machine

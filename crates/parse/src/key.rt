@@ -110,7 +110,12 @@ fn key_brace(text: &[u8], tape: &mut [u32], m: Machine) -> Turn
 }
 
 // A turn in Key, at a byte that is no blank.
-pub(crate) fn key_turn(text: &[u8], table: &[u8; 256], tape: &mut [u32], m: Machine) -> Step
+pub(crate) fn key_turn(
+    text: &[u8],
+    table: &[u8; data::BYTE_COUNT],
+    tape: &mut [u32],
+    m: Machine,
+) -> Step
     requires { ⌜ (length (now text) ≤ text-limit) × (now table ≡ classes) × (m .at < length (now text)) ⌝ }
     ensures { λ r. ⌜ stepped (now (text .entry)) r (now (tape .exit)) m ≡ key-turn (now (text .entry)) (view (now (tape .entry)) (m .count)) m ⌝ }
 {

@@ -26,6 +26,18 @@ mod parse_open;
 mod scalars;
 mod separator;
 
+// A text of more bytes than this is too long.
+pub const TEXT_LIMIT: usize = 16777215;
+
+// The bytes of a BOM, and how many they are.
+const BOM_FIRST: u8 = 0xef;
+
+const BOM_SECOND: u8 = 0xbb;
+
+const BOM_THIRD: u8 = 0xbf;
+
+const BOM_LENGTH: usize = 3;
+
 // What a parse answers: how many tokens stand on the tape and whether the text began with a BOM, or why it is refused.
 pub enum Parsed {
     Tokens { count: u32, bom: bool },
@@ -33,7 +45,7 @@ pub enum Parsed {
 }
 
 // What the machine's state makes of a byte that is no blank.
-fn state_step(text: &[u8], table: &[u8; 256], tape: &mut [u32], m: Machine) -> Step
+fn state_step(text: &[u8], table: &[u8; data::BYTE_COUNT], tape: &mut [u32], m: Machine) -> Step
     requires { ⌜ (length (now text) ≤ text-limit) × (now table ≡ classes) × (m .at < length (now text)) ⌝ }
     ensures { λ r. ⌜ stepped (now (text .entry)) r (now (tape .exit)) m ≡ state-turn (now (text .entry)) (view (now (tape .entry)) (m .count)) m ⌝ }
 {
@@ -61,7 +73,13 @@ fn is_parse_open(state: State) -> bool
 }
 
 // Takes the scalar that is due. This is the one place that cuts one, so that the cut is compiled into the loop.
-fn entry(text: &[u8], table: &[u8; 256], tape: &mut [u32], m: Machine, state: State) -> Turn
+fn entry(
+    text: &[u8],
+    table: &[u8; data::BYTE_COUNT],
+    tape: &mut [u32],
+    m: Machine,
+    state: State,
+) -> Turn
     requires { ⌜ (length (now text) ≤ text-limit) × (now table ≡ classes) ⌝ }
     ensures { λ r. ⌜ after r (now (tape .exit)) ≡ entry (now (text .entry)) state (view (now (tape .entry)) (m .count)) m ⌝ }
 {
@@ -73,7 +91,7 @@ fn entry(text: &[u8], table: &[u8; 256], tape: &mut [u32], m: Machine, state: St
 }
 
 // A turn of the machine's state, at a byte that is no blank.
-fn state_turn(text: &[u8], table: &[u8; 256], tape: &mut [u32], m: Machine) -> Turn
+fn state_turn(text: &[u8], table: &[u8; data::BYTE_COUNT], tape: &mut [u32], m: Machine) -> Turn
     requires { ⌜ (length (now text) ≤ text-limit) × (now table ≡ classes) × (m .at < length (now text)) ⌝ }
     ensures { λ r. ⌜ after r (now (tape .exit)) ≡ state-turn (now (text .entry)) (view (now (tape .entry)) (m .count)) m ⌝ }
 {
@@ -84,7 +102,7 @@ fn state_turn(text: &[u8], table: &[u8; 256], tape: &mut [u32], m: Machine) -> T
 }
 
 // A turn: skips blanks, and then the state decides.
-fn turn(text: &[u8], table: &[u8; 256], tape: &mut [u32], m: Machine) -> Turn
+fn turn(text: &[u8], table: &[u8; data::BYTE_COUNT], tape: &mut [u32], m: Machine) -> Turn
     requires { ⌜ (length (now text) ≤ text-limit) × (now table ≡ classes) ⌝ }
     ensures { λ r. ⌜ after r (now (tape .exit)) ≡ turn (now (text .entry)) (view (now (tape .entry)) (m .count)) m ⌝ }
 {
@@ -99,13 +117,13 @@ fn turn(text: &[u8], table: &[u8; 256], tape: &mut [u32], m: Machine) -> Turn
 fn has_bom(text: &[u8]) -> bool
     ensures { λ r. ⌜ r ≡ has-bom (now (text .entry)) ⌝ }
 {
-    if byte_at(text, 0) != 0xef {
+    if byte_at(text, 0) != BOM_FIRST {
         return false;
     }
-    if byte_at(text, 1) != 0xbb {
+    if byte_at(text, 1) != BOM_SECOND {
         return false;
     }
-    byte_at(text, 2) == 0xbf
+    byte_at(text, 2) == BOM_THIRD
 }
 
 // The machine at the text's start, past a BOM.
@@ -114,7 +132,7 @@ fn start(bom: bool) -> Machine
 {
     if bom {
         return Machine {
-            at: 3,
+            at: BOM_LENGTH,
             state: State::Key,
             parent: 0,
             mixed: false,
@@ -159,7 +177,7 @@ fn refuse(tape: &mut [u32], refusal: Refusal) -> Parsed
 pub fn parse(text: &[u8], tape: &mut [u32]) -> Parsed
     ensures { λ r. ⌜ outcome r (now (tape .exit)) ≡ parse-of (now (text .entry)) (length (now (tape .entry))) ⌝ }
 {
-    if 16777215 < text.len() {
+    if TEXT_LIMIT < text.len() {
         return refuse(tape, Refusal::TooLong);
     }
     let bom = has_bom(text);

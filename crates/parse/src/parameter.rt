@@ -68,7 +68,12 @@ fn value_or_object(
 }
 
 // The run after a parameter's name: its value, or the first key of its Object.
-fn parameter_value(text: &[u8], table: &[u8; 256], tape: &mut [u32], m: Machine) -> Turn
+fn parameter_value(
+    text: &[u8],
+    table: &[u8; data::BYTE_COUNT],
+    tape: &mut [u32],
+    m: Machine,
+) -> Turn
     requires { ⌜ (length (now text) ≤ text-limit) × (now table ≡ classes) ⌝ }
     ensures { λ r. ⌜ after r (now (tape .exit)) ≡ parameter-value (now (text .entry)) (view (now (tape .entry)) (m .count)) m ⌝ }
 {
@@ -85,7 +90,7 @@ fn parameter_value(text: &[u8], table: &[u8; 256], tape: &mut [u32], m: Machine)
 // Adds the name from start to end, which `]` must end.
 fn parameter_named(
     text: &[u8],
-    table: &[u8; 256],
+    table: &[u8; data::BYTE_COUNT],
     tape: &mut [u32],
     m: Machine,
     kind: ScalarKind,
@@ -108,7 +113,7 @@ fn parameter_named(
 // Reads a name that starts at a place.
 fn parameter_name(
     text: &[u8],
-    table: &[u8; 256],
+    table: &[u8; data::BYTE_COUNT],
     tape: &mut [u32],
     m: Machine,
     kind: ScalarKind,
@@ -125,7 +130,12 @@ fn parameter_name(
 }
 
 // `[[` or `[[!` at the machine's place, with what follows it.
-pub(crate) fn parameter(text: &[u8], table: &[u8; 256], tape: &mut [u32], m: Machine) -> Turn
+pub(crate) fn parameter(
+    text: &[u8],
+    table: &[u8; data::BYTE_COUNT],
+    tape: &mut [u32],
+    m: Machine,
+) -> Turn
     requires { ⌜ (length (now text) ≤ text-limit) × (now table ≡ classes) × (m .at < length (now text)) ⌝ }
     ensures { λ r. ⌜ after r (now (tape .exit)) ≡ parameter (now (text .entry)) (view (now (tape .entry)) (m .count)) m ⌝ }
 {

@@ -84,7 +84,7 @@ fn open_empty(tape: &mut [u32], m: Machine) -> Turn
 }
 
 // `[`: the container is an Object that begins with a parameter.
-fn open_parameter(text: &[u8], table: &[u8; 256], tape: &mut [u32], m: Machine) -> Turn
+fn open_parameter(text: &[u8], table: &[u8; data::BYTE_COUNT], tape: &mut [u32], m: Machine) -> Turn
     requires { ⌜ (length (now text) ≤ text-limit) × (now table ≡ classes) × (m .at < length (now text)) ⌝ }
     ensures { λ r. ⌜ after r (now (tape .exit)) ≡ open-parameter (now (text .entry)) (view (now (tape .entry)) (m .count)) m ⌝ }
 {
@@ -189,7 +189,12 @@ pub(crate) fn first_entry(text: &[u8], tape: &mut [u32], laid: Turn) -> Turn
 }
 
 // A turn in ParseOpen, at a byte that is no blank.
-pub(crate) fn parse_open_turn(text: &[u8], table: &[u8; 256], tape: &mut [u32], m: Machine) -> Step
+pub(crate) fn parse_open_turn(
+    text: &[u8],
+    table: &[u8; data::BYTE_COUNT],
+    tape: &mut [u32],
+    m: Machine,
+) -> Step
     requires { ⌜ (length (now text) ≤ text-limit) × (now table ≡ classes) × (m .at < length (now text)) ⌝ }
     ensures { λ r. ⌜ stepped (now (text .entry)) r (now (tape .exit)) m ≡ parse-open-turn (now (text .entry)) (view (now (tape .entry)) (m .count)) m ⌝ }
 {

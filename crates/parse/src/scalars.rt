@@ -28,7 +28,7 @@ pub(crate) fn viewed(kind: ScalarKind, start: usize, end: usize) -> token::Token
 // Adds the scalar at the machine's place, and goes on past it in a state.
 pub(crate) fn scalar_then(
     text: &[u8],
-    table: &[u8; 256],
+    table: &[u8; data::BYTE_COUNT],
     tape: &mut [u32],
     m: Machine,
     state: State,
