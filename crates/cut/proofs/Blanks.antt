@@ -49,7 +49,8 @@ unfolding skip-ws skip-comment
 skip-hash text at h f e = rw (skip-ws, drop-here text at h, blanks-at, f, eq-eqb (getD text at 0) hash e)
 
 -- any other byte is where it lands
-pub skip-here : (text : List ℕ) (at : ℕ) → at < length text → is-blank (getD text at 0) ≡ false → (getD text at 0 ≡ hash → ⊥) → skip-ws text at ≡ At at
+pub skip-here : (text : List ℕ) (at : ℕ) → at < length text → is-blank (getD text at 0) ≡ false → (getD text at 0 ≡ hash → ⊥)
+    → skip-ws text at ≡ At at
 unfolding skip-ws
 skip-here text at h f n = rw (skip-ws, drop-here text at h, blanks-at, f, ne-eqb (getD text at 0) hash n)
 
@@ -64,7 +65,8 @@ unfolding skip-ws skip-comment
 comment-ends text at h e = rw (skip-comment, drop-here text at h, comment-at, eq-eqb (getD text at 0) line-feed e)
 
 -- and no other byte does
-pub comment-goes-on : (text : List ℕ) (at : ℕ) → at < length text → (getD text at 0 ≡ line-feed → ⊥) → skip-comment text at ≡ skip-comment text (at + 1)
+pub comment-goes-on : (text : List ℕ) (at : ℕ) → at < length text → (getD text at 0 ≡ line-feed → ⊥)
+    → skip-comment text at ≡ skip-comment text (at + 1)
 unfolding skip-comment
 comment-goes-on text at h n = rw (skip-comment, drop-here text at h, comment-at, ne-eqb (getD text at 0) line-feed n)
 
@@ -91,7 +93,8 @@ uncut text at place l =
     record { below = rw (length-take-le place text (omega (arith, l .within))) h; byte = getD-take place text at 0 h }
 
 -- one byte is passed before what is left reaches it
-reach-later : (text : List ℕ) (at place : ℕ) (now later : Skipped) → (Uncut text at place → now ≡ later) → Reached text (at + 1) place later → Reached text at place now
+reach-later : (text : List ℕ) (at place : ℕ) (now later : Skipped) → (Uncut text at place → now ≡ later)
+    → Reached text (at + 1) place later → Reached text at place now
 reach-later text at place now later step r =
     let l = r .landed in
     record {
@@ -99,7 +102,8 @@ reach-later text at place now later step r =
       passed = step (uncut text at place l) ∙ r .passed;
     }
 
-reach-here : (text : List ℕ) (at place : ℕ) → at ≡ place → at < length text → is-blank (getD text at 0) ≡ false → (getD text at 0 ≡ hash → ⊥)
+reach-here : (text : List ℕ) (at place : ℕ) → at ≡ place → at < length text → is-blank (getD text at 0) ≡ false
+    → (getD text at 0 ≡ hash → ⊥)
     → Reached text at place (skip-ws (take place text) at)
 reach-here text at place e within no-blank no-comment =
     rw (← e)

@@ -39,7 +39,8 @@ skipped d n =
     (λ f. rw (drop-of-length-le d {i = n} (ltb-false n (length d) f), drop-of-length-le d {i = n + 1} (omega (arith, ltb-false n (length d) f))))
 
 -- a backslash passes itself and one byte more
-pub quoted-escapes : (d : List ℕ) (n : ℕ) → n < length d → getD d n 0 ≡ backslash → quoted-from (drop n d) n ≡ quoted-from (drop (n + 2) d) (n + 2)
+pub quoted-escapes : (d : List ℕ) (n : ℕ) → n < length d → getD d n 0 ≡ backslash
+    → quoted-from (drop n d) n ≡ quoted-from (drop (n + 2) d) (n + 2)
 quoted-escapes d n h e =
     rw (drop-here d n h, quoted-at, ap (λ (b : ℕ). eqb b quote) e, eq-eqb (getD d n 0) backslash e)
     (skipped d (n + 1) ∙ ap (λ (k : ℕ). quoted-from (drop k d) k) {x = n + 1 + 1} {y = n + 2} (omega arith))

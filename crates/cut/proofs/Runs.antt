@@ -22,7 +22,8 @@ unfolding stop-from
 stop-past stops text at h = rw (drop-of-length-le text h)
 
 -- a byte that stops it is where it ends
-pub stop-here : (stops : ℕ → Bool) (text : List ℕ) (at : ℕ) → at < length text → stops (getD text at 0) ≡ true → stop-from stops (drop at text) at ≡ at
+pub stop-here : (stops : ℕ → Bool) (text : List ℕ) (at : ℕ) → at < length text → stops (getD text at 0) ≡ true
+    → stop-from stops (drop at text) at ≡ at
 unfolding stop-from
 stop-here stops text at h e = rw (drop-here text at h, stop-from, e)
 
@@ -92,7 +93,8 @@ run-head stops [] h e = absurd (omega arith)
 run-head stops (b ∷ bs) h e = rw (run-of, e)
 
 -- and after any other head the run is the scan's
-pub run-scan : (stops : ℕ → Bool) (bytes : List ℕ) → 0 < length bytes → stops (getD bytes 0 0) ≡ false → run-of stops bytes ≡ stop-from stops (drop 1 bytes) 1
+pub run-scan : (stops : ℕ → Bool) (bytes : List ℕ) → 0 < length bytes → stops (getD bytes 0 0) ≡ false
+    → run-of stops bytes ≡ stop-from stops (drop 1 bytes) 1
 unfolding run-of
 run-scan stops [] h e = absurd (omega arith)
 run-scan stops (b ∷ bs) h e = rw (run-of, e)

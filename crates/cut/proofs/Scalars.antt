@@ -87,17 +87,20 @@ unfolding scalar-cut-by scalar-cut
 scalar-cut-by-classes text at = ap (λ (s : ℕ → Bool). cut-of s text at) classed-classes
 
 -- what the quoted run of a slice's later part says of the text
-pub quoted-part : (text : List ℕ) (start : ℕ) (q : Quotes.Quoted) → q ≡ quoted-run (take (length text - start) (drop start text)) → q ≡ quoted-run (drop start text)
+pub quoted-part : (text : List ℕ) (start : ℕ) (q : Quotes.Quoted) → q ≡ quoted-run (take (length text - start) (drop start text))
+    → q ≡ quoted-run (drop start text)
 quoted-part text start q e = e ∙ ap quoted-run (later-part text start)
 
 -- a closed run ends within the text, at a quote
-pub quoted-part-closes : (text : List ℕ) (start n : ℕ) → start ≤ length text → quoted-run (drop start text) ≡ Closed n → Closing text start (start + n)
+pub quoted-part-closes : (text : List ℕ) (start n : ℕ) → start ≤ length text → quoted-run (drop start text) ≡ Closed n
+    → Closing text start (start + n)
 quoted-part-closes text start n h e =
     let c = quoted-run-closes (drop start text) n e in
     record { from = omega arith; within = omega (arith, c .within, length-drop start text); closes = sym (getD-drop start text n 0) ∙ c .closes }
 
 -- and the bracket of a slice's later part
-pub bracket-part : (text : List ℕ) (start n : ℕ) → n ≡ bracket-run (take (length text - start) (drop start text)) → n ≡ bracket-run (drop start text)
+pub bracket-part : (text : List ℕ) (start n : ℕ) → n ≡ bracket-run (take (length text - start) (drop start text))
+    → n ≡ bracket-run (drop start text)
 bracket-part text start n e = e ∙ ap bracket-run (later-part text start)
 
 -- an unquoted view starts at the place and has a byte; the text goes on at its end
@@ -121,7 +124,8 @@ View text at (Unquoted start end rest) = Unquoted-view text at start end rest
 View text at (Quoted start end rest) = Quoted-view text at start end rest
 View text at End = Unit {0}
 
-quoted-view : (text : List ℕ) (at : ℕ) (q : Quotes.Quoted) → at + 1 ≤ length text → quoted-run (drop (at + 1) text) ≡ q → View text at (quoted (at + 1) q)
+quoted-view : (text : List ℕ) (at : ℕ) (q : Quotes.Quoted) → at + 1 ≤ length text → quoted-run (drop (at + 1) text) ≡ q
+    → View text at (quoted (at + 1) q)
 unfolding View
 quoted-view text at (Closed n) h e =
     let c = quoted-part-closes text (at + 1) n h e in

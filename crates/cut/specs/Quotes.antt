@@ -1,4 +1,4 @@
--- A quoted run ends at the first `"` not skipped by a backslash (which skips one byte); none is no run.
+-- A quoted run ends at the first `"` not skipped by a backslash (which skips one byte); none is Eof (2), which the caller says.
 use Prim.Native.Nat.{ℕ, _+_}
 use mathlib.Core.Bool.{true, false}
 use mathlib.Core.List.{List, [], _∷_}

@@ -17,7 +17,7 @@ unfoldable pub run-of : (ℕ → Bool) → List ℕ → ℕ
 run-of stops [] = 0
 run-of stops (b ∷ bs) = elim (stops b) [ true ↦ 1 | false ↦ stop-from stops bs 1 ]
 
--- the place after the run that starts at a place; that place itself where it is past the end
+-- the place after the run that starts at a place, where the rest of the text is handed on; that place itself where it is past the end
 unfoldable pub run-end-of : (ℕ → Bool) → List ℕ → ℕ → ℕ
 run-end-of stops text at = at + run-of stops (drop at text)
 

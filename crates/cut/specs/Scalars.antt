@@ -17,7 +17,7 @@ use Rattle.cut.specs.declared.Quoted.the-variants.{Closed, Unclosed}
 abbrev pub unquoted : ℕ → ℕ → Cut
 unquoted start end = Unquoted start end end
 
--- a quoted view that starts after its quote: without the quotes, and with its escapes
+-- Quoted views leave out the quotes and keep escapes; no closing quote is the text's end: none is Eof (2)
 abbrev pub quoted : ℕ → Quotes.Quoted → Cut
 quoted start (Closed n) = Quoted start (start + n) (start + n + 1)
 quoted start Unclosed = End
@@ -34,13 +34,14 @@ bracket-run bytes = stop-from closes-bracket bytes 0
 unfoldable pub opens-variable : List ℕ → ℕ → Bool
 opens-variable text at = elim (eqb (getD text at 0) at-sign) [ true ↦ eqb (getD text (at + 1) 0) bracket-open | false ↦ false ]
 
--- `@[` through the first `]`, which stays in the view; none is the end
+-- `@[` runs through the first `]`, kept in the view; none is the text's end, Eof (2)
 unfoldable pub variable-cut : List ℕ → ℕ → Cut
 variable-cut text at =
     let last = at + 2 + bracket-run (drop (at + 2) text) in
     elim (ltb last (length text)) [ true ↦ unquoted at (last + 1) | false ↦ End ]
 
--- the scalar that starts at a place, by what stops an unquoted run; the end where the place is past it or a run is not closed
+-- the scalar that starts at a place, by what stops an unquoted run (other `@` is an unquoted run); the end where the place is past it
+-- or a run is not closed
 unfoldable pub cut-of : (ℕ → Bool) → List ℕ → ℕ → Cut
 cut-of stops text at =
     elim (ltb at (length text)) [

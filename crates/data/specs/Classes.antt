@@ -1,13 +1,17 @@
--- The thirteen boundary bytes, and the table of 256 classes that is 1 exactly there.
+-- Boundary bytes: 9, 10, 13, 32, 35, 59, 60, 61, 62, 91, 93, 123, 125. They stand as a table of 256 classes whose rule holds at every
+-- byte: 1 exactly there.
 use Prim.Native.Nat.{ℕ, zero, suc, _+_}
 use mathlib.Core.Bool.{Bool, true, false}
 use mathlib.Core.List.{List, [], _∷_}
 use lib.Dec.{eqb}
-use Rattle.data.specs.Bytes.{tab, line-feed, carriage-return, space, hash, semicolon, less-than, equals, greater-than, bracket-open, bracket-close, brace-open, brace-close}
+use Rattle.data.specs.Bytes.{tab, line-feed, carriage-return, space, hash, semicolon, less-than, equals, greater-than}
+use Rattle.data.specs.Bytes.{bracket-open, bracket-close, brace-open, brace-close}
 
 -- the bytes that end an unquoted run
 abbrev pub boundary-bytes : List ℕ
-boundary-bytes = tab ∷ line-feed ∷ carriage-return ∷ space ∷ hash ∷ semicolon ∷ less-than ∷ equals ∷ greater-than ∷ bracket-open ∷ bracket-close ∷ brace-open ∷ brace-close ∷ []
+boundary-bytes =
+    tab ∷ line-feed ∷ carriage-return ∷ space ∷ hash ∷ semicolon ∷ less-than ∷ equals ∷ greater-than
+    ∷ bracket-open ∷ bracket-close ∷ brace-open ∷ brace-close ∷ []
 
 abbrev pub among : ℕ → List ℕ → Bool
 among b [] = false

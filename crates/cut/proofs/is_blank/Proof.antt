@@ -12,7 +12,10 @@ abbrev in-turn : Bool → Bool → Bool → Bool → Bool → Bool
 in-turn a b c d e =
     elim a [
       | true ↦ true
-      | false ↦ elim b [ true ↦ true | false ↦ elim c [ true ↦ true | false ↦ elim d [ true ↦ true | false ↦ elim e [ true ↦ true | false ↦ false ] ] ] ]
+      | false ↦ elim b [
+        | true ↦ true
+        | false ↦ elim c [ true ↦ true | false ↦ elim d [ true ↦ true | false ↦ elim e [ true ↦ true | false ↦ false ] ] ]
+      ]
     ]
 
 at-once : (a b c d e : Bool) → (((a || b) || c) || d) || e ≡ in-turn a b c d e

@@ -41,7 +41,11 @@ loop-less-2 : tie.Need-loop-less-2 Inv-loop μ-loop
 loop-less-2 c = search needs
 
 loop-again-2 : tie.Need-loop-again-2 Inv-loop μ-loop
-loop-again-2 c = c .before .before .before .before .loop .inv ∙ quoted-goes-on _ _ (c .before .before .before .loop-test .taken) (c .before .if1 .left) (c .if2 .left)
+loop-again-2 c =
+    let at-if1 = c .before in
+    let at-loop-test = at-if1 .before .before in
+    let at-loop = at-loop-test .before in
+    at-loop .loop .inv ∙ quoted-goes-on _ _ (at-loop-test .loop-test .taken) (at-if1 .if1 .left) (c .if2 .left)
 
 returns-2 : tie.Need-returns-2 Inv-loop μ-loop
 returns-2 c = sym (c .before .loop .inv ∙ quoted-past _ _ (c .loop-test .left))

@@ -44,7 +44,10 @@ loop-less : tie.Need-loop-less Inv-loop μ-loop
 loop-less c = search needs
 
 loop-again : tie.Need-loop-again Inv-loop μ-loop
-loop-again c = (search needs, c .before .before .before .loop .inv .1 ∙ stop-later closes-bracket _ _ (c .before .before .loop-test .taken) (passes _ (c .if1 .left)))
+loop-again c =
+    let at-loop-test = c .before .before in
+    let at-loop = at-loop-test .before in
+    (search needs, at-loop .loop .inv .1 ∙ stop-later closes-bracket _ _ (at-loop-test .loop-test .taken) (passes _ (c .if1 .left)))
 
 returns-2 : tie.Need-returns-2 Inv-loop μ-loop
 returns-2 c = sym (c .before .loop .inv .1 ∙ stop-past closes-bracket _ _ (c .loop-test .left))

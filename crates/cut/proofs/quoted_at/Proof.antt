@@ -28,16 +28,23 @@ enum-known-length : tie.Need-enum-known-length
 enum-known-length c = search needs
 
 closed : (c : tie.After-known-told)
-    → quoted-run (drop (c .before .before .before .before .before .before .args .start) (now (c .before .before .before .before .before .before .args .text))) ≡ Closed (c .before .length .given .0 .0)
+    → let a = c .before .before .before .before .before .before .args in
+    quoted-run (drop (a .start) (now (a .text))) ≡ Closed (c .before .length .given .0 .0)
 closed c =
     let a = c .before .before .before .before .before .before .args in
     sym (quoted-part (now (a .text)) (a .start) _ (c .before .before .before .parse-quote-scalar .ensures)) ∙ c .before .length .given .1
 
 add-end : tie.Need-add-end
-add-end c = omega (arith, quoted-part-closes (now (c .before .before .before .before .before .before .args .text)) (c .before .before .before .before .before .before .args .start) (c .before .length .given .0 .0) (c .before .before .before .before .before .before .pre) (closed c))
+add-end c =
+    let at-length = c .before in
+    let at-start = at-length .before .before .before .before .before in
+    omega (arith, quoted-part-closes (now (at-start .args .text)) (at-start .args .start) (at-length .length .given .0 .0) (at-start .pre) (closed c))
 
 add-t11 : tie.Need-add-t11
-add-t11 c = omega (arith, quoted-part-closes (now (c .before .before .before .before .before .before .args .text)) (c .before .before .before .before .before .before .args .start) (c .before .length .given .0 .0) (c .before .before .before .before .before .before .pre) (closed c))
+add-t11 c =
+    let at-length = c .before in
+    let at-start = at-length .before .before .before .before .before in
+    omega (arith, quoted-part-closes (now (at-start .args .text)) (at-start .args .start) (at-length .length .given .0 .0) (at-start .pre) (closed c))
 
 enum-told : tie.Need-enum-told
 enum-told c = search needs

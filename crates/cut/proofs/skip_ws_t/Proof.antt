@@ -1,4 +1,5 @@
--- `cut::skip_ws_t` meets its contract: the invariants say what is left, that skipping from the start finds what skipping from `i` on finds, outside a comment and inside one.
+-- `cut::skip_ws_t` meets its contract: the invariants say what is left, that skipping from the start finds what skipping from `i` on
+-- finds, outside a comment and inside one.
 -- Assumes nothing.
 use mathlib.Core.Path.{_≡_, sym, _∙_}
 use Prim.Native.Nat.{_≤_, _-_}
@@ -38,16 +39,34 @@ blanks-less : tie.Need-blanks-less Inv-comment μ-comment Inv-blanks μ-blanks
 blanks-less c = search needs
 
 blanks-again : tie.Need-blanks-again Inv-comment μ-comment Inv-blanks μ-blanks
-blanks-again c = c .before .before .before .before .blanks .inv ∙ skip-blank _ _ (c .before .before .before .blanks-test .taken) (sym (c .before .is-blank .ensures) ∙ c .if1 .taken)
+blanks-again c =
+    let at-is-blank = c .before in
+    let at-blanks-test = at-is-blank .before .before in
+    let at-blanks = at-blanks-test .before in
+    at-blanks .blanks .inv ∙ skip-blank _ _ (at-blanks-test .blanks-test .taken) (sym (at-is-blank .is-blank .ensures) ∙ c .if1 .taken)
 
 returns : tie.Need-returns Inv-comment μ-comment Inv-blanks μ-blanks
-returns c = sym (c .before .before .before .before .before .blanks .inv ∙ skip-here _ _ (c .before .before .before .before .blanks-test .taken) (sym (c .before .before .is-blank .ensures) ∙ c .before .if1 .left) (c .if2 .taken))
+returns c =
+    let at-if1 = c .before in
+    let at-is-blank = at-if1 .before in
+    let at-blanks-test = at-is-blank .before .before in
+    let at-blanks = at-blanks-test .before in
+    sym
+    (at-blanks .blanks .inv ∙ skip-here _ _ (at-blanks-test .blanks-test .taken) (sym (at-is-blank .is-blank .ensures) ∙ at-if1 .if1 .left) (c .if2 .taken))
 
 add-i-2 : tie.Need-add-i-2 Inv-comment μ-comment Inv-blanks μ-blanks
 add-i-2 c = search needs
 
 comment-holds : tie.Need-comment-holds Inv-comment μ-comment Inv-blanks μ-blanks
-comment-holds c = (search needs, search needs, c .before .before .before .before .before .blanks .inv ∙ skip-hash _ _ (c .before .before .before .before .blanks-test .taken) (sym (c .before .before .is-blank .ensures) ∙ c .before .if1 .left) (c .if2 .left))
+comment-holds c =
+    let at-if1 = c .before in
+    let at-is-blank = at-if1 .before in
+    let at-blanks-test = at-is-blank .before .before in
+    let at-blanks = at-blanks-test .before in (
+      search needs,
+      search needs,
+      at-blanks .blanks .inv ∙ skip-hash _ _ (at-blanks-test .blanks-test .taken) (sym (at-is-blank .is-blank .ensures) ∙ at-if1 .if1 .left) (c .if2 .left),
+    )
 
 shared-slice-read-c : tie.Need-shared-slice-read-c Inv-comment μ-comment Inv-blanks μ-blanks
 shared-slice-read-c c = search needs

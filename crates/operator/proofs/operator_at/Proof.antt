@@ -25,25 +25,65 @@ only-doubled-requires c κs = search needs
 
 returns-3 : tie.Need-returns-3
 unfolding sighted
-returns-3 c = rw (sighted, ne-eqb _ _ (c .before .before .before .if1 .left), ne-eqb _ _ (c .before .before .if2 .left), eq-eqb _ _ (c .before .if3 .taken)) (c .only-doubled .ensures)
+returns-3 c =
+    let at-if3 = c .before in
+    let at-if2 = at-if3 .before in
+    let at-if1 = at-if2 .before in
+    rw (sighted, ne-eqb _ _ (at-if1 .if1 .left), ne-eqb _ _ (at-if2 .if2 .left), eq-eqb _ _ (at-if3 .if3 .taken)) (c .only-doubled .ensures)
 
 only-doubled-requires-2 : tie.Need-only-doubled-requires-2
 only-doubled-requires-2 c κs = search needs
 
 returns-4 : tie.Need-returns-4
 unfolding sighted
-returns-4 c = rw (sighted, ne-eqb _ _ (c .before .before .before .before .if1 .left), ne-eqb _ _ (c .before .before .before .if2 .left), ne-eqb _ _ (c .before .before .if3 .left), eq-eqb _ _ (c .before .if4 .taken)) (c .only-doubled2 .ensures)
+returns-4 c =
+    let at-if4 = c .before in
+    let at-if3 = at-if4 .before in
+    let at-if2 = at-if3 .before in
+    let at-if1 = at-if2 .before in
+    rw (
+      sighted,
+      ne-eqb _ _ (at-if1 .if1 .left),
+      ne-eqb _ _ (at-if2 .if2 .left),
+      ne-eqb _ _ (at-if3 .if3 .left),
+      eq-eqb _ _ (at-if4 .if4 .taken),
+    ) (c .only-doubled2 .ensures)
 
 bare-or-doubled-requires-3 : tie.Need-bare-or-doubled-requires-3
 bare-or-doubled-requires-3 c κs = search needs
 
 returns-5 : tie.Need-returns-5
 unfolding sighted
-returns-5 c = rw (sighted, ne-eqb _ _ (c .before .before .before .before .before .if1 .left), ne-eqb _ _ (c .before .before .before .before .if2 .left), ne-eqb _ _ (c .before .before .before .if3 .left), ne-eqb _ _ (c .before .before .if4 .left), eq-eqb _ _ (c .before .if5 .taken)) (c .bare-or-doubled3 .ensures)
+returns-5 c =
+    let at-if5 = c .before in
+    let at-if4 = at-if5 .before in
+    let at-if3 = at-if4 .before in
+    let at-if2 = at-if3 .before in
+    let at-if1 = at-if2 .before in
+    rw (
+      sighted,
+      ne-eqb _ _ (at-if1 .if1 .left),
+      ne-eqb _ _ (at-if2 .if2 .left),
+      ne-eqb _ _ (at-if3 .if3 .left),
+      ne-eqb _ _ (at-if4 .if4 .left),
+      eq-eqb _ _ (at-if5 .if5 .taken),
+    ) (c .bare-or-doubled3 .ensures)
 
 returns-6 : tie.Need-returns-6
 unfolding sighted
-returns-6 c = rw (sighted, ne-eqb _ _ (c .before .before .before .before .if1 .left), ne-eqb _ _ (c .before .before .before .if2 .left), ne-eqb _ _ (c .before .before .if3 .left), ne-eqb _ _ (c .before .if4 .left), ne-eqb _ _ (c .if5 .left))
+returns-6 c =
+    let at-if4 = c .before in
+    let at-if3 = at-if4 .before in
+    let at-if2 = at-if3 .before in
+    let at-if1 = at-if2 .before in
+    rw (
+      sighted,
+      ne-eqb _ _ (at-if1 .if1 .left),
+      ne-eqb _ _ (at-if2 .if2 .left),
+      ne-eqb _ _ (at-if3 .if3 .left),
+      ne-eqb _ _ (at-if4 .if4 .left),
+      ne-eqb _ _ (c .if5 .left),
+    )
 
 pub operator-at-spec : {M : Type 1} → statement M
 operator-at-spec =
