@@ -1,11 +1,11 @@
 pub mod Bytes
 pub mod Falls
-pub mod Mixing
 pub mod Moves
 pub mod Outcomes
 pub mod Runs
 pub mod Splits
 pub mod States
+pub mod Steps
 pub mod Tables
 pub mod Walk
 pub mod Rooms

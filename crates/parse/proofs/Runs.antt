@@ -5,11 +5,12 @@ use mathlib.Core.List.{List}
 use Prim.Native.Nat.{ℕ, zero, suc, _+_, _<_}
 use native.Mathlib.Nat.{zero-add, suc-add, not-suc-le-zero}
 use native.Mathlib.Omega.{arith}
-use Rattle.tape.specs.Tape.{Tape}
+use lib.ListN.{replicate}
+use Rattle.tape.specs.Tape.{Tape, view}
 use Rattle.parse.specs.declared.machine.Machine.{Machine}
 use Rattle.parse.specs.declared.machine.Refusal.{Refusal}
 use Rattle.parse.specs.Machine.{After, next, done, refused}
-use Rattle.parse.specs.Parse.{turn, run, enough}
+use Rattle.parse.specs.Parse.{turn, run, has-bom, start, enough}
 use Rattle.parse.proofs.Falls.{All, left, rank-few, turn-falls}
 
 -- what has ended stays as it is
@@ -44,7 +45,8 @@ module _ (text : List ℕ) (bound : ℕ) where
   each n k (refused r) f h = run-refused text n r ∙ sym (run-refused text k r)
 
 -- with more turns than are left, how many more does not matter
-pub run-enough : (text : List ℕ) (n k : ℕ) (m : Machine) (t : Tape) → left text (m .at) (m .state) < n → left text (m .at) (m .state) < k → run text n (next m t) ≡ run text k (next m t)
+pub run-enough : (text : List ℕ) (n k : ℕ) (m : Machine) (t : Tape) → left text (m .at) (m .state) < n → left text (m .at) (m .state) < k
+    → run text n (next m t) ≡ run text k (next m t)
 run-enough text zero k m t h g = absurd (not-suc-le-zero h)
 run-enough text (suc n) zero m t h g = absurd (not-suc-le-zero g)
 run-enough text (suc n) (suc k) m t h g =
@@ -57,7 +59,8 @@ run-enough text (suc n) (suc k) m t h g =
 abbrev pub Ended : After → Type 0
 Ended x = All (λ m. ⊥) x
 
-ends-each : (text : List ℕ) (bound n : ℕ) (x : After) → ((m : Machine) (t : Tape) → left text (m .at) (m .state) < bound → Ended (run text n (next m t)))
+ends-each : (text : List ℕ) (bound n : ℕ) (x : After)
+    → ((m : Machine) (t : Tape) → left text (m .at) (m .state) < bound → Ended (run text n (next m t)))
     → All (λ m′. left text (m′ .at) (m′ .state) < bound) x → Ended (run text n x)
 ends-each text bound n (next m t) f h = f m t h
 ends-each text bound n (done c t) f h = rw (run-done text n c t) tt
@@ -73,3 +76,7 @@ run-ends text (suc n) m t h =
 -- a text's turns are enough from any place
 pub within-enough : (text : List ℕ) (m : Machine) → left text (m .at) (m .state) < enough text
 within-enough text m = omega (arith, rank-few (m .state))
+
+-- the run that a parse makes has ended, so that `answer` never meets a machine that goes on
+pub parse-ends : (text : List ℕ) (len : ℕ) → Ended (run text (enough text) (next (start (has-bom text)) (view (replicate len 0) 0)))
+parse-ends text len = run-ends text (enough text) (start (has-bom text)) (view (replicate len 0) 0) (within-enough text (start (has-bom text)))

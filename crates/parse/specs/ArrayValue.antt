@@ -37,7 +37,7 @@ value-byte b =
       ]
     ]
 
--- `}`: close, own kind, flag = mixed
+-- `}`: close, own kind, flag = mixed; 3 StackEmpty with nothing open, at it
 unfoldable pub array-close : Tape → Machine → After
 array-close t m =
     elim (nothing-open (m .parent) (parent-of (container-at t (m .parent)))) [
@@ -45,7 +45,7 @@ array-close t m =
       | false ↦ close (own-kind (container-at t (m .parent))) (parent-of (container-at t (m .parent))) t m
     ]
 
--- mixed: an operator is added; else 8
+-- Mixed: `<=` `<` `>=` `>` `!=` `==` `=` add an operator (`=` adds Equal); else 8, at it, minus 1
 unfoldable pub operator-then : List ℕ → Tape → Machine → After
 operator-then text t m =
     elim (sighted (byte-at text (m .at)) (byte-at text (m .at + 1))) [
@@ -53,7 +53,7 @@ operator-then text t m =
       | Sighted.the-variants.Nothing ↦ refused (UnknownOperator (m .at - 1))
     ]
 
--- last token End and byte `=`, skip it; else 7
+-- last token End and byte `=`, skip it; else 7, at it, minus 1
 unfoldable pub after-end : List ℕ → Tape → Machine → After
 after-end text t m =
     elim (eqb (byte-at text (m .at)) equals) [
@@ -61,7 +61,7 @@ after-end text t m =
       | false ↦ refused (NothingPrecedes (m .at - 1))
     ]
 
--- unmixed: what the last token is decides
+-- unmixed: last token scalar, MixedContainer goes in before it, mixed on; last token End and byte `=`, skip it; else 7, at it, minus 1
 unfoldable pub unmixed-operator : List ℕ → Tape → Machine → After
 unmixed-operator text t m =
     elim (standing-of (token-at t (m .count - 1))) [
@@ -71,10 +71,11 @@ unmixed-operator text t m =
       | Standing.the-variants.Nothing ↦ refused (NothingPrecedes (m .at - 1))
     ]
 
--- `<` `>` `!` `=`
+-- `<` `>` `!` `=`, mixed and unmixed
 unfoldable pub array-operator : List ℕ → Tape → Machine → After
 array-operator text t m = elim (m .mixed) [ true ↦ operator-then text t m | false ↦ unmixed-operator text t m ]
 
+-- what the byte says: `{` as ObjectValue, `}`, an operator byte, or a scalar
 unfoldable pub array-value-turn : List ℕ → Tape → Machine → After
 array-value-turn text t m =
     elim (value-byte (byte-at text (m .at))) [

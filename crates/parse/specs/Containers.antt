@@ -14,7 +14,7 @@ use Rattle.parse.specs.declared.machine.Machine.{Machine}
 use Rattle.parse.specs.declared.machine.Refusal.the-variants.{Eof}
 use Rattle.parse.specs.Machine.{After, next, done, refused, or-full, lay-then}
 
--- `{` where a value is due: an Array is added, ParseOpen
+-- `{` where a value is due: Array added, ParseOpen
 unfoldable pub open-then : Tape → Machine → After
 open-then t m = lay-then (opener-of Array 0 false) (m .at + 1) ParseOpen t m
 
@@ -22,7 +22,7 @@ open-then t m = lay-then (opener-of Array 0 false) (m .at + 1) ParseOpen t m
 abbrev pub container-at : Tape → ℕ → Container
 container-at t i = container-of (token-at t i)
 
--- an open container's a word holds its parent's index, 0 at top
+-- An open container's a word holds its parent's index, 0 at top
 abbrev pub parent-of : Container → ℕ
 parent-of (Opened kind link mixed) = link
 parent-of Nothing = 0
@@ -60,11 +60,11 @@ close-at i kind mixed t m go = or-full (lay (replace t i (opener-of kind (m .cou
 unfoldable pub close : ContainerKind → ℕ → Tape → Machine → After
 close kind grand t m = close-at (m .parent) kind (m .mixed) t m (λ n t′. next (resumed (container-at t grand) grand (m .at + 1) n) t′)
 
--- whether no container is open, by the parent and the parent's own
+-- nothing open, by the parent and the parent's own
 abbrev pub nothing-open : ℕ → ℕ → Bool
 nothing-open parent grand = eqb parent 0 && eqb grand 0
 
--- the text's end in Key: with no parent, done; with a parent at top level, End is added, it is an unmixed Object, done; deeper, Eof
+-- Text end in Key: with no parent, done; with a parent at top level, End is added, it is an unmixed Object, done; deeper, Eof (2)
 unfoldable pub key-end : Tape → Machine → After
 key-end t m =
     elim (eqb (m .parent) 0) [
@@ -82,6 +82,6 @@ is-key ObjectValue = false
 is-key ParseOpen = false
 is-key ArrayValue = false
 
--- the text's end: Eof unless Key
+-- Text end there: Eof (2) unless Key
 unfoldable pub text-end : Tape → Machine → After
 text-end t m = elim (is-key (m .state)) [ true ↦ key-end t m | false ↦ refused Eof ]

@@ -43,11 +43,11 @@ key-close t m =
       | false ↦ close Object (parent-of (container-at t (m .parent))) t m
     ]
 
--- the last token becomes Header, an Array is added, ParseOpen
+-- last token Unquoted becomes Header, an Array is added, ParseOpen
 unfoldable pub open-header : ℕ → Tape → Machine → After
 open-header at t m = lay-then (opener-of Array 0 false) at ParseOpen (replace t (m .count - 1) (headed (token-at t (m .count - 1)))) m
 
--- last token Unquoted becomes Header; else 4
+-- last token Unquoted becomes Header, an Array is added, ParseOpen; else 4, after `{` and blanks
 unfoldable pub key-header : ℕ → Tape → Machine → After
 key-header at t m =
     elim (standing-of (token-at t (m .count - 1))) [
@@ -57,7 +57,7 @@ key-header at t m =
       | Standing.the-variants.Nothing ↦ refused (NoHeader at)
     ]
 
--- `{`: if `}` follows after blanks, drop both; else a header
+-- `{`: if `}` follows after blanks, drop both; else a header or 4. A blank skip that meets the end is Eof (2)
 unfoldable pub key-brace : List ℕ → Tape → Machine → After
 key-brace text t m =
     elim (skip-ws text (m .at + 1)) [

@@ -18,11 +18,11 @@ use Rattle.parse.specs.Machine.{After, next, byte-at, to, or-full, lay-t
 abbrev pub mixed-on : Machine → ℕ → Machine
 mixed-on m count = record { at = m .at; state = ArrayValue; parent = m .parent; mixed = true; count = count }
 
--- MixedContainer goes in before the last token, mixed on
+-- MixedContainer goes in before the last token, mixed on, ArrayValue, not consumed
 unfoldable pub mix-then : Tape → Machine → (Tape → Machine → After) → After
 mix-then t m go = or-full (lay-mixed t (m .count)) (λ n t′. go t′ (mixed-on m n))
 
--- an operator is added, `=` adds none; then ObjectValue
+-- `<=` `<` `>=` `>` `!=` `?=` `==` add an operator; `=` adds none; then ObjectValue
 unfoldable pub separator-then : Operator → ℕ → Tape → Machine → After
 separator-then operator width t m =
     elim (is-equal operator) [
@@ -30,6 +30,7 @@ separator-then operator width t m =
       | false ↦ lay-then (operator-of (number-of operator)) (m .at + width) ObjectValue t m
     ]
 
+-- an operator; `{`: ObjectValue, not consumed; else MixedContainer goes in before the key
 unfoldable pub separator-turn : List ℕ → Tape → Machine → After
 separator-turn text t m =
     elim (sighted (byte-at text (m .at)) (byte-at text (m .at + 1))) [

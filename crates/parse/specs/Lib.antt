@@ -7,6 +7,8 @@ pub mod Key
 pub mod KeyValueSeparator
 pub mod ObjectValue
 pub mod ParseOpen
+pub mod Step
 pub mod ArrayValue
 pub mod Parse
+pub mod Here
 pub mod Told

@@ -41,7 +41,7 @@ to m at state count = record { at = at; state = state; parent = m .parent; mixed
 abbrev pub within : Machine → ℕ → Machine
 within m parent = record { at = m .at; state = m .state; parent = parent; mixed = m .mixed; count = m .count }
 
--- a laid token's count and tape, or the refusal for room
+-- a laid token's count and tape; 11 Full: a token needs room and there is none
 abbrev pub or-full : Laying → (ℕ → Tape → After) → After
 or-full (laid n t) go = go n t
 or-full full go = refused Full

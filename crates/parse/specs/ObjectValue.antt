@@ -12,6 +12,7 @@ use Rattle.parse.specs.Machine.{After, refused, byte-at}
 use Rattle.parse.specs.Scalars.{scalar-then}
 use Rattle.parse.specs.Containers.{open-then}
 
+-- `{`: Array added, ParseOpen. `}`: 5, at it. Else a scalar, then Key
 unfoldable pub object-value-turn : List ℕ → Tape → Machine → After
 object-value-turn text t m =
     elim (eqb (byte-at text (m .at)) brace-open) [

@@ -19,13 +19,13 @@ use Rattle.parse.specs.declared.machine.Machine.{Machine}
 use Rattle.parse.specs.declared.machine.Refusal.the-variants.{Eof, NoParameter, OpenName}
 use Rattle.parse.specs.Machine.{After, refused, and-then, byte-at, within, lay-then}
 
--- an Object opens, and the run from start to end is its first key
+-- Else an Object opens, the run from start to end is its first key, KeyValueSeparator
 unfoldable pub parameter-object : ℕ → ℕ → ℕ → Tape → Machine → After
 parameter-object start end rest t m =
     and-then (lay-then (opener-of Object (m .parent) false) rest KeyValueSeparator t m)
     (λ t′ m′. lay-then (scalar-of Unquoted start (end - start)) rest KeyValueSeparator t′ (within m′ (m .count)))
 
--- what follows the run from start to end, at a place after blanks
+-- If `]` comes, at a place after blanks: the run from start to end is Unquoted, Key. Else an Object opens
 unfoldable pub value-or-object : List ℕ → ℕ → ℕ → ℕ → Tape → Machine → After
 value-or-object text start end rest t m =
     elim (eqb (byte-at text rest) bracket-close) [
@@ -33,7 +33,7 @@ value-or-object text start end rest t m =
       | false ↦ parameter-object start end rest t m
     ]
 
--- blanks, a run, blanks
+-- blanks; a run; blanks. A blank skip that meets the end is Eof (2)
 unfoldable pub parameter-value : List ℕ → Tape → Machine → After
 parameter-value text t m =
     elim (skip-ws text (m .at)) [
@@ -44,7 +44,7 @@ parameter-value text t m =
       | End ↦ refused Eof
     ]
 
--- the name from start to end, then `]`
+-- the name from start to end; then `]` or 10, after the name; token
 unfoldable pub parameter-named : List ℕ → ScalarKind → ℕ → ℕ → Tape → Machine → After
 parameter-named text kind start end t m =
     elim (eqb (byte-at text end) bracket-close) [
@@ -52,7 +52,7 @@ parameter-named text kind start end t m =
       | false ↦ refused (OpenName end)
     ]
 
--- a run as name
+-- end is Eof (2); a run as name
 unfoldable pub parameter-name : List ℕ → ScalarKind → ℕ → Tape → Machine → After
 parameter-name text kind start t m =
     elim (ltb start (length text)) [
@@ -60,7 +60,7 @@ parameter-name text kind start t m =
       | false ↦ refused Eof
     ]
 
--- `[[` or `[[!`
+-- `[[` or `[[!`; 9: `[` not followed by `[`, at it
 unfoldable pub parameter : List ℕ → Tape → Machine → After
 parameter text t m =
     elim (eqb (byte-at text (m .at + 1)) bracket-open) [

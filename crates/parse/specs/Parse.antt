@@ -12,6 +12,8 @@ use Rattle.parse.specs.declared.machine.State.the-variants.{Key, KeyValu
 use Rattle.parse.specs.declared.machine.Machine.{Machine}
 use Rattle.parse.specs.declared.machine.Refusal.{Refusal}
 use Rattle.parse.specs.declared.machine.Refusal.the-variants.{TooLong, Eof}
+use Rattle.parse.specs.declared.Ending.{Ending}
+use Rattle.parse.specs.declared.Ending.the-variants as Ended
 use Rattle.parse.specs.declared.Parsed.{Parsed}
 use Rattle.parse.specs.declared.Parsed.the-variants.{Tokens, Refused}
 use Rattle.parse.specs.Machine.{After, next, done, refused, byte-at, to}
@@ -33,7 +35,7 @@ state-turn text t m =
       | ArrayValue ↦ array-value-turn text t m
     ]
 
--- Every turn skips blanks
+-- Every turn skips blanks. Text end there: Eof (2) unless Key
 unfoldable pub turn : List ℕ → Tape → Machine → After
 turn text t m =
     elim (skip-ws text (m .at)) [
@@ -47,6 +49,11 @@ run text zero x = x
 run text (suc n) (next m t) = run text n (turn text t m)
 run text (suc n) (done k t) = done k t
 run text (suc n) (refused r) = refused r
+
+-- what the end of a run says together with the words that it leaves
+abbrev pub ending : Ending → List ℕ → After
+ending (Ended.Done n) ws = done n (view ws n)
+ending (Ended.Refused r) ws = refused r
 
 -- a BOM: ef bb bf
 abbrev pub bom-first : ℕ
@@ -77,7 +84,7 @@ start bom = record { at = first-place bom; state = Key; parent = 0; mixed = fals
 abbrev pub enough : List ℕ → ℕ
 enough text = 2 * length text + 2
 
--- a text of more bytes than this is too long
+-- 1 TooLong: text over 16,777,215 bytes
 abbrev pub text-limit : ℕ
 text-limit = 16777215
 
@@ -85,17 +92,19 @@ text-limit = 16777215
 pub data Outcome : Type 0 where
   outcome : Parsed → List ℕ → Outcome
 
--- a refusal leaves the whole tape zero
+-- A parse refusal zeroes the whole tape and reports no BOM
 abbrev pub refuse : ℕ → Refusal → Outcome
 refuse len r = outcome (Refused r) (replicate len 0)
 
--- a finished run leaves its tokens, with zeros behind them. No run is unfinished after enough turns.
+-- After success all words past the tokens are 0. An unfinished run answers Eof only because none is unfinished: `parse-ends` of
+-- crates/parse/proofs/Runs.antt
 abbrev pub answer : Bool → ℕ → After → Outcome
 answer bom len (next m t) = refuse len Eof
 answer bom len (done n t) = outcome (Tokens n bom) (padded len (t .tokens))
 answer bom len (refused r) = refuse len r
 
--- the parse of a text on a tape of so many words: there is room for as many tokens as its length divided by 3, rounded down
+-- the parse of a text on a tape of so many words: there is room for as many tokens as its length divided by 3, rounded down; 1 TooLong
+-- is tested first
 unfoldable pub parse-of : List ℕ → ℕ → Outcome
 parse-of text len =
     elim (ltb text-limit (length text)) [

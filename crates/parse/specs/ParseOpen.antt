@@ -13,16 +13,14 @@ use Rattle.tape.specs.declared.token.ContainerKind.{ContainerKind}
 use Rattle.tape.specs.declared.token.ContainerKind.the-variants.{Array, Object}
 use Rattle.tape.specs.declared.token.Container.the-variants.{Opened, Nothing}
 use Rattle.tape.specs.Token.{opener-of}
-use Rattle.tape.specs.Tape.{Tape, view, replace}
+use Rattle.tape.specs.Tape.{Tape, replace}
 use Rattle.parse.specs.declared.machine.State.{State}
-use Rattle.parse.specs.declared.machine.State.the-variants.{Key, KeyValueSeparator, ObjectValue, ParseOpen, ArrayValue}
+use Rattle.parse.specs.declared.machine.State.the-variants.{KeyValueSeparator, ParseOpen, ArrayValue}
 use Rattle.parse.specs.declared.machine.Machine.{Machine}
-use Rattle.parse.specs.declared.machine.Step.{Step}
-use Rattle.parse.specs.declared.machine.Step.the-variants.{Turned, Scalar}
 use Rattle.parse.specs.declared.machine.Refusal.the-variants.{Eof, MixedParameter}
 use Rattle.parse.specs.declared.parse_open.OpenByte.{OpenByte}
 use Rattle.parse.specs.declared.parse_open.OpenByte.the-variants.{Closer, Bracket, Brace, Other}
-use Rattle.parse.specs.Machine.{After, after, next, refused, and-then, byte-at, to, within}
+use Rattle.parse.specs.Machine.{After, next, refused, and-then, byte-at, to, within}
 use Rattle.parse.specs.Scalars.{scalar-then}
 use Rattle.parse.specs.Containers.{container-at, resumed, close-at}
 use Rattle.parse.specs.Parameter.{parameter}
@@ -49,7 +47,7 @@ unfoldable pub open-empty : Tape → Machine → After
 open-empty t m =
     close-at (m .count - 1) Array false t m (λ n t′. next (resumed (container-at t (m .parent)) (m .parent) (m .at + 1) n) t′)
 
--- the opener becomes an Object and a parameter follows
+-- `[`: 6 if mixed, at it; else the opener becomes an Object and a parameter follows
 unfoldable pub open-parameter : List ℕ → Tape → Machine → After
 open-parameter text t m =
     elim (m .mixed) [
@@ -57,7 +55,8 @@ open-parameter text t m =
       | false ↦ parameter text (replace t (m .count - 1) (opener-of Object (m .parent) false)) (within m (m .count - 1))
     ]
 
--- `{`: if empty, drop both and stay; else mixed off, opener is an Array, ArrayValue, not consumed
+-- `{`: if empty, drop both and stay; else mixed off, opener is an Array, ArrayValue, not consumed. A blank skip that meets the end is
+-- Eof (2)
 unfoldable pub open-brace : List ℕ → Tape → Machine → After
 open-brace text t m =
     elim (skip-ws text (m .at + 1)) [
@@ -83,7 +82,7 @@ flag-parent t m =
 unfoldable pub follows-key : ℕ → Bool
 follows-key b = among b (equals ∷ greater-than ∷ less-than ∷ question ∷ exclamation ∷ [])
 
--- skip blanks; next byte `=` `>` `<` `?` `!`: Object and KeyValueSeparator, else Array and ArrayValue
+-- mixed off; skip blanks (the end is Eof, 2); next byte `=` `>` `<` `?` `!`: Object and KeyValueSeparator, else Array and ArrayValue
 unfoldable pub open-as : List ℕ → Tape → Machine → After
 open-as text t m =
     elim (skip-ws text (m .at)) [
@@ -94,32 +93,11 @@ open-as text t m =
       | End ↦ refused Eof
     ]
 
--- a scalar; if mixed, the parent's stored flag is set; then what the next byte says
+-- Else a scalar; if mixed, the parent's stored flag is set; then what the next byte says
 unfoldable pub open-scalar : List ℕ → Tape → Machine → After
 open-scalar text t m = and-then (scalar-then text ParseOpen t m) (λ t′ m′. open-as text (flag-parent t′ m′) m′)
 
--- ---- a step of any state: a whole turn, or that a scalar is due and the state after it
-abbrev pub is-parse-open : State → Bool
-is-parse-open Key = false
-is-parse-open KeyValueSeparator = false
-is-parse-open ObjectValue = false
-is-parse-open ParseOpen = true
-is-parse-open ArrayValue = false
-
--- the scalar that is due, and in ParseOpen what the next byte says
-unfoldable pub entry : List ℕ → State → Tape → Machine → After
-entry text state t m =
-    elim (is-parse-open state) [
-      | true ↦ and-then (scalar-then text state t m) (λ t′ m′. open-as text (flag-parent t′ m′) m′)
-      | false ↦ scalar-then text state t m
-    ]
-
--- what a step says together with the words that it leaves
-abbrev pub stepped : List ℕ → Step → List ℕ → Machine → After
-stepped text (Turned r) ws m = after r ws
-stepped text (Scalar state) ws m = entry text state (view ws (m .count)) m
-
--- ---- the turn
+-- what the byte says: `}`, `[`, `{`, or a scalar
 unfoldable pub parse-open-turn : List ℕ → Tape → Machine → After
 parse-open-turn text t m =
     elim (open-byte (byte-at text (m .at))) [

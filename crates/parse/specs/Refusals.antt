@@ -1,9 +1,10 @@
 -- The refusals of a parse: document 01's number and place for each.
 use Prim.Native.Nat.{ℕ}
 use Rattle.parse.specs.declared.machine.Refusal.{Refusal}
-use Rattle.parse.specs.declared.machine.Refusal.the-variants.{TooLong, Eof, StackEmpty, NoHeader, NoValue, MixedParameter, NothingPrecedes, UnknownOperator, NoParameter, OpenName, Full}
+use Rattle.parse.specs.declared.machine.Refusal.the-variants.{TooLong, Eof, StackEmpty, NoHeader, NoValue, MixedParameter}
+use Rattle.parse.specs.declared.machine.Refusal.the-variants.{NothingPrecedes, UnknownOperator, NoParameter, OpenName, Full}
 
--- document 01's number for each refusal
+-- document 01's number for each refusal: its table, 'Refusal numbers and what stays behind'
 abbrev pub number : Refusal → ℕ
 number TooLong = 1
 number Eof = 2

@@ -10,9 +10,17 @@ use Rattle.tape.specs.Tape.{Tape}
 use Rattle.parse.specs.declared.machine.State.{State}
 use Rattle.parse.specs.declared.machine.Machine.{Machine}
 use Rattle.parse.specs.declared.machine.Refusal.the-variants.{Eof}
+use Rattle.parse.specs.declared.scalars.Scalar.{Scalar}
+use Rattle.parse.specs.declared.scalars.Scalar.the-variants as Found
 use Rattle.parse.specs.Machine.{After, refused, lay-then}
 
--- a cut scalar is added; one that the text ends in is Eof
+-- what a cut finds, as a token and the place after it
+abbrev pub scalar-found : Cut → Scalar
+scalar-found (Unquoted start end rest) = Found.Cut (scalar-of ScalarKind.the-variants.Unquoted start (end - start)) rest
+scalar-found (Quoted start end rest) = Found.Cut (scalar-of ScalarKind.the-variants.Quoted start (end - start)) rest
+scalar-found End = Found.End
+
+-- a cut scalar is added; one that the text ends in is Eof (2)
 abbrev pub cut-then : Cut → State → Tape → Machine → After
 cut-then (Unquoted start end rest) state t m = lay-then (scalar-of ScalarKind.the-variants.Unquoted start (end - start)) rest state t m
 cut-then (Quoted start end rest) state t m = lay-then (scalar-of ScalarKind.the-variants.Quoted start (end - start)) rest state t m

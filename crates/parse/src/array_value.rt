@@ -8,26 +8,28 @@ use crate::containers::parent_of;
 use crate::machine::Machine;
 use crate::machine::Refusal;
 use crate::machine::State;
-use crate::machine::Step;
 use crate::machine::Turn;
 use crate::machine::byte_at;
 use crate::machine::lay;
 use crate::machine::less;
-use crate::separator::mix;
+use crate::separator::mixed_on;
+use crate::step::Step;
 use operator::Sighted;
 use tape::token;
 use tape::token::Standing;
 use tape::words;
+use tape::words::Pushed;
 ghost use mathlib.Core.Path.{_≡_};
-ghost use Prim.Native.Nat.{ℕ, _-_, _≤_, _<_};
+ghost use Prim.Native.Nat.{ℕ, _-_, _<_};
 ghost use mathlib.Core.List.{List};
-ghost use lib.ListN.{length};
 ghost use Rattle.tape.specs.Tape.{view};
 ghost use Rattle.parse.specs.Machine.{after};
 ghost use Rattle.parse.specs.KeyValueSeparator.{mix-then};
-ghost use Rattle.parse.specs.ArrayValue.{begins-operator, value-byte, array-close, operator-then, after-end, unmixed-operator, array-operator, array-value-turn};
-ghost use Rattle.parse.specs.ParseOpen.{stepped};
+ghost use Rattle.parse.specs.ArrayValue.{begins-operator, value-byte, array-close, operator-then, after-end, unmixed-operator};
+ghost use Rattle.parse.specs.ArrayValue.{array-operator, array-value-turn};
+ghost use Rattle.parse.specs.Step.{stepped};
 ghost use Rattle.parse.specs.Parse.{text-limit};
+ghost use Rattle.parse.specs.Here.{Here};
 
 // What a byte is in ArrayValue.
 pub enum ValueByte {
@@ -94,7 +96,7 @@ fn before(at: usize) -> usize
 
 // An operator among the values of a mixed container.
 fn operator_then(text: &[u8], tape: &mut [u32], m: Machine) -> Turn
-    requires { ⌜ (length (now text) ≤ text-limit) × (m .at < length (now text)) ⌝ }
+    requires { ⌜ Here (now text) m ⌝ }
     ensures { λ r. ⌜ after r (now (tape .exit)) ≡ operator-then (now (text .entry)) (view (now (tape .entry)) (m .count)) m ⌝ }
 {
     let at = m.at;
@@ -114,7 +116,7 @@ fn operator_then(text: &[u8], tape: &mut [u32], m: Machine) -> Turn
 
 // An operator byte after a container: `=` belongs to an object template and is skipped.
 fn after_end(text: &[u8], m: Machine) -> Turn
-    requires { ⌜ (length (now text) ≤ text-limit) × (m .at < length (now text)) ⌝ }
+    requires { ⌜ Here (now text) m ⌝ }
     ensures { λ r. ⌜ ((ws : List ℕ) → after r ws ≡ after-end (now (text .entry)) (view ws (m .count)) m) ⌝ }
 {
     if byte_at(text, m.at) == b'=' {
@@ -125,7 +127,7 @@ fn after_end(text: &[u8], m: Machine) -> Turn
 
 // An operator byte in a container that is not mixed: the last token decides.
 fn unmixed_operator(text: &[u8], tape: &mut [u32], m: Machine) -> Turn
-    requires { ⌜ (length (now text) ≤ text-limit) × (m .at < length (now text)) ⌝ }
+    requires { ⌜ Here (now text) m ⌝ }
     ensures { λ r. ⌜ after r (now (tape .exit)) ≡ unmixed-operator (now (text .entry)) (view (now (tape .entry)) (m .count)) m ⌝ }
 {
     let last = words::token(tape, m.count, less(m.count, 1));
@@ -139,19 +141,18 @@ fn unmixed_operator(text: &[u8], tape: &mut [u32], m: Machine) -> Turn
 
 // An operator byte that makes the container mixed.
 fn mixed_operator(text: &[u8], tape: &mut [u32], m: Machine) -> Turn
-    requires { ⌜ (length (now text) ≤ text-limit) × (m .at < length (now text)) ⌝ }
+    requires { ⌜ Here (now text) m ⌝ }
     ensures { λ r. ⌜ after r (now (tape .exit)) ≡ mix-then (view (now (tape .entry)) (m .count)) m (operator-then (now (text .entry))) ⌝ }
 {
-    match mix(tape, m) {
-        Turn::Next(inside) => operator_then(text, tape, inside),
-        Turn::Done(count) => Turn::Done(count),
-        Turn::Refused(refusal) => Turn::Refused(refusal),
+    match words::insert_mixed(tape, m.count) {
+        Pushed::Laid(count) => operator_then(text, tape, mixed_on(m, count)),
+        Pushed::Full => Turn::Refused(Refusal::Full),
     }
 }
 
 // `<` `>` `!` `=` in ArrayValue.
 fn array_operator(text: &[u8], tape: &mut [u32], m: Machine) -> Turn
-    requires { ⌜ (length (now text) ≤ text-limit) × (m .at < length (now text)) ⌝ }
+    requires { ⌜ Here (now text) m ⌝ }
     ensures { λ r. ⌜ after r (now (tape .exit)) ≡ array-operator (now (text .entry)) (view (now (tape .entry)) (m .count)) m ⌝ }
 {
     let mixed = m.mixed;
@@ -163,8 +164,9 @@ fn array_operator(text: &[u8], tape: &mut [u32], m: Machine) -> Turn
 
 // A turn in ArrayValue, at a byte that is no blank.
 pub(crate) fn array_value_turn(text: &[u8], tape: &mut [u32], m: Machine) -> Step
-    requires { ⌜ (length (now text) ≤ text-limit) × (m .at < length (now text)) ⌝ }
-    ensures { λ r. ⌜ stepped (now (text .entry)) r (now (tape .exit)) m ≡ array-value-turn (now (text .entry)) (view (now (tape .entry)) (m .count)) m ⌝ }
+    requires { ⌜ Here (now text) m ⌝ }
+    ensures { λ r. ⌜ stepped (now (text .entry)) r (now (tape .exit)) m
+        ≡ array-value-turn (now (text .entry)) (view (now (tape .entry)) (m .count)) m ⌝ }
 {
     match value_byte(byte_at(text, m.at)) {
         ValueByte::Brace => Step::Turned(open_then(tape, m)),

@@ -14,7 +14,8 @@ ghost use Prim.Native.Nat.{_<_};
 ghost use Rattle.tape.specs.Token.{opener-of, end-of};
 ghost use Rattle.tape.specs.Tape.{view, replace, lay, after-push};
 ghost use Rattle.parse.specs.Machine.{after};
-ghost use Rattle.parse.specs.Containers.{open-then, container-at, parent-of, own-kind, state-in-object, state-in, mixed-in, resumed, close, nothing-open, key-end, is-key, text-end};
+ghost use Rattle.parse.specs.Containers.{open-then, container-at, parent-of, own-kind, state-in-object, state-in, mixed-in, resumed};
+ghost use Rattle.parse.specs.Containers.{close, nothing-open, key-end, is-key, text-end};
 ghost use Rattle.parse.specs.Parse.{text-limit};
 
 // `{` where a value is due: adds an Array, whose kind is settled in ParseOpen.

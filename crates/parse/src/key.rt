@@ -6,26 +6,25 @@ use crate::containers::parent_of;
 use crate::machine::Machine;
 use crate::machine::Refusal;
 use crate::machine::State;
-use crate::machine::Step;
 use crate::machine::Turn;
 use crate::machine::byte_at;
 use crate::machine::lay;
 use crate::machine::less;
 use crate::parameter::parameter;
+use crate::step::Step;
 use cut::Skipped;
 use tape::token;
 use tape::token::ContainerKind;
 use tape::token::Standing;
 use tape::words;
 ghost use mathlib.Core.Path.{_≡_};
-ghost use Prim.Native.Nat.{_≤_, _<_};
-ghost use lib.ListN.{length};
-ghost use Rattle.data.specs.Classes.{classes};
+ghost use Prim.Native.Nat.{_<_};
 ghost use Rattle.tape.specs.Tape.{view};
 ghost use Rattle.parse.specs.Machine.{after};
 ghost use Rattle.parse.specs.Key.{key-byte, key-close, open-header, key-header, key-brace, key-turn};
-ghost use Rattle.parse.specs.ParseOpen.{stepped};
+ghost use Rattle.parse.specs.Step.{stepped};
 ghost use Rattle.parse.specs.Parse.{text-limit};
+ghost use Rattle.parse.specs.Here.{Here, LentHere};
 
 // What a byte is in Key.
 pub enum KeyByte {
@@ -97,7 +96,7 @@ fn key_header(tape: &mut [u32], m: Machine, at: usize) -> Turn
 
 // `{`: an empty pair of braces is dropped, else it is a Header's container.
 fn key_brace(text: &[u8], tape: &mut [u32], m: Machine) -> Turn
-    requires { ⌜ (length (now text) ≤ text-limit) × (m .at < length (now text)) ⌝ }
+    requires { ⌜ Here (now text) m ⌝ }
     ensures { λ r. ⌜ after r (now (tape .exit)) ≡ key-brace (now (text .entry)) (view (now (tape .entry)) (m .count)) m ⌝ }
 {
     let Skipped::At(p) = cut::skip_ws_t(text, m.at + 1) else {
@@ -116,7 +115,7 @@ pub(crate) fn key_turn(
     tape: &mut [u32],
     m: Machine,
 ) -> Step
-    requires { ⌜ (length (now text) ≤ text-limit) × (now table ≡ classes) × (m .at < length (now text)) ⌝ }
+    requires { ⌜ LentHere (now text) (now table) m ⌝ }
     ensures { λ r. ⌜ stepped (now (text .entry)) r (now (tape .exit)) m ≡ key-turn (now (text .entry)) (view (now (tape .entry)) (m .count)) m ⌝ }
 {
     match key_byte(byte_at(text, m.at)) {

@@ -2,19 +2,19 @@
 use crate::machine::Machine;
 use crate::machine::Refusal;
 use crate::machine::State;
-use crate::machine::Step;
 use crate::machine::Turn;
 use crate::machine::byte_at;
+use crate::step::Step;
 use cut::Skipped;
 use tape::words;
 ghost use mathlib.Core.Path.{_≡_};
-ghost use Prim.Native.Nat.{_≤_, _<_};
+ghost use Prim.Native.Nat.{_≤_};
 ghost use lib.ListN.{length};
-ghost use Rattle.data.specs.Classes.{classes};
 ghost use Rattle.tape.specs.Tape.{view};
 ghost use Rattle.parse.specs.Machine.{after, next};
-ghost use Rattle.parse.specs.ParseOpen.{is-parse-open, entry, stepped};
-ghost use Rattle.parse.specs.Parse.{text-limit, state-turn, turn, run, has-bom, start, enough, outcome, refuse, parse-of};
+ghost use Rattle.parse.specs.Step.{stepped};
+ghost use Rattle.parse.specs.Parse.{text-limit, state-turn, turn, run, ending, has-bom, start, enough, outcome, refuse, parse-of};
+ghost use Rattle.parse.specs.Here.{Lent, LentHere};
 
 mod array_value;
 mod containers;
@@ -25,6 +25,7 @@ mod parameter;
 mod parse_open;
 mod scalars;
 mod separator;
+mod step;
 
 // A text of more bytes than this is too long.
 pub const TEXT_LIMIT: usize = 16777215;
@@ -46,7 +47,7 @@ pub enum Parsed {
 
 // What the machine's state makes of a byte that is no blank.
 fn state_step(text: &[u8], table: &[u8; data::BYTE_COUNT], tape: &mut [u32], m: Machine) -> Step
-    requires { ⌜ (length (now text) ≤ text-limit) × (now table ≡ classes) × (m .at < length (now text)) ⌝ }
+    requires { ⌜ LentHere (now text) (now table) m ⌝ }
     ensures { λ r. ⌜ stepped (now (text .entry)) r (now (tape .exit)) m ≡ state-turn (now (text .entry)) (view (now (tape .entry)) (m .count)) m ⌝ }
 {
     let state = m.state;
@@ -59,51 +60,20 @@ fn state_step(text: &[u8], table: &[u8; data::BYTE_COUNT], tape: &mut [u32], m: 
     }
 }
 
-// Whether a state is ParseOpen.
-fn is_parse_open(state: State) -> bool
-    ensures { λ r. ⌜ r ≡ is-parse-open state ⌝ }
-{
-    match state {
-        State::Key => false,
-        State::KeyValueSeparator => false,
-        State::ObjectValue => false,
-        State::ParseOpen => true,
-        State::ArrayValue => false,
-    }
-}
-
-// Takes the scalar that is due. This is the one place that cuts one, so that the cut is compiled into the loop.
-fn entry(
-    text: &[u8],
-    table: &[u8; data::BYTE_COUNT],
-    tape: &mut [u32],
-    m: Machine,
-    state: State,
-) -> Turn
-    requires { ⌜ (length (now text) ≤ text-limit) × (now table ≡ classes) ⌝ }
-    ensures { λ r. ⌜ after r (now (tape .exit)) ≡ entry (now (text .entry)) state (view (now (tape .entry)) (m .count)) m ⌝ }
-{
-    let laid = scalars::scalar_then(text, table, tape, m, state);
-    if is_parse_open(state) {
-        return parse_open::first_entry(text, tape, laid);
-    }
-    laid
-}
-
 // A turn of the machine's state, at a byte that is no blank.
 fn state_turn(text: &[u8], table: &[u8; data::BYTE_COUNT], tape: &mut [u32], m: Machine) -> Turn
-    requires { ⌜ (length (now text) ≤ text-limit) × (now table ≡ classes) × (m .at < length (now text)) ⌝ }
+    requires { ⌜ LentHere (now text) (now table) m ⌝ }
     ensures { λ r. ⌜ after r (now (tape .exit)) ≡ state-turn (now (text .entry)) (view (now (tape .entry)) (m .count)) m ⌝ }
 {
     match state_step(text, table, tape, m) {
         Step::Turned(turned) => turned,
-        Step::Scalar(state) => entry(text, table, tape, m, state),
+        Step::Scalar(state) => step::entry(text, table, tape, m, state),
     }
 }
 
 // A turn: skips blanks, and then the state decides.
 fn turn(text: &[u8], table: &[u8; data::BYTE_COUNT], tape: &mut [u32], m: Machine) -> Turn
-    requires { ⌜ (length (now text) ≤ text-limit) × (now table ≡ classes) ⌝ }
+    requires { ⌜ Lent (now text) (now table) ⌝ }
     ensures { λ r. ⌜ after r (now (tape .exit)) ≡ turn (now (text .entry)) (view (now (tape .entry)) (m .count)) m ⌝ }
 {
     let state = m.state;
@@ -148,18 +118,25 @@ fn start(bom: bool) -> Machine
     }
 }
 
+// How a run ends: with the count of a finished tape, or with a refusal.
+pub enum Ending {
+    Done(u32),
+    Refused(Refusal),
+}
+
 // Turns until the text is done or refused.
-fn run(text: &[u8], tape: &mut [u32], from: Machine) -> Turn
+fn run(text: &[u8], tape: &mut [u32], from: Machine) -> Ending
     requires { ⌜ length (now text) ≤ text-limit ⌝ }
-    ensures { λ r. ⌜ after r (now (tape .exit)) ≡ run (now (text .entry)) (enough (now (text .entry))) (next from (view (now (tape .entry)) (from .count))) ⌝ }
+    ensures { λ r. ⌜ ending r (now (tape .exit))
+        ≡ run (now (text .entry)) (enough (now (text .entry))) (next from (view (now (tape .entry)) (from .count))) ⌝ }
 {
     let table = data::character_class();
     let mut m = from;
     loop {
         match turn(text, &table, tape, m) {
             Turn::Next(after) => m = after,
-            Turn::Done(count) => return Turn::Done(count),
-            Turn::Refused(refusal) => return Turn::Refused(refusal),
+            Turn::Done(count) => return Ending::Done(count),
+            Turn::Refused(refusal) => return Ending::Refused(refusal),
         }
     }
 }
@@ -182,12 +159,10 @@ pub fn parse(text: &[u8], tape: &mut [u32]) -> Parsed
     }
     let bom = has_bom(text);
     match run(text, tape, start(bom)) {
-        Turn::Done(count) => {
+        Ending::Done(count) => {
             words::clear_from(tape, count);
             Parsed::Tokens { count, bom }
         }
-        Turn::Refused(refusal) => refuse(tape, refusal),
-        // No run is unfinished after all its turns: `run-ends` of proofs/Runs.antt.
-        Turn::Next(_) => refuse(tape, Refusal::Eof),
+        Ending::Refused(refusal) => refuse(tape, refusal),
     }
 }

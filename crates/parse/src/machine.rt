@@ -83,12 +83,6 @@ impl Refusal {
     }
 }
 
-// What a state makes of a byte: a whole turn, or that a scalar is due and the state after it.
-pub enum Step {
-    Turned(Turn),
-    Scalar(State),
-}
-
 // What a turn answers: the machine for the next one, the count of a finished tape, or a refusal.
 pub enum Turn {
     Next(Machine),

@@ -3,21 +3,20 @@ use crate::containers::open_then;
 use crate::machine::Machine;
 use crate::machine::Refusal;
 use crate::machine::State;
-use crate::machine::Step;
 use crate::machine::Turn;
 use crate::machine::byte_at;
+use crate::step::Step;
 ghost use mathlib.Core.Path.{_≡_};
-ghost use Prim.Native.Nat.{_≤_, _<_};
-ghost use lib.ListN.{length};
 ghost use Rattle.tape.specs.Tape.{view};
 ghost use Rattle.parse.specs.ObjectValue.{object-value-turn};
-ghost use Rattle.parse.specs.ParseOpen.{stepped};
-ghost use Rattle.parse.specs.Parse.{text-limit};
+ghost use Rattle.parse.specs.Step.{stepped};
+ghost use Rattle.parse.specs.Here.{Here};
 
 // A turn in ObjectValue, at a byte that is no blank.
 pub(crate) fn object_value_turn(text: &[u8], tape: &mut [u32], m: Machine) -> Step
-    requires { ⌜ (length (now text) ≤ text-limit) × (m .at < length (now text)) ⌝ }
-    ensures { λ r. ⌜ stepped (now (text .entry)) r (now (tape .exit)) m ≡ object-value-turn (now (text .entry)) (view (now (tape .entry)) (m .count)) m ⌝ }
+    requires { ⌜ Here (now text) m ⌝ }
+    ensures { λ r. ⌜ stepped (now (text .entry)) r (now (tape .exit)) m
+        ≡ object-value-turn (now (text .entry)) (view (now (tape .entry)) (m .count)) m ⌝ }
 {
     let b = byte_at(text, m.at);
     if b == b'{' {

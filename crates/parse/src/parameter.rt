@@ -10,36 +10,34 @@ use cut::Skipped;
 use tape::token;
 use tape::token::ContainerKind;
 use tape::token::ScalarKind;
+use tape::words;
+use tape::words::Pushed;
 ghost use mathlib.Core.Path.{_≡_};
-ghost use Prim.Native.Nat.{_+_, _≤_, _<_};
+ghost use Prim.Native.Nat.{_≤_, _<_};
 ghost use lib.ListN.{length};
 ghost use Rattle.data.specs.Classes.{classes};
+ghost use Rattle.cut.specs.Runs.{run-end};
 ghost use Rattle.tape.specs.Tape.{view};
 ghost use Rattle.parse.specs.Machine.{after};
 ghost use Rattle.parse.specs.Parameter.{parameter-object, value-or-object, parameter-value, parameter-named, parameter-name, parameter};
 ghost use Rattle.parse.specs.Parse.{text-limit};
+ghost use Rattle.parse.specs.Here.{Lent, LentHere};
 
 // Opens an Object whose first key is the run from start to end.
 fn parameter_object(tape: &mut [u32], m: Machine, start: usize, end: usize, rest: usize) -> Turn
     requires { ⌜ (start ≤ end) × (end ≤ text-limit) ⌝ }
     ensures { λ r. ⌜ after r (now (tape .exit)) ≡ parameter-object start end rest (view (now (tape .entry)) (m .count)) m ⌝ }
 {
-    match lay(
-        tape,
-        m,
-        token::opener(ContainerKind::Object, m.parent, false),
-        rest,
-        State::KeyValueSeparator,
-    ) {
-        Turn::Next(inside) => lay(
+    let opener = token::opener(ContainerKind::Object, m.parent, false);
+    match words::push(tape, m.count, opener) {
+        Pushed::Laid(count) => lay(
             tape,
-            inside.within(m.count),
+            m.to(rest, State::KeyValueSeparator, count).within(m.count),
             viewed(ScalarKind::Unquoted, start, end),
             rest,
             State::KeyValueSeparator,
         ),
-        Turn::Done(count) => Turn::Done(count),
-        Turn::Refused(refusal) => Turn::Refused(refusal),
+        Pushed::Full => Turn::Refused(Refusal::Full),
     }
 }
 
@@ -67,6 +65,14 @@ fn value_or_object(
     parameter_object(tape, m, start, end, rest)
 }
 
+// The place after the run that starts at a place: the cut is handed the text's later part, and the place is added back.
+fn run_from(text: &[u8], table: &[u8; data::BYTE_COUNT], start: usize) -> usize
+    requires { ⌜ (now table ≡ classes) × (start < length (now text)) ⌝ }
+    ensures { λ r. ⌜ r ≡ run-end (now (text .entry)) start ⌝ }
+{
+    start + cut::split_at_scalar(&text[start..], table)
+}
+
 // The run after a parameter's name: its value, or the first key of its Object.
 fn parameter_value(
     text: &[u8],
@@ -74,13 +80,13 @@ fn parameter_value(
     tape: &mut [u32],
     m: Machine,
 ) -> Turn
-    requires { ⌜ (length (now text) ≤ text-limit) × (now table ≡ classes) ⌝ }
+    requires { ⌜ Lent (now text) (now table) ⌝ }
     ensures { λ r. ⌜ after r (now (tape .exit)) ≡ parameter-value (now (text .entry)) (view (now (tape .entry)) (m .count)) m ⌝ }
 {
     let Skipped::At(start) = cut::skip_ws_t(text, m.at) else {
         return Turn::Refused(Refusal::Eof);
     };
-    let end = cut::run_end(text, start, table);
+    let end = run_from(text, table, start);
     let Skipped::At(rest) = cut::skip_ws_t(text, end) else {
         return Turn::Refused(Refusal::Eof);
     };
@@ -103,10 +109,11 @@ fn parameter_named(
     if byte_at(text, end) != b']' {
         return Turn::Refused(Refusal::OpenName(end));
     }
-    match lay(tape, m, viewed(kind, start, end), end + 1, State::Key) {
-        Turn::Next(past) => parameter_value(text, table, tape, past),
-        Turn::Done(count) => Turn::Done(count),
-        Turn::Refused(refusal) => Turn::Refused(refusal),
+    match words::push(tape, m.count, viewed(kind, start, end)) {
+        Pushed::Laid(count) => {
+            parameter_value(text, table, tape, m.to(end + 1, State::Key, count))
+        }
+        Pushed::Full => Turn::Refused(Refusal::Full),
     }
 }
 
@@ -119,13 +126,13 @@ fn parameter_name(
     kind: ScalarKind,
     start: usize,
 ) -> Turn
-    requires { ⌜ (length (now text) ≤ text-limit) × (now table ≡ classes) ⌝ }
+    requires { ⌜ Lent (now text) (now table) ⌝ }
     ensures { λ r. ⌜ after r (now (tape .exit)) ≡ parameter-name (now (text .entry)) kind start (view (now (tape .entry)) (m .count)) m ⌝ }
 {
     if text.len() <= start {
         return Turn::Refused(Refusal::Eof);
     }
-    let end = cut::run_end(text, start, table);
+    let end = run_from(text, table, start);
     parameter_named(text, table, tape, m, kind, start, end)
 }
 
@@ -136,7 +143,7 @@ pub(crate) fn parameter(
     tape: &mut [u32],
     m: Machine,
 ) -> Turn
-    requires { ⌜ (length (now text) ≤ text-limit) × (now table ≡ classes) × (m .at < length (now text)) ⌝ }
+    requires { ⌜ LentHere (now text) (now table) m ⌝ }
     ensures { λ r. ⌜ after r (now (tape .exit)) ≡ parameter (now (text .entry)) (view (now (tape .entry)) (m .count)) m ⌝ }
 {
     let at = m.at;

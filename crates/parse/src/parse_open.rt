@@ -5,11 +5,11 @@ use crate::containers::resumed;
 use crate::machine::Machine;
 use crate::machine::Refusal;
 use crate::machine::State;
-use crate::machine::Step;
 use crate::machine::Turn;
 use crate::machine::byte_at;
 use crate::machine::less;
 use crate::parameter::parameter;
+use crate::step::Step;
 use cut::Skipped;
 use tape::token;
 use tape::token::Container;
@@ -17,13 +17,13 @@ use tape::token::ContainerKind;
 use tape::words;
 use tape::words::Pushed;
 ghost use mathlib.Core.Path.{_≡_};
-ghost use Prim.Native.Nat.{_≤_, _<_};
-ghost use lib.ListN.{length};
-ghost use Rattle.data.specs.Classes.{classes};
+ghost use Prim.Native.Nat.{_<_};
 ghost use Rattle.tape.specs.Tape.{view};
-ghost use Rattle.parse.specs.Machine.{after, and-then};
-ghost use Rattle.parse.specs.ParseOpen.{open-byte, settle, open-empty, open-parameter, open-brace, flag-parent, follows-key, open-as, stepped, parse-open-turn};
+ghost use Rattle.parse.specs.Machine.{after};
+ghost use Rattle.parse.specs.ParseOpen.{open-byte, settle, open-empty, open-parameter, open-brace, flag-parent, follows-key, open-as, parse-open-turn};
+ghost use Rattle.parse.specs.Step.{stepped};
 ghost use Rattle.parse.specs.Parse.{text-limit};
+ghost use Rattle.parse.specs.Here.{Here, LentHere};
 
 // What a byte is in ParseOpen.
 pub enum OpenByte {
@@ -85,7 +85,7 @@ fn open_empty(tape: &mut [u32], m: Machine) -> Turn
 
 // `[`: the container is an Object that begins with a parameter.
 fn open_parameter(text: &[u8], table: &[u8; data::BYTE_COUNT], tape: &mut [u32], m: Machine) -> Turn
-    requires { ⌜ (length (now text) ≤ text-limit) × (now table ≡ classes) × (m .at < length (now text)) ⌝ }
+    requires { ⌜ LentHere (now text) (now table) m ⌝ }
     ensures { λ r. ⌜ after r (now (tape .exit)) ≡ open-parameter (now (text .entry)) (view (now (tape .entry)) (m .count)) m ⌝ }
 {
     let mixed = m.mixed;
@@ -104,7 +104,7 @@ fn open_parameter(text: &[u8], table: &[u8; data::BYTE_COUNT], tape: &mut [u32],
 
 // `{`: an empty pair of braces is dropped, else the container is an Array whose first entry is a container.
 fn open_brace(text: &[u8], tape: &mut [u32], m: Machine) -> Turn
-    requires { ⌜ (length (now text) ≤ text-limit) × (m .at < length (now text)) ⌝ }
+    requires { ⌜ Here (now text) m ⌝ }
     ensures { λ r. ⌜ after r (now (tape .exit)) ≡ open-brace (now (text .entry)) (view (now (tape .entry)) (m .count)) m ⌝ }
 {
     let Skipped::At(p) = cut::skip_ws_t(text, m.at + 1) else {
@@ -117,7 +117,7 @@ fn open_brace(text: &[u8], tape: &mut [u32], m: Machine) -> Turn
 }
 
 // Sets the parent's stored flag where mixed is in force.
-fn flag_parent(tape: &mut [u32], m: Machine)
+pub(crate) fn flag_parent(tape: &mut [u32], m: Machine)
     ensures { λ r. ⌜ view (now (tape .exit)) (m .count) ≡ flag-parent (view (now (tape .entry)) (m .count)) m ⌝ }
 {
     let mixed = m.mixed;
@@ -155,7 +155,7 @@ fn follows_key(b: u8) -> bool
 }
 
 // The byte after the first scalar says whether the container is an Object or an Array.
-fn open_as(text: &[u8], tape: &mut [u32], m: Machine) -> Turn
+pub(crate) fn open_as(text: &[u8], tape: &mut [u32], m: Machine) -> Turn
     ensures { λ r. ⌜ after r (now (tape .exit)) ≡ open-as (now (text .entry)) (view (now (tape .entry)) (m .count)) m ⌝ }
 {
     let Skipped::At(p) = cut::skip_ws_t(text, m.at) else {
@@ -174,20 +174,6 @@ fn open_as(text: &[u8], tape: &mut [u32], m: Machine) -> Turn
     settle(tape, m, ContainerKind::Array, 2, p, State::ArrayValue)
 }
 
-// After the container's first entry, which is a scalar.
-pub(crate) fn first_entry(text: &[u8], tape: &mut [u32], laid: Turn) -> Turn
-    ensures { λ r. ⌜ after r (now (tape .exit)) ≡ and-then (after laid (now (tape .entry))) (λ t m. open-as (now (text .entry)) (flag-parent t m) m) ⌝ }
-{
-    match laid {
-        Turn::Next(past) => {
-            flag_parent(tape, past);
-            open_as(text, tape, past)
-        }
-        Turn::Done(count) => Turn::Done(count),
-        Turn::Refused(refusal) => Turn::Refused(refusal),
-    }
-}
-
 // A turn in ParseOpen, at a byte that is no blank.
 pub(crate) fn parse_open_turn(
     text: &[u8],
@@ -195,7 +181,7 @@ pub(crate) fn parse_open_turn(
     tape: &mut [u32],
     m: Machine,
 ) -> Step
-    requires { ⌜ (length (now text) ≤ text-limit) × (now table ≡ classes) × (m .at < length (now text)) ⌝ }
+    requires { ⌜ LentHere (now text) (now table) m ⌝ }
     ensures { λ r. ⌜ stepped (now (text .entry)) r (now (tape .exit)) m ≡ parse-open-turn (now (text .entry)) (view (now (tape .entry)) (m .count)) m ⌝ }
 {
     match open_byte(byte_at(text, m.at)) {

@@ -1,21 +1,14 @@
 // A scalar as a token.
-use crate::machine::Machine;
-use crate::machine::Refusal;
-use crate::machine::State;
-use crate::machine::Turn;
-use crate::machine::lay;
 use cut::Cut;
 use tape::token;
 use tape::token::ScalarKind;
 ghost use mathlib.Core.Path.{_≡_};
 ghost use Prim.Native.Nat.{_-_, _≤_};
-ghost use lib.ListN.{length};
-ghost use Rattle.data.specs.Classes.{classes};
 ghost use Rattle.tape.specs.Token.{scalar-of};
-ghost use Rattle.tape.specs.Tape.{view};
-ghost use Rattle.parse.specs.Machine.{after};
-ghost use Rattle.parse.specs.Scalars.{scalar-then};
+ghost use Rattle.cut.specs.Scalars.{scalar-cut};
+ghost use Rattle.parse.specs.Scalars.{scalar-found};
 ghost use Rattle.parse.specs.Parse.{text-limit};
+ghost use Rattle.parse.specs.Here.{Lent};
 
 // The token of a scalar of a kind, with the view from start to end.
 pub(crate) fn viewed(kind: ScalarKind, start: usize, end: usize) -> token::Token
@@ -25,30 +18,26 @@ pub(crate) fn viewed(kind: ScalarKind, start: usize, end: usize) -> token::Token
     token::scalar(kind, start as u32, (end - start) as u32)
 }
 
-// Adds the scalar at the machine's place, and goes on past it in a state.
-pub(crate) fn scalar_then(
-    text: &[u8],
-    table: &[u8; data::BYTE_COUNT],
-    tape: &mut [u32],
-    m: Machine,
-    state: State,
-) -> Turn
-    requires { ⌜ (length (now text) ≤ text-limit) × (now table ≡ classes) ⌝ }
-    ensures { λ r. ⌜ after r (now (tape .exit)) ≡ scalar-then (now (text .entry)) state (view (now (tape .entry)) (m .count)) m ⌝ }
+// What stands at a place as a scalar: its token and the place after it, or that the text ends in it.
+pub enum Scalar {
+    Cut { token: token::Token, rest: usize },
+    End,
+}
+
+// The scalar at a place.
+pub(crate) fn scalar_at(text: &[u8], table: &[u8; data::BYTE_COUNT], at: usize) -> Scalar
+    requires { ⌜ Lent (now text) (now table) ⌝ }
+    ensures { λ r. ⌜ r ≡ scalar-found (scalar-cut (now (text .entry)) at) ⌝ }
 {
-    match cut::scalar_at(text, m.at, table) {
-        Cut::Unquoted { start, end, rest } => {
-            lay(
-                tape,
-                m,
-                viewed(ScalarKind::Unquoted, start, end),
-                rest,
-                state,
-            )
-        }
-        Cut::Quoted { start, end, rest } => {
-            lay(tape, m, viewed(ScalarKind::Quoted, start, end), rest, state)
-        }
-        Cut::End => Turn::Refused(Refusal::Eof),
+    match cut::scalar_at(text, at, table) {
+        Cut::Unquoted { start, end, rest } => Scalar::Cut {
+            token: viewed(ScalarKind::Unquoted, start, end),
+            rest,
+        },
+        Cut::Quoted { start, end, rest } => Scalar::Cut {
+            token: viewed(ScalarKind::Quoted, start, end),
+            rest,
+        },
+        Cut::End => Scalar::End,
     }
 }

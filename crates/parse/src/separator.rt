@@ -12,24 +12,31 @@ use tape::words;
 use tape::words::Pushed;
 ghost use mathlib.Core.Path.{_≡_};
 ghost use Prim.Native.Nat.{_≤_, _<_};
-ghost use lib.ListN.{length};
 ghost use Rattle.tape.specs.Tape.{view};
 ghost use Rattle.parse.specs.Machine.{after, next};
-ghost use Rattle.parse.specs.KeyValueSeparator.{mix-then, separator-then, separator-turn};
+ghost use Rattle.parse.specs.KeyValueSeparator.{mixed-on, mix-then, separator-then, separator-turn};
 ghost use Rattle.parse.specs.Parse.{text-limit};
+ghost use Rattle.parse.specs.Here.{Here};
+
+// The machine with mixed on, in ArrayValue, after a MixedContainer was put in.
+pub(crate) fn mixed_on(m: Machine, count: u32) -> Machine
+    ensures { λ r. ⌜ r ≡ mixed-on m count ⌝ }
+{
+    Machine {
+        at: m.at,
+        state: State::ArrayValue,
+        parent: m.parent,
+        mixed: true,
+        count,
+    }
+}
 
 // Puts a MixedContainer in before the last token, and goes on in ArrayValue with mixed on.
-pub(crate) fn mix(tape: &mut [u32], m: Machine) -> Turn
+fn mix(tape: &mut [u32], m: Machine) -> Turn
     ensures { λ r. ⌜ after r (now (tape .exit)) ≡ mix-then (view (now (tape .entry)) (m .count)) m (λ t m′. next m′ t) ⌝ }
 {
     match words::insert_mixed(tape, m.count) {
-        Pushed::Laid(count) => Turn::Next(Machine {
-            at: m.at,
-            state: State::ArrayValue,
-            parent: m.parent,
-            mixed: true,
-            count,
-        }),
+        Pushed::Laid(count) => Turn::Next(mixed_on(m, count)),
         Pushed::Full => Turn::Refused(Refusal::Full),
     }
 }
@@ -54,7 +61,7 @@ fn separator_then(tape: &mut [u32], m: Machine, operator: Operator, width: usize
 
 // A turn in KeyValueSeparator, at a byte that is no blank.
 pub(crate) fn separator_turn(text: &[u8], tape: &mut [u32], m: Machine) -> Turn
-    requires { ⌜ (length (now text) ≤ text-limit) × (m .at < length (now text)) ⌝ }
+    requires { ⌜ Here (now text) m ⌝ }
     ensures { λ r. ⌜ after r (now (tape .exit)) ≡ separator-turn (now (text .entry)) (view (now (tape .entry)) (m .count)) m ⌝ }
 {
     let at = m.at;

@@ -18,14 +18,30 @@ byte-at-requires-2 c κs = search needs
 
 returns-2 : tie.Need-returns-2
 unfolding has-bom
-returns-2 c = rw (has-bom, ← (c .before .before .before .byte-at .ensures), eq-eqb _ _ (c .before .before .if1 .left), ← (c .before .byte-at2 .ensures), ne-eqb _ _ (c .if2 .taken))
+returns-2 c =
+    let at-byte-at2 = c .before in
+    let at-if1 = at-byte-at2 .before in
+    let at-byte-at = at-if1 .before in
+    rw (has-bom, ← (at-byte-at .byte-at .ensures), eq-eqb _ _ (at-if1 .if1 .left), ← (at-byte-at2 .byte-at2 .ensures), ne-eqb _ _ (c .if2 .taken))
 
 byte-at-requires-3 : tie.Need-byte-at-requires-3
 byte-at-requires-3 c κs = search needs
 
 returns-3 : tie.Need-returns-3
 unfolding has-bom
-returns-3 c = rw (has-bom, ← (c .before .before .before .before .byte-at .ensures), eq-eqb _ _ (c .before .before .before .if1 .left), ← (c .before .before .byte-at2 .ensures), eq-eqb _ _ (c .before .if2 .left), ← (c .byte-at3 .ensures))
+returns-3 c =
+    let at-if2 = c .before in
+    let at-byte-at2 = at-if2 .before in
+    let at-if1 = at-byte-at2 .before in
+    let at-byte-at = at-if1 .before in
+    rw (
+      has-bom,
+      ← (at-byte-at .byte-at .ensures),
+      eq-eqb _ _ (at-if1 .if1 .left),
+      ← (at-byte-at2 .byte-at2 .ensures),
+      eq-eqb _ _ (at-if2 .if2 .left),
+      ← (c .byte-at3 .ensures),
+    )
 
 pub has-bom-spec : {M : Type 1} → statement M
 has-bom-spec =

@@ -14,7 +14,10 @@ same-length : tie.Need-same-length
 same-length c = search needs
 
 returns : tie.Need-returns
-returns c = rw (parse-too-long (now (c .before .before .before .before .before .before .before .args .text)) (now (c .before .before .before .before .before .before .before .args .tape)) (c .before .before .before .before .if1 .taken)) (c .before .before .refuse .ensures)
+returns c =
+    let at-test = c .before .before .before .before in
+    let a = at-test .before .before .before .args in
+    rw (parse-too-long (now (a .text)) (now (a .tape)) (at-test .if1 .taken)) (c .before .before .refuse .ensures)
 
 has-bom-requires : tie.Need-has-bom-requires
 has-bom-requires c κs = search needs
@@ -37,30 +40,50 @@ enum-known-refusal c = search needs
 refuse-requires-2 : tie.Need-refuse-requires-2
 refuse-requires-2 c κs = search needs
 
-enum-told : tie.Need-enum-told
-enum-told c = search needs
-
-refuse-requires-3 : tie.Need-refuse-requires-3
-refuse-requires-3 c κs = search needs
-
 same-length-2 : tie.Need-same-length-2
 same-length-2 c = search needs
 
 returns-2 : tie.Need-returns-2
 unfolding cleared
-returns-2 c = rw (parse-runs (now (c .before .before .before .before .before .before .before .before .before .before .before .before .before .before .before .before .args .text)) (now (c .before .before .before .before .before .before .before .before .before .before .before .before .before .before .before .before .args .tape)) (c .before .before .before .before .before .before .before .before .before .before .before .before .before .if1 .left), ← (c .before .before .before .before .before .before .before .before .before .before .before .before .has-bom .ensures), ← (c .before .before .before .before .before .before .before .before .before .before .start .ensures), ← (c .before .before .before .before .before .before .before .before .before .run .ensures), c .before .before .before .before .before .count .given .1, c .before .before .clear-from .ensures, cleared, c .before .before .before .before .before .before .before .before .before .run .kept .1 .0)
+returns-2 c =
+    let at-clear = c .before .before in
+    let at-count = at-clear .before .before .before in
+    let at-run = at-count .before .before .before .before in
+    let at-start = at-run .before in
+    let at-bom = at-start .before .before in
+    let at-test = at-bom .before in
+    let a = at-test .before .before .before .args in
+    rw (
+      parse-runs (now (a .text)) (now (a .tape)) (at-test .if1 .left),
+      ← (at-bom .has-bom .ensures),
+      ← (at-start .start .ensures),
+      ← (at-run .run .ensures),
+      at-count .count .given .1,
+      at-clear .clear-from .ensures,
+      cleared,
+      at-run .run .kept .1 .0,
+    )
 
 same-length-3 : tie.Need-same-length-3
 same-length-3 c = search needs
 
 returns-3 : tie.Need-returns-3
-returns-3 c = rw (parse-runs (now (c .before .before .before .before .before .before .before .before .before .before .before .before .before .before .before .before .args .text)) (now (c .before .before .before .before .before .before .before .before .before .before .before .before .before .before .before .before .args .tape)) (c .before .before .before .before .before .before .before .before .before .before .before .before .before .if1 .left), ← (c .before .before .before .before .before .before .before .before .before .before .before .before .has-bom .ensures), ← (c .before .before .before .before .before .before .before .before .before .before .start .ensures), ← (c .before .before .before .before .before .before .before .before .before .run .ensures), c .before .before .before .before .before .refusal .given .1, ← (c .before .before .before .before .before .before .before .before .before .run .kept .1 .0)) (c .before .before .refuse2 .ensures)
-
-same-length-4 : tie.Need-same-length-4
-same-length-4 c = search needs
-
-returns-4 : tie.Need-returns-4
-returns-4 c = rw (parse-runs (now (c .before .before .before .before .before .before .before .before .before .before .before .before .before .before .before .args .text)) (now (c .before .before .before .before .before .before .before .before .before .before .before .before .before .before .before .args .tape)) (c .before .before .before .before .before .before .before .before .before .before .before .before .if1 .left), ← (c .before .before .before .before .before .before .before .before .before .before .before .has-bom .ensures), ← (c .before .before .before .before .before .before .before .before .before .start .ensures), ← (c .before .before .before .before .before .before .before .before .run .ensures), c .before .before .before .before .enum-told .given .1, ← (c .before .before .before .before .before .before .before .before .run .kept .1 .0)) (c .before .before .refuse3 .ensures)
+returns-3 c =
+    let at-refuse = c .before .before in
+    let at-refusal = at-refuse .before .before .before in
+    let at-run = at-refusal .before .before .before .before in
+    let at-start = at-run .before in
+    let at-bom = at-start .before .before in
+    let at-test = at-bom .before in
+    let a = at-test .before .before .before .args in
+    rw (
+      parse-runs (now (a .text)) (now (a .tape)) (at-test .if1 .left),
+      ← (at-bom .has-bom .ensures),
+      ← (at-start .start .ensures),
+      ← (at-run .run .ensures),
+      at-refusal .refusal .given .1,
+      ← (at-run .run .kept .1 .0),
+    ) (at-refuse .refuse2 .ensures)
 
 pub parse-spec : {M : Type 1} → statement M
 parse-spec =
@@ -76,11 +99,7 @@ parse-spec =
     clear-from-requires
     enum-known-refusal
     refuse-requires-2
-    enum-told
-    refuse-requires-3
     same-length-2
     returns-2
     same-length-3
-    returns-3
-    same-length-4
-    returns-4)
+    returns-3)

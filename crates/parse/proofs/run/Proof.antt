@@ -1,6 +1,6 @@
--- `parse::run` meets its contract. The loop's invariant: the run from here, with one turn more than are left, is the run from the start.
+-- `parse::run` meets its contract. The loop's invariant: the run from here, with one turn more than are left, is the run from the
+-- start.
 -- Assumes nothing.
-
 use Prim.Native.Nat.{suc}
 use native.Mathlib.Omega.{arith}
 use borrow.Author.Needs.{needs}
@@ -29,19 +29,39 @@ character-class-requires : tie.Need-character-class-requires Inv-loop μ-loop
 character-class-requires c κs = search needs
 
 loop-holds : tie.Need-loop-holds Inv-loop μ-loop
-loop-holds c = (refl, c .character-class .ensures, run-enough (now (c .before .before .before .args .text)) _ _ (c .before .before .before .args .from) _ (within-enough (now (c .before .before .before .args .text)) (c .before .before .before .args .from)) (omega arith))
+loop-holds c =
+    let a = c .before .before .before .args in
+    (refl, c .character-class .ensures, run-enough (now (a .text)) _ _ (a .from) _ (within-enough (now (a .text)) (a .from)) (omega arith))
 
 turn-requires : tie.Need-turn-requires Inv-loop μ-loop
-turn-requires c κs = (c .before .before .before .before .before .before .pre, c .before .before .before .character-class .ensures)
+turn-requires c κs =
+    let at-table = c .before .before .before in
+    (at-table .before .before .before .pre, at-table .character-class .ensures)
 
 enum-known-after : tie.Need-enum-known-after Inv-loop μ-loop
 enum-known-after c = search needs
 
 loop-less : tie.Need-loop-less Inv-loop μ-loop
-loop-less c = rw (← (c .before .before .before .before .before .turn .ensures), c .before .after .given .1) at (turn-falls (now (c .before .before .before .before .before .before .before .before .before .before .before .before .args .text)) (view (c .before .before .before .before .before .before .before .before .loop .tape) (c .before .before .before .before .before .before .before .before .loop .m .count)) (c .before .before .before .before .before .before .before .before .loop .m))
+loop-less c =
+    let at-turn = c .before .before .before .before .before in
+    let at-loop = at-turn .before .before .before in
+    let text = now (at-loop .before .before .before .before .args .text) in
+    let m = at-loop .loop .m in
+    rw (← (at-turn .turn .ensures), c .before .after .given .1) at (turn-falls text (view (at-loop .loop .tape) (m .count)) m)
 
 loop-again : tie.Need-loop-again Inv-loop μ-loop
-loop-again c = (c .before .before .before .before .before .turn .kept .1 .1 .0 ∙ c .before .before .before .before .before .before .before .before .loop .inv .0, c .before .before .before .before .before .before .before .before .loop .inv .1, c .before .before .before .before .before .before .before .before .loop .inv .2 ∙ rw (run-turn (now (c .before .before .before .before .before .before .before .before .before .before .before .before .args .text)) (left (now (c .before .before .before .before .before .before .before .before .before .before .before .before .args .text)) (c .before .before .before .before .before .before .before .before .loop .m .at) (c .before .before .before .before .before .before .before .before .loop .m .state)) (c .before .before .before .before .before .before .before .before .loop .m) (view (c .before .before .before .before .before .before .before .before .loop .tape) (c .before .before .before .before .before .before .before .before .loop .m .count)), ← (c .before .before .before .before .before .turn .ensures), c .before .after .given .1) (run-enough (now (c .before .before .before .before .before .before .before .before .before .before .before .before .args .text)) _ _ _ _ (rw (← (c .before .before .before .before .before .turn .ensures), c .before .after .given .1) at (turn-falls (now (c .before .before .before .before .before .before .before .before .before .before .before .before .args .text)) (view (c .before .before .before .before .before .before .before .before .loop .tape) (c .before .before .before .before .before .before .before .before .loop .m .count)) (c .before .before .before .before .before .before .before .before .loop .m))) (omega arith)))
+loop-again c =
+    let at-turn = c .before .before .before .before .before in
+    let at-loop = at-turn .before .before .before in
+    let text = now (at-loop .before .before .before .before .args .text) in
+    let m = at-loop .loop .m in
+    let t = view (at-loop .loop .tape) (m .count) in (
+      at-turn .turn .kept .1 .1 .0 ∙ at-loop .loop .inv .0,
+      at-loop .loop .inv .1,
+      at-loop .loop .inv .2
+          ∙ rw (run-turn text (left text (m .at) (m .state)) m t, ← (at-turn .turn .ensures), c .before .after .given .1)
+          (run-enough text _ _ _ _ (rw (← (at-turn .turn .ensures), c .before .after .given .1) at (turn-falls text t m)) (omega arith)),
+    )
 
 enum-known-count : tie.Need-enum-known-count Inv-loop μ-loop
 enum-known-count c = search needs
@@ -50,7 +70,17 @@ same-length : tie.Need-same-length Inv-loop μ-loop
 same-length c = search needs
 
 returns : tie.Need-returns Inv-loop μ-loop
-returns c = sym (c .before .before .before .before .before .before .before .before .loop .inv .2 ∙ rw (run-turn (now (c .before .before .before .before .before .before .before .before .before .before .before .before .args .text)) (left (now (c .before .before .before .before .before .before .before .before .before .before .before .before .args .text)) (c .before .before .before .before .before .before .before .before .loop .m .at) (c .before .before .before .before .before .before .before .before .loop .m .state)) (c .before .before .before .before .before .before .before .before .loop .m) (view (c .before .before .before .before .before .before .before .before .loop .tape) (c .before .before .before .before .before .before .before .before .loop .m .count)), ← (c .before .before .before .before .before .turn .ensures), c .before .count .given .1) (run-done (now (c .before .before .before .before .before .before .before .before .before .before .before .before .args .text)) _ _ _))
+returns c =
+    let at-turn = c .before .before .before .before .before in
+    let at-loop = at-turn .before .before .before in
+    let text = now (at-loop .before .before .before .before .args .text) in
+    let m = at-loop .loop .m in
+    sym (at-loop .loop .inv .2
+    ∙ rw (
+      run-turn text (left text (m .at) (m .state)) m (view (at-loop .loop .tape) (m .count)),
+      ← (at-turn .turn .ensures),
+      c .before .count .given .1,
+    ) (run-done text _ _ _))
 
 enum-known-refusal : tie.Need-enum-known-refusal Inv-loop μ-loop
 enum-known-refusal c = search needs
@@ -59,7 +89,17 @@ same-length-2 : tie.Need-same-length-2 Inv-loop μ-loop
 same-length-2 c = search needs
 
 returns-2 : tie.Need-returns-2 Inv-loop μ-loop
-returns-2 c = sym (c .before .before .before .before .before .before .before .before .loop .inv .2 ∙ rw (run-turn (now (c .before .before .before .before .before .before .before .before .before .before .before .before .args .text)) (left (now (c .before .before .before .before .before .before .before .before .before .before .before .before .args .text)) (c .before .before .before .before .before .before .before .before .loop .m .at) (c .before .before .before .before .before .before .before .before .loop .m .state)) (c .before .before .before .before .before .before .before .before .loop .m) (view (c .before .before .before .before .before .before .before .before .loop .tape) (c .before .before .before .before .before .before .before .before .loop .m .count)), ← (c .before .before .before .before .before .turn .ensures), c .before .refusal .given .1) (run-refused (now (c .before .before .before .before .before .before .before .before .before .before .before .before .args .text)) _ _))
+returns-2 c =
+    let at-turn = c .before .before .before .before .before in
+    let at-loop = at-turn .before .before .before in
+    let text = now (at-loop .before .before .before .before .args .text) in
+    let m = at-loop .loop .m in
+    sym (at-loop .loop .inv .2
+    ∙ rw (
+      run-turn text (left text (m .at) (m .state)) m (view (at-loop .loop .tape) (m .count)),
+      ← (at-turn .turn .ensures),
+      c .before .refusal .given .1,
+    ) (run-refused text _ _))
 
 pub run-spec : {M : Type 1} → statement M
 run-spec =

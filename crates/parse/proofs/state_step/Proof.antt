@@ -41,31 +41,65 @@ same-length : tie.Need-same-length
 same-length c = search needs
 
 returns : tie.Need-returns
-returns c = rw (in-key (now (c .before .before .before .before .before .before .before .before .args .text)) (view (now (c .before .before .before .before .before .before .before .before .args .tape)) (c .before .before .before .before .before .before .before .before .args .m .count)) (c .before .before .before .before .before .before .before .before .args .m) (c .before .before .before .before .enum-told .given .1)) (c .before .before .key-turn .ensures)
+returns c =
+    let at-key-turn = c .before .before in
+    let at-enum-told = at-key-turn .before .before in
+    let at-start = at-enum-told .before .before .before .before in
+    rw
+    (in-key (now (at-start .args .text)) (view (now (at-start .args .tape)) (at-start .args .m .count)) (at-start .args .m) (at-enum-told .enum-told .given .1))
+    (at-key-turn .key-turn .ensures)
 
 same-length-2 : tie.Need-same-length-2
 same-length-2 c = search needs
 
 returns-2 : tie.Need-returns-2
-returns-2 c = rw (in-separator (now (c .before .before .before .before .before .before .before .before .args .text)) (view (now (c .before .before .before .before .before .before .before .before .args .tape)) (c .before .before .before .before .before .before .before .before .args .m .count)) (c .before .before .before .before .before .before .before .before .args .m) (c .before .before .before .before .enum-told2 .given .1)) (c .before .before .separator-turn .ensures)
+returns-2 c =
+    let at-separator-turn = c .before .before in
+    let at-enum-told2 = at-separator-turn .before .before in
+    let at-start = at-enum-told2 .before .before .before .before in
+    rw
+    (in-separator (now (at-start .args .text)) (view (now (at-start .args .tape)) (at-start .args .m .count)) (at-start .args .m)
+    (at-enum-told2 .enum-told2 .given .1))
+    (at-separator-turn .separator-turn .ensures)
 
 same-length-3 : tie.Need-same-length-3
 same-length-3 c = search needs
 
 returns-3 : tie.Need-returns-3
-returns-3 c = rw (in-object-value (now (c .before .before .before .before .before .before .before .before .args .text)) (view (now (c .before .before .before .before .before .before .before .before .args .tape)) (c .before .before .before .before .before .before .before .before .args .m .count)) (c .before .before .before .before .before .before .before .before .args .m) (c .before .before .before .before .enum-told3 .given .1)) (c .before .before .object-value-turn .ensures)
+returns-3 c =
+    let at-object-value-turn = c .before .before in
+    let at-enum-told3 = at-object-value-turn .before .before in
+    let at-start = at-enum-told3 .before .before .before .before in
+    rw
+    (in-object-value (now (at-start .args .text)) (view (now (at-start .args .tape)) (at-start .args .m .count)) (at-start .args .m)
+    (at-enum-told3 .enum-told3 .given .1))
+    (at-object-value-turn .object-value-turn .ensures)
 
 same-length-4 : tie.Need-same-length-4
 same-length-4 c = search needs
 
 returns-4 : tie.Need-returns-4
-returns-4 c = rw (in-parse-open (now (c .before .before .before .before .before .before .before .before .args .text)) (view (now (c .before .before .before .before .before .before .before .before .args .tape)) (c .before .before .before .before .before .before .before .before .args .m .count)) (c .before .before .before .before .before .before .before .before .args .m) (c .before .before .before .before .enum-told4 .given .1)) (c .before .before .parse-open-turn .ensures)
+returns-4 c =
+    let at-parse-open-turn = c .before .before in
+    let at-enum-told4 = at-parse-open-turn .before .before in
+    let at-start = at-enum-told4 .before .before .before .before in
+    rw
+    (in-parse-open (now (at-start .args .text)) (view (now (at-start .args .tape)) (at-start .args .m .count)) (at-start .args .m)
+    (at-enum-told4 .enum-told4 .given .1))
+    (at-parse-open-turn .parse-open-turn .ensures)
 
 same-length-5 : tie.Need-same-length-5
 same-length-5 c = search needs
 
 returns-5 : tie.Need-returns-5
-returns-5 c = rw (in-array-value (now (c .before .before .before .before .before .before .before .before .args .text)) (view (now (c .before .before .before .before .before .before .before .before .args .tape)) (c .before .before .before .before .before .before .before .before .args .m .count)) (c .before .before .before .before .before .before .before .before .args .m) (c .before .before .before .before .enum-told5 .given .1)) (c .before .before .array-value-turn .ensures)
+returns-5 c =
+    let at-array-value-turn = c .before .before in
+    let at-enum-told5 = at-array-value-turn .before .before in
+    let at-start = at-enum-told5 .before .before .before .before in
+    rw
+    (in-array-value (now (at-start .args .text)) (view (now (at-start .args .tape)) (at-start .args .m .count)) (at-start .args .m)
+    (at-enum-told5 .enum-told5 .given .1))
+    (at-array-value-turn .array-value-turn .ensures)
 
 pub state-step-spec : {M : Type 1} → statement M
 state-step-spec =

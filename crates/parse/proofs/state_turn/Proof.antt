@@ -26,7 +26,11 @@ same-length-2 : tie.Need-same-length-2
 same-length-2 c = search needs
 
 returns-2 : tie.Need-returns-2
-returns-2 c = rw (← (c .before .before .before .before .before .before .before .before .before .state-step .ensures), c .before .before .before .before .before .state .given .1) (c .before .before .entry .ensures)
+returns-2 c =
+    let at-entry = c .before .before in
+    let at-state = at-entry .before .before .before in
+    let at-state-step = at-state .before .before .before .before in
+    rw (← (at-state-step .state-step .ensures), at-state .state .given .1) (at-entry .entry .ensures)
 
 pub state-turn-spec : {M : Type 1} → statement M
 state-turn-spec =

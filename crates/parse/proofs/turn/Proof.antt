@@ -17,7 +17,11 @@ to-requires : tie.Need-to-requires
 to-requires c κs = search needs
 
 state-turn-requires : tie.Need-state-turn-requires
-state-turn-requires c κs = (c .before .before .before .before .before .before .before .before .pre .0, c .before .before .before .before .before .before .before .before .pre .1, rw (c .to .ensures) ((skip-lands _ _ _ (sym (c .before .before .before .before .before .skip-ws-t .ensures) ∙ c .before .before .before .p .given .1)) .within))
+state-turn-requires c κs =
+    let at-p = c .before .before .before in
+    let at-skip-ws-t = at-p .before .before in
+    let at-start = at-skip-ws-t .before .before .before in
+    (at-start .pre .0, at-start .pre .1, rw (c .to .ensures) ((skip-lands _ _ _ (sym (at-skip-ws-t .skip-ws-t .ensures) ∙ at-p .p .given .1)) .within))
 
 enum-told : tie.Need-enum-told
 enum-told c = search needs
@@ -30,14 +34,23 @@ same-length c = search needs
 
 returns : tie.Need-returns
 unfolding turn
-returns c = rw (turn, ← (c .before .before .before .before .before .before .before .before .skip-ws-t .ensures), c .before .before .before .before .before .before .p .given .1, c .before .before .state-turn .ensures, c .before .before .before .to .ensures)
+returns c =
+    let at-state-turn = c .before .before in
+    let at-to = at-state-turn .before in
+    let at-p = at-to .before .before .before in
+    let at-skip-ws-t = at-p .before .before in
+    rw (turn, ← (at-skip-ws-t .skip-ws-t .ensures), at-p .p .given .1, at-state-turn .state-turn .ensures, at-to .to .ensures)
 
 same-length-2 : tie.Need-same-length-2
 same-length-2 c = search needs
 
 returns-2 : tie.Need-returns-2
 unfolding turn
-returns-2 c = rw (turn, ← (c .before .before .before .before .before .before .skip-ws-t .ensures), c .before .before .before .before .enum-told .given .1) (c .before .before .text-end .ensures)
+returns-2 c =
+    let at-text-end = c .before .before in
+    let at-enum-told = at-text-end .before .before in
+    let at-skip-ws-t = at-enum-told .before .before in
+    rw (turn, ← (at-skip-ws-t .skip-ws-t .ensures), at-enum-told .enum-told .given .1) (at-text-end .text-end .ensures)
 
 pub turn-spec : {M : Type 1} → statement M
 turn-spec =

@@ -19,7 +19,17 @@ same-length c = search needs
 
 returns : tie.Need-returns
 unfolding array-close
-returns c = rw (array-close, ← (c .before .before .before .container-at .ensures), ← (c .before .before .parent-of .ensures), ← (c .before .nothing-open .ensures), c .if1 .taken)
+returns c =
+    let at-nothing-open = c .before in
+    let at-parent-of = at-nothing-open .before in
+    let at-container-at = at-parent-of .before in
+    rw (
+      array-close,
+      ← (at-container-at .container-at .ensures),
+      ← (at-parent-of .parent-of .ensures),
+      ← (at-nothing-open .nothing-open .ensures),
+      c .if1 .taken,
+    )
 
 own-kind-requires : tie.Need-own-kind-requires
 own-kind-requires c κs = search needs
@@ -32,7 +42,24 @@ same-length-2 c = search needs
 
 returns-2 : tie.Need-returns-2
 unfolding array-close
-returns-2 c = rw (array-close, ← (c .before .before .before .before .before .before .before .before .container-at .ensures), ← (c .before .before .before .before .before .before .before .parent-of .ensures), ← (c .before .before .before .before .before .before .nothing-open .ensures), c .before .before .before .before .before .if1 .left, c .before .before .close .ensures, c .before .before .before .own-kind .ensures, c .before .before .before .before .before .before .before .parent-of .ensures, c .before .before .before .before .before .before .before .before .container-at .ensures)
+returns-2 c =
+    let at-close = c .before .before in
+    let at-own-kind = at-close .before in
+    let at-if1 = at-own-kind .before .before in
+    let at-nothing-open = at-if1 .before in
+    let at-parent-of = at-nothing-open .before in
+    let at-container-at = at-parent-of .before in
+    rw (
+      array-close,
+      ← (at-container-at .container-at .ensures),
+      ← (at-parent-of .parent-of .ensures),
+      ← (at-nothing-open .nothing-open .ensures),
+      at-if1 .if1 .left,
+      at-close .close .ensures,
+      at-own-kind .own-kind .ensures,
+      at-parent-of .parent-of .ensures,
+      at-container-at .container-at .ensures,
+    )
 
 pub array-close-spec : {M : Type 1} → statement M
 array-close-spec =

@@ -1,7 +1,7 @@
 -- `parse::array_value::array_value_turn` meets its contract, by what the byte is in ArrayValue.
 -- Assumes nothing.
 use borrow.Author.Needs.{needs}
-use Rattle.parse.specs.ParseOpen.{entry}
+use Rattle.parse.specs.Step.{entry}
 use Rattle.parse.specs.ArrayValue.{array-value-turn}
 use Rattle.parse.proofs.array_value.array_value_turn.Statement.{statement}
 use Rattle.parse.proofs.array_value.array_value_turn.Tie as tie
@@ -38,21 +38,51 @@ same-length c = search needs
 
 returns : tie.Need-returns
 unfolding array-value-turn
-returns c = rw (array-value-turn, ← (c .before .before .before .before .before .before .before .byte-at .ensures), ← (c .before .before .before .before .before .before .value-byte .ensures), c .before .before .before .before .enum-told .given .1) (c .before .before .open-then .ensures)
+returns c =
+    let at-open-then = c .before .before in
+    let at-enum-told = at-open-then .before .before in
+    let at-value-byte = at-enum-told .before .before in
+    let at-byte-at = at-value-byte .before in
+    rw (
+      array-value-turn,
+      ← (at-byte-at .byte-at .ensures),
+      ← (at-value-byte .value-byte .ensures),
+      at-enum-told .enum-told .given .1,
+    ) (at-open-then .open-then .ensures)
 
 same-length-2 : tie.Need-same-length-2
 same-length-2 c = search needs
 
 returns-2 : tie.Need-returns-2
 unfolding array-value-turn
-returns-2 c = rw (array-value-turn, ← (c .before .before .before .before .before .before .before .byte-at .ensures), ← (c .before .before .before .before .before .before .value-byte .ensures), c .before .before .before .before .enum-told2 .given .1) (c .before .before .array-close .ensures)
+returns-2 c =
+    let at-array-close = c .before .before in
+    let at-enum-told2 = at-array-close .before .before in
+    let at-value-byte = at-enum-told2 .before .before in
+    let at-byte-at = at-value-byte .before in
+    rw (
+      array-value-turn,
+      ← (at-byte-at .byte-at .ensures),
+      ← (at-value-byte .value-byte .ensures),
+      at-enum-told2 .enum-told2 .given .1,
+    ) (at-array-close .array-close .ensures)
 
 same-length-3 : tie.Need-same-length-3
 same-length-3 c = search needs
 
 returns-3 : tie.Need-returns-3
 unfolding array-value-turn
-returns-3 c = rw (array-value-turn, ← (c .before .before .before .before .before .before .before .byte-at .ensures), ← (c .before .before .before .before .before .before .value-byte .ensures), c .before .before .before .before .enum-told3 .given .1) (c .before .before .array-operator .ensures)
+returns-3 c =
+    let at-array-operator = c .before .before in
+    let at-enum-told3 = at-array-operator .before .before in
+    let at-value-byte = at-enum-told3 .before .before in
+    let at-byte-at = at-value-byte .before in
+    rw (
+      array-value-turn,
+      ← (at-byte-at .byte-at .ensures),
+      ← (at-value-byte .value-byte .ensures),
+      at-enum-told3 .enum-told3 .given .1,
+    ) (at-array-operator .array-operator .ensures)
 
 returns-4 : tie.Need-returns-4
 unfolding array-value-turn entry

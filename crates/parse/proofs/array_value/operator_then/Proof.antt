@@ -30,7 +30,10 @@ operator-requires : tie.Need-operator-requires
 operator-requires c κs = search needs
 
 add-lay : tie.Need-add-lay
-add-lay c = let w = sighted-width _ _ _ _ (sym (c .before .before .before .before .before .before .operator-at .ensures) ∙ c .before .before .before .before .operator .given .1) in omega (arith, w)
+add-lay c =
+    let at-operator = c .before .before .before .before in
+    let at-operator-at = at-operator .before .before in
+    let w = sighted-width _ _ _ _ (sym (at-operator-at .operator-at .ensures) ∙ at-operator .operator .given .1) in omega (arith, w)
 
 lay-requires : tie.Need-lay-requires
 lay-requires c κs = search needs
@@ -46,11 +49,40 @@ same-length c = search needs
 
 returns : tie.Need-returns
 unfolding operator-then
-returns c = rw (operator-then, ← (c .before .before .before .before .before .before .before .before .before .before .before .byte-at .ensures), ← (c .before .before .before .before .before .before .before .before .before .before .byte-at2 .ensures), ← (c .before .before .before .before .before .before .before .before .before .operator-at .ensures), c .before .before .before .before .before .before .before .operator .given .1, c .before .before .lay .ensures, c .before .before .before .operator2 .ensures, c .before .before .before .before .number .ensures)
+returns c =
+    let at-lay = c .before .before in
+    let at-operator2 = at-lay .before in
+    let at-number = at-operator2 .before in
+    let at-operator = at-number .before .before .before in
+    let at-operator-at = at-operator .before .before in
+    let at-byte-at2 = at-operator-at .before in
+    let at-byte-at = at-byte-at2 .before in
+    rw (
+      operator-then,
+      ← (at-byte-at .byte-at .ensures),
+      ← (at-byte-at2 .byte-at2 .ensures),
+      ← (at-operator-at .operator-at .ensures),
+      at-operator .operator .given .1,
+      at-lay .lay .ensures,
+      at-operator2 .operator2 .ensures,
+      at-number .number .ensures,
+    )
 
 returns-2 : tie.Need-returns-2
 unfolding operator-then
-returns-2 c = rw (operator-then, ← (c .before .before .before .before .before .byte-at .ensures), ← (c .before .before .before .before .byte-at2 .ensures), ← (c .before .before .before .operator-at .ensures), c .before .enum-told .given .1, c .before2 .ensures)
+returns-2 c =
+    let at-enum-told = c .before in
+    let at-operator-at = at-enum-told .before .before in
+    let at-byte-at2 = at-operator-at .before in
+    let at-byte-at = at-byte-at2 .before in
+    rw (
+      operator-then,
+      ← (at-byte-at .byte-at .ensures),
+      ← (at-byte-at2 .byte-at2 .ensures),
+      ← (at-operator-at .operator-at .ensures),
+      at-enum-told .enum-told .given .1,
+      c .before2 .ensures,
+    )
 
 pub operator-then-spec : {M : Type 1} → statement M
 operator-then-spec =

@@ -45,28 +45,75 @@ same-length c = search needs
 
 returns : tie.Need-returns
 unfolding unmixed-operator token-in token-at
-returns c = rw (unmixed-operator, ← (c .before .before .before .before .before .before .before .before .less .ensures), ← (c .before .before .before .before .before .before .before .token .ensures), ← (c .before .before .before .before .before .before .standing .ensures), c .before .before .before .before .enum-told .given .1) (c .before .before .mixed-operator .ensures)
+returns c =
+    let at-mixed-operator = c .before .before in
+    let at-enum-told = at-mixed-operator .before .before in
+    let at-standing = at-enum-told .before .before in
+    let at-token = at-standing .before in
+    let at-less = at-token .before in
+    rw (
+      unmixed-operator,
+      ← (at-less .less .ensures),
+      ← (at-token .token .ensures),
+      ← (at-standing .standing .ensures),
+      at-enum-told .enum-told .given .1,
+    ) (at-mixed-operator .mixed-operator .ensures)
 
 same-length-2 : tie.Need-same-length-2
 same-length-2 c = search needs
 
 returns-2 : tie.Need-returns-2
 unfolding unmixed-operator token-in token-at
-returns-2 c = rw (unmixed-operator, ← (c .before .before .before .before .before .before .before .before .less .ensures), ← (c .before .before .before .before .before .before .before .token .ensures), ← (c .before .before .before .before .before .before .standing .ensures), c .before .before .before .before .enum-told2 .given .1) (c .before .before .mixed-operator2 .ensures)
+returns-2 c =
+    let at-mixed-operator2 = c .before .before in
+    let at-enum-told2 = at-mixed-operator2 .before .before in
+    let at-standing = at-enum-told2 .before .before in
+    let at-token = at-standing .before in
+    let at-less = at-token .before in
+    rw (
+      unmixed-operator,
+      ← (at-less .less .ensures),
+      ← (at-token .token .ensures),
+      ← (at-standing .standing .ensures),
+      at-enum-told2 .enum-told2 .given .1,
+    ) (at-mixed-operator2 .mixed-operator2 .ensures)
 
 same-length-3 : tie.Need-same-length-3
 same-length-3 c = search needs
 
 returns-3 : tie.Need-returns-3
 unfolding unmixed-operator token-in token-at
-returns-3 c = rw (unmixed-operator, ← (c .before .before .before .before .before .less .ensures), ← (c .before .before .before .before .token .ensures), ← (c .before .before .before .standing .ensures), c .before .enum-told3 .given .1) (c .after-end .ensures _)
+returns-3 c =
+    let at-enum-told3 = c .before in
+    let at-standing = at-enum-told3 .before .before in
+    let at-token = at-standing .before in
+    let at-less = at-token .before in
+    rw (
+      unmixed-operator,
+      ← (at-less .less .ensures),
+      ← (at-token .token .ensures),
+      ← (at-standing .standing .ensures),
+      at-enum-told3 .enum-told3 .given .1,
+    ) (c .after-end .ensures _)
 
 same-length-4 : tie.Need-same-length-4
 same-length-4 c = search needs
 
 returns-4 : tie.Need-returns-4
 unfolding unmixed-operator token-in token-at
-returns-4 c = rw (unmixed-operator, ← (c .before .before .before .before .before .less .ensures), ← (c .before .before .before .before .token .ensures), ← (c .before .before .before .standing .ensures), c .before .enum-told4 .given .1, c .before2 .ensures)
+returns-4 c =
+    let at-enum-told4 = c .before in
+    let at-standing = at-enum-told4 .before .before in
+    let at-token = at-standing .before in
+    let at-less = at-token .before in
+    rw (
+      unmixed-operator,
+      ← (at-less .less .ensures),
+      ← (at-token .token .ensures),
+      ← (at-standing .standing .ensures),
+      at-enum-told4 .enum-told4 .given .1,
+      c .before2 .ensures,
+    )
 
 pub unmixed-operator-spec : {M : Type 1} → statement M
 unmixed-operator-spec =

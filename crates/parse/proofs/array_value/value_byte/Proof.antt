@@ -19,11 +19,19 @@ begins-operator-requires c κs = search needs
 
 returns-3 : tie.Need-returns-3
 unfolding value-byte
-returns-3 c = rw (value-byte, ne-eqb _ _ (c .before .before .before .if1 .left), ne-eqb _ _ (c .before .before .if2 .left), ← (c .before .begins-operator .ensures), c .if3 .taken)
+returns-3 c =
+    let at-begins-operator = c .before in
+    let at-if2 = at-begins-operator .before in
+    let at-if1 = at-if2 .before in
+    rw (value-byte, ne-eqb _ _ (at-if1 .if1 .left), ne-eqb _ _ (at-if2 .if2 .left), ← (at-begins-operator .begins-operator .ensures), c .if3 .taken)
 
 returns-4 : tie.Need-returns-4
 unfolding value-byte
-returns-4 c = rw (value-byte, ne-eqb _ _ (c .before .before .before .if1 .left), ne-eqb _ _ (c .before .before .if2 .left), ← (c .before .begins-operator .ensures), c .if3 .left)
+returns-4 c =
+    let at-begins-operator = c .before in
+    let at-if2 = at-begins-operator .before in
+    let at-if1 = at-if2 .before in
+    rw (value-byte, ne-eqb _ _ (at-if1 .if1 .left), ne-eqb _ _ (at-if2 .if2 .left), ← (at-begins-operator .begins-operator .ensures), c .if3 .left)
 
 pub value-byte-spec : {M : Type 1} → statement M
 value-byte-spec =

@@ -28,7 +28,11 @@ same-length c = search needs
 
 returns : tie.Need-returns
 unfolding close close-at
-returns c = rw (close, close-at, ← (c .before .before .before .before .before .before .before .close-at .ensures), c .before .before .before .count .given .1, c .resumed .ensures, c .before .before .before .before .before .before .before .before .before .container-at .ensures)
+returns c =
+    let at-count = c .before .before .before in
+    let at-close-at = at-count .before .before .before .before in
+    let at-container-at = at-close-at .before .before in
+    rw (close, close-at, ← (at-close-at .close-at .ensures), at-count .count .given .1, c .resumed .ensures, at-container-at .container-at .ensures)
 
 same-length-2 : tie.Need-same-length-2
 same-length-2 c = search needs

@@ -20,7 +20,12 @@ same-length : tie.Need-same-length
 same-length c = search needs
 
 returns : tie.Need-returns
-returns c = rw (c .before .before .push .ensures .1, c .before .before .before .before .before .before .before .put .ensures .1, c .before .before .before .before .before .before .before .before .opener .ensures, c .before .before .before .end .ensures)
+returns c =
+    let at-push = c .before .before in
+    let at-end = at-push .before in
+    let at-put = at-end .before .before .before .before in
+    let at-opener = at-put .before in
+    rw (at-push .push .ensures .1, at-put .put .ensures .1, at-opener .opener .ensures, at-end .end .ensures)
 
 pub close-at-spec : {M : Type 1} → statement M
 close-at-spec =

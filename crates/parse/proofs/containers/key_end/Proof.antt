@@ -21,7 +21,17 @@ same-length c = search needs
 
 returns-2 : tie.Need-returns-2
 unfolding key-end
-returns-2 c = rw (key-end, ne-eqb _ _ (c .before .before .before .before .if1 .left), ← (c .before .before .container-at .ensures), ← (c .before .parent-of .ensures), ne-eqb _ _ (c .if2 .taken))
+returns-2 c =
+    let at-parent-of = c .before in
+    let at-container-at = at-parent-of .before in
+    let at-if1 = at-container-at .before .before in
+    rw (
+      key-end,
+      ne-eqb _ _ (at-if1 .if1 .left),
+      ← (at-container-at .container-at .ensures),
+      ← (at-parent-of .parent-of .ensures),
+      ne-eqb _ _ (c .if2 .taken),
+    )
 
 close-at-requires : tie.Need-close-at-requires
 close-at-requires c κs = search needs
@@ -37,14 +47,45 @@ same-length-2 c = search needs
 
 returns-3 : tie.Need-returns-3
 unfolding key-end close-at
-returns-3 c = rw (key-end, ne-eqb _ _ (c .before .before .before .before .before .before .before .before .before .before .before .if1 .left), ← (c .before .before .before .before .before .before .before .before .before .container-at .ensures), ← (c .before .before .before .before .before .before .before .before .parent-of .ensures), eq-eqb _ _ (c .before .before .before .before .before .before .before .if2 .left), close-at, ← (c .before .before .before .before .before .close-at .ensures), c .before .end .given .1)
+returns-3 c =
+    let at-end = c .before in
+    let at-close-at = at-end .before .before .before .before in
+    let at-if2 = at-close-at .before .before in
+    let at-parent-of = at-if2 .before in
+    let at-container-at = at-parent-of .before in
+    let at-if1 = at-container-at .before .before in
+    rw (
+      key-end,
+      ne-eqb _ _ (at-if1 .if1 .left),
+      ← (at-container-at .container-at .ensures),
+      ← (at-parent-of .parent-of .ensures),
+      eq-eqb _ _ (at-if2 .if2 .left),
+      close-at,
+      ← (at-close-at .close-at .ensures),
+      at-end .end .given .1,
+    )
 
 same-length-3 : tie.Need-same-length-3
 same-length-3 c = search needs
 
 returns-4 : tie.Need-returns-4
 unfolding key-end close-at
-returns-4 c = rw (key-end, ne-eqb _ _ (c .before .before .before .before .before .before .before .before .before .before .if1 .left), ← (c .before .before .before .before .before .before .before .before .container-at .ensures), ← (c .before .before .before .before .before .before .before .parent-of .ensures), eq-eqb _ _ (c .before .before .before .before .before .before .if2 .left), close-at, ← (c .before .before .before .before .close-at .ensures), c .enum-told .given .1)
+returns-4 c =
+    let at-close-at = c .before .before .before .before in
+    let at-if2 = at-close-at .before .before in
+    let at-parent-of = at-if2 .before in
+    let at-container-at = at-parent-of .before in
+    let at-if1 = at-container-at .before .before in
+    rw (
+      key-end,
+      ne-eqb _ _ (at-if1 .if1 .left),
+      ← (at-container-at .container-at .ensures),
+      ← (at-parent-of .parent-of .ensures),
+      eq-eqb _ _ (at-if2 .if2 .left),
+      close-at,
+      ← (at-close-at .close-at .ensures),
+      c .enum-told .given .1,
+    )
 
 pub key-end-spec : {M : Type 1} → statement M
 key-end-spec =

@@ -16,7 +16,11 @@ same-length c = search needs
 
 returns : tie.Need-returns
 unfolding text-end
-returns c = rw (text-end, ← (c .before .before .before .before .before .is-key .ensures), c .before .before .before .before .if1 .taken) (c .before .before .key-end .ensures)
+returns c =
+    let at-key-end = c .before .before in
+    let at-if1 = at-key-end .before .before in
+    let at-is-key = at-if1 .before in
+    rw (text-end, ← (at-is-key .is-key .ensures), at-if1 .if1 .taken) (at-key-end .key-end .ensures)
 
 returns-2 : tie.Need-returns-2
 unfolding text-end

@@ -25,7 +25,19 @@ same-length c = search needs
 
 returns : tie.Need-returns
 unfolding key-close
-returns c = rw (key-close, ← (c .before .before .before .before .before .container-at .ensures), ← (c .before .before .before .before .parent-of .ensures), ← (c .before .before .before .nothing-open .ensures), c .before .before .if1 .taken, c .to .ensures)
+returns c =
+    let at-if1 = c .before .before in
+    let at-nothing-open = at-if1 .before in
+    let at-parent-of = at-nothing-open .before in
+    let at-container-at = at-parent-of .before in
+    rw (
+      key-close,
+      ← (at-container-at .container-at .ensures),
+      ← (at-parent-of .parent-of .ensures),
+      ← (at-nothing-open .nothing-open .ensures),
+      at-if1 .if1 .taken,
+      c .to .ensures,
+    )
 
 close-requires : tie.Need-close-requires
 close-requires c κs = search needs
@@ -35,7 +47,22 @@ same-length-2 c = search needs
 
 returns-2 : tie.Need-returns-2
 unfolding key-close
-returns-2 c = rw (key-close, ← (c .before .before .before .before .before .before .before .container-at .ensures), ← (c .before .before .before .before .before .before .parent-of .ensures), ← (c .before .before .before .before .before .nothing-open .ensures), c .before .before .before .before .if1 .left, c .before .before .close .ensures, c .before .before .before .before .before .before .parent-of .ensures, c .before .before .before .before .before .before .before .container-at .ensures)
+returns-2 c =
+    let at-close = c .before .before in
+    let at-if1 = at-close .before .before in
+    let at-nothing-open = at-if1 .before in
+    let at-parent-of = at-nothing-open .before in
+    let at-container-at = at-parent-of .before in
+    rw (
+      key-close,
+      ← (at-container-at .container-at .ensures),
+      ← (at-parent-of .parent-of .ensures),
+      ← (at-nothing-open .nothing-open .ensures),
+      at-if1 .if1 .left,
+      at-close .close .ensures,
+      at-parent-of .parent-of .ensures,
+      at-container-at .container-at .ensures,
+    )
 
 pub key-close-spec : {M : Type 1} → statement M
 key-close-spec =

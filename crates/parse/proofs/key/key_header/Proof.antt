@@ -36,28 +36,52 @@ same-length c = search needs
 
 returns : tie.Need-returns
 unfolding key-header token-in token-at
-returns c = rw (key-header, ← (c .before .before .before .before .before .before .before .before .less .ensures), ← (c .before .before .before .before .before .before .before .token .ensures), ← (c .before .before .before .before .before .before .standing .ensures), c .before .before .before .before .enum-told .given .1) (c .before .before .open-header .ensures)
+returns c =
+    let at-open-header = c .before .before in
+    let at-enum-told = at-open-header .before .before in
+    let at-standing = at-enum-told .before .before in
+    let at-token = at-standing .before in
+    let at-less = at-token .before in
+    rw (
+      key-header,
+      ← (at-less .less .ensures),
+      ← (at-token .token .ensures),
+      ← (at-standing .standing .ensures),
+      at-enum-told .enum-told .given .1,
+    ) (at-open-header .open-header .ensures)
 
 same-length-2 : tie.Need-same-length-2
 same-length-2 c = search needs
 
 returns-2 : tie.Need-returns-2
 unfolding key-header token-in token-at
-returns-2 c = rw (key-header, ← (c .before .before .before .before .less .ensures), ← (c .before .before .before .token .ensures), ← (c .before .before .standing .ensures), c .enum-told2 .given .1)
+returns-2 c =
+    let at-standing = c .before .before in
+    let at-token = at-standing .before in
+    let at-less = at-token .before in
+    rw (key-header, ← (at-less .less .ensures), ← (at-token .token .ensures), ← (at-standing .standing .ensures), c .enum-told2 .given .1)
 
 same-length-3 : tie.Need-same-length-3
 same-length-3 c = search needs
 
 returns-3 : tie.Need-returns-3
 unfolding key-header token-in token-at
-returns-3 c = rw (key-header, ← (c .before .before .before .before .less .ensures), ← (c .before .before .before .token .ensures), ← (c .before .before .standing .ensures), c .enum-told3 .given .1)
+returns-3 c =
+    let at-standing = c .before .before in
+    let at-token = at-standing .before in
+    let at-less = at-token .before in
+    rw (key-header, ← (at-less .less .ensures), ← (at-token .token .ensures), ← (at-standing .standing .ensures), c .enum-told3 .given .1)
 
 same-length-4 : tie.Need-same-length-4
 same-length-4 c = search needs
 
 returns-4 : tie.Need-returns-4
 unfolding key-header token-in token-at
-returns-4 c = rw (key-header, ← (c .before .before .before .before .less .ensures), ← (c .before .before .before .token .ensures), ← (c .before .before .standing .ensures), c .enum-told4 .given .1)
+returns-4 c =
+    let at-standing = c .before .before in
+    let at-token = at-standing .before in
+    let at-less = at-token .before in
+    rw (key-header, ← (at-less .less .ensures), ← (at-token .token .ensures), ← (at-standing .standing .ensures), c .enum-told4 .given .1)
 
 pub key-header-spec : {M : Type 1} → statement M
 key-header-spec =

@@ -1,7 +1,7 @@
 -- `parse::key::key_turn` meets its contract, by what the byte is in Key.
 -- Assumes nothing.
 use borrow.Author.Needs.{needs}
-use Rattle.parse.specs.ParseOpen.{entry}
+use Rattle.parse.specs.Step.{entry}
 use Rattle.parse.specs.Key.{key-turn}
 use Rattle.parse.proofs.key.key_turn.Statement.{statement}
 use Rattle.parse.proofs.key.key_turn.Tie as tie
@@ -38,21 +38,51 @@ same-length c = search needs
 
 returns : tie.Need-returns
 unfolding key-turn
-returns c = rw (key-turn, ← (c .before .before .before .before .before .before .before .byte-at .ensures), ← (c .before .before .before .before .before .before .key-byte .ensures), c .before .before .before .before .enum-told .given .1) (c .before .before .key-close .ensures)
+returns c =
+    let at-key-close = c .before .before in
+    let at-enum-told = at-key-close .before .before in
+    let at-key-byte = at-enum-told .before .before in
+    let at-byte-at = at-key-byte .before in
+    rw (
+      key-turn,
+      ← (at-byte-at .byte-at .ensures),
+      ← (at-key-byte .key-byte .ensures),
+      at-enum-told .enum-told .given .1,
+    ) (at-key-close .key-close .ensures)
 
 same-length-2 : tie.Need-same-length-2
 same-length-2 c = search needs
 
 returns-2 : tie.Need-returns-2
 unfolding key-turn
-returns-2 c = rw (key-turn, ← (c .before .before .before .before .before .before .before .byte-at .ensures), ← (c .before .before .before .before .before .before .key-byte .ensures), c .before .before .before .before .enum-told2 .given .1) (c .before .before .key-brace .ensures)
+returns-2 c =
+    let at-key-brace = c .before .before in
+    let at-enum-told2 = at-key-brace .before .before in
+    let at-key-byte = at-enum-told2 .before .before in
+    let at-byte-at = at-key-byte .before in
+    rw (
+      key-turn,
+      ← (at-byte-at .byte-at .ensures),
+      ← (at-key-byte .key-byte .ensures),
+      at-enum-told2 .enum-told2 .given .1,
+    ) (at-key-brace .key-brace .ensures)
 
 same-length-3 : tie.Need-same-length-3
 same-length-3 c = search needs
 
 returns-3 : tie.Need-returns-3
 unfolding key-turn
-returns-3 c = rw (key-turn, ← (c .before .before .before .before .before .before .before .byte-at .ensures), ← (c .before .before .before .before .before .before .key-byte .ensures), c .before .before .before .before .enum-told3 .given .1) (c .before .before .parameter .ensures)
+returns-3 c =
+    let at-parameter = c .before .before in
+    let at-enum-told3 = at-parameter .before .before in
+    let at-key-byte = at-enum-told3 .before .before in
+    let at-byte-at = at-key-byte .before in
+    rw (
+      key-turn,
+      ← (at-byte-at .byte-at .ensures),
+      ← (at-key-byte .key-byte .ensures),
+      at-enum-told3 .enum-told3 .given .1,
+    ) (at-parameter .parameter .ensures)
 
 returns-4 : tie.Need-returns-4
 unfolding key-turn entry

@@ -30,7 +30,22 @@ same-length c = search needs
 
 returns : tie.Need-returns
 unfolding open-header token-in token-at
-returns c = rw (open-header, c .before .before .lay .ensures, c .before .before .before .opener .ensures, c .before .before .before .before .before .before .before .put .ensures .1, c .before .before .before .before .before .before .before .before .before .as-header .ensures, c .before .before .before .before .before .before .before .before .before .before .token .ensures, c .before .before .before .before .before .before .before .before .before .before .before .before .less .ensures)
+returns c =
+    let at-lay = c .before .before in
+    let at-opener = at-lay .before in
+    let at-put = at-opener .before .before .before .before in
+    let at-as-header = at-put .before .before in
+    let at-token = at-as-header .before in
+    let at-less = at-token .before .before in
+    rw (
+      open-header,
+      at-lay .lay .ensures,
+      at-opener .opener .ensures,
+      at-put .put .ensures .1,
+      at-as-header .as-header .ensures,
+      at-token .token .ensures,
+      at-less .less .ensures,
+    )
 
 pub open-header-spec : {M : Type 1} → statement M
 open-header-spec =

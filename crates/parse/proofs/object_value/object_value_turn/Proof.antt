@@ -2,7 +2,7 @@
 -- Assumes nothing.
 use borrow.Author.Needs.{needs}
 use borrow.Author.Tests.{eq-eqb, ne-eqb}
-use Rattle.parse.specs.ParseOpen.{entry}
+use Rattle.parse.specs.Step.{entry}
 use Rattle.parse.specs.ObjectValue.{object-value-turn}
 use Rattle.parse.proofs.object_value.object_value_turn.Statement.{statement}
 use Rattle.parse.proofs.object_value.object_value_turn.Tie as tie
@@ -18,15 +18,25 @@ same-length c = search needs
 
 returns : tie.Need-returns
 unfolding object-value-turn
-returns c = rw (object-value-turn, ← (c .before .before .before .before .before .byte-at .ensures), eq-eqb _ _ (c .before .before .before .before .if1 .taken)) (c .before .before .open-then .ensures)
+returns c =
+    let at-open-then = c .before .before in
+    let at-if1 = at-open-then .before .before in
+    let at-byte-at = at-if1 .before in
+    rw (object-value-turn, ← (at-byte-at .byte-at .ensures), eq-eqb _ _ (at-if1 .if1 .taken)) (at-open-then .open-then .ensures)
 
 returns-2 : tie.Need-returns-2
 unfolding object-value-turn
-returns-2 c = rw (object-value-turn, ← (c .before .before .byte-at .ensures), ne-eqb _ _ (c .before .if1 .left), ← (c .before .before .byte-at .ensures), eq-eqb _ _ (c .if2 .taken))
+returns-2 c =
+    let at-if1 = c .before in
+    let at-byte-at = at-if1 .before in
+    rw (object-value-turn, ← (at-byte-at .byte-at .ensures), ne-eqb _ _ (at-if1 .if1 .left), ← (at-byte-at .byte-at .ensures), eq-eqb _ _ (c .if2 .taken))
 
 returns-3 : tie.Need-returns-3
 unfolding object-value-turn entry
-returns-3 c = rw (object-value-turn, ← (c .before .before .byte-at .ensures), ne-eqb _ _ (c .before .if1 .left), ← (c .before .before .byte-at .ensures), ne-eqb _ _ (c .if2 .left))
+returns-3 c =
+    let at-if1 = c .before in
+    let at-byte-at = at-if1 .before in
+    rw (object-value-turn, ← (at-byte-at .byte-at .ensures), ne-eqb _ _ (at-if1 .if1 .left), ← (at-byte-at .byte-at .ensures), ne-eqb _ _ (c .if2 .left))
 
 pub object-value-turn-spec : {M : Type 1} → statement M
 object-value-turn-spec =

@@ -33,7 +33,19 @@ same-length c = search needs
 
 returns-2 : tie.Need-returns-2
 unfolding parameter
-returns-2 c = rw (parameter, ← (c .before .before .before .before .before .before .before .byte-at .ensures), eq-eqb _ _ (c .before .before .before .before .before .before .if1 .left), ← (c .before .before .before .before .before .byte-at2 .ensures), eq-eqb _ _ (c .before .before .before .before .if2 .taken)) (c .before .before .parameter-name .ensures)
+returns-2 c =
+    let at-parameter-name = c .before .before in
+    let at-if2 = at-parameter-name .before .before in
+    let at-byte-at2 = at-if2 .before in
+    let at-if1 = at-byte-at2 .before in
+    let at-byte-at = at-if1 .before in
+    rw (
+      parameter,
+      ← (at-byte-at .byte-at .ensures),
+      eq-eqb _ _ (at-if1 .if1 .left),
+      ← (at-byte-at2 .byte-at2 .ensures),
+      eq-eqb _ _ (at-if2 .if2 .taken),
+    ) (at-parameter-name .parameter-name .ensures)
 
 add-parameter-name-2 : tie.Need-add-parameter-name-2
 add-parameter-name-2 c = search needs
@@ -46,7 +58,19 @@ same-length-2 c = search needs
 
 returns-3 : tie.Need-returns-3
 unfolding parameter
-returns-3 c = rw (parameter, ← (c .before .before .before .before .before .before .before .byte-at .ensures), eq-eqb _ _ (c .before .before .before .before .before .before .if1 .left), ← (c .before .before .before .before .before .byte-at2 .ensures), ne-eqb _ _ (c .before .before .before .before .if2 .left)) (c .before .before .parameter-name2 .ensures)
+returns-3 c =
+    let at-parameter-name2 = c .before .before in
+    let at-if2 = at-parameter-name2 .before .before in
+    let at-byte-at2 = at-if2 .before in
+    let at-if1 = at-byte-at2 .before in
+    let at-byte-at = at-if1 .before in
+    rw (
+      parameter,
+      ← (at-byte-at .byte-at .ensures),
+      eq-eqb _ _ (at-if1 .if1 .left),
+      ← (at-byte-at2 .byte-at2 .ensures),
+      ne-eqb _ _ (at-if2 .if2 .left),
+    ) (at-parameter-name2 .parameter-name2 .ensures)
 
 pub parameter-spec : {M : Type 1} → statement M
 parameter-spec =

@@ -3,9 +3,7 @@
 use borrow.Author.Needs.{needs}
 use borrow.Author.Tests.{le-ltb, lt-ltb}
 use native.Mathlib.Omega.{arith}
-use mathlib.Core.Path.{_∙_}
 use denote.Ref.{now}
-use Rattle.parse.proofs.Tables.{run-end-lent}
 use Rattle.cut.proofs.Runs.{run-end-run}
 use Rattle.parse.specs.Parameter.{parameter-name}
 use Rattle.parse.proofs.parameter.parameter_name.Statement.{statement}
@@ -15,19 +13,27 @@ returns : tie.Need-returns
 unfolding parameter-name
 returns c = rw (parameter-name, le-ltb _ _ (c .if1 .taken))
 
-run-end-requires : tie.Need-run-end-requires
-run-end-requires c κs = search needs
+run-from-requires : tie.Need-run-from-requires
+run-from-requires c κs = search needs
 
 parameter-named-requires : tie.Need-parameter-named-requires
-parameter-named-requires c κs = let e = run-end-run (now (c .before .before .before .before .before .args .text)) (c .before .before .before .before .before .args .start) (c .before .before .if1 .left) in let h = c .before .run-end .ensures ∙ run-end-lent (now (c .before .before .before .before .before .args .table)) (now (c .before .before .before .before .before .args .text)) (c .before .before .before .before .before .args .start) (c .before .before .before .before .before .pre .1) in (c .before .before .before .before .before .pre .0, c .before .before .before .before .before .pre .1, omega (arith, e .moves, h), omega (arith, e .within, h))
+parameter-named-requires c κs =
+    let at-run = c .before in
+    let at-test = at-run .before in
+    let at-start = at-test .before .before .before in
+    let h = at-run .run-from .ensures in
+    let e = run-end-run (now (at-start .args .text)) (at-start .args .start) (at-test .if1 .left) in
+    (at-start .pre .0, at-start .pre .1, omega (arith, e .moves, h), omega (arith, e .within, h))
 
 same-length : tie.Need-same-length
 same-length c = search needs
 
 returns-2 : tie.Need-returns-2
 unfolding parameter-name
-returns-2 c = rw (parameter-name, lt-ltb _ _ (c .before .before .before .before .before .if1 .left), ← (c .before .before .before .before .run-end .ensures ∙ run-end-lent _ _ _ (c .before .before .before .before .before .before .before .before .pre .1))) (c .before .before .parameter-named .ensures)
+returns-2 c =
+    let at-run = c .before .before .before .before in
+    rw (parameter-name, lt-ltb _ _ (at-run .before .if1 .left), ← (at-run .run-from .ensures)) (c .before .before .parameter-named .ensures)
 
 pub parameter-name-spec : {M : Type 1} → statement M
 parameter-name-spec =
-    tie.close (tie.spec returns run-end-requires parameter-named-requires same-length returns-2)
+    tie.close (tie.spec returns run-from-requires parameter-named-requires same-length returns-2)

@@ -23,7 +23,12 @@ same-length c = search needs
 
 returns : tie.Need-returns
 unfolding value-or-object
-returns c = rw (value-or-object, ← (c .before .before .before .before .before .before .byte-at .ensures), eq-eqb _ _ (c .before .before .before .before .before .if1 .taken), c .before .before .lay .ensures, c .before .before .before .viewed .ensures)
+returns c =
+    let at-lay = c .before .before in
+    let at-viewed = at-lay .before in
+    let at-if1 = at-viewed .before .before in
+    let at-byte-at = at-if1 .before in
+    rw (value-or-object, ← (at-byte-at .byte-at .ensures), eq-eqb _ _ (at-if1 .if1 .taken), at-lay .lay .ensures, at-viewed .viewed .ensures)
 
 parameter-object-requires : tie.Need-parameter-object-requires
 parameter-object-requires c κs = search needs
@@ -33,7 +38,11 @@ same-length-2 c = search needs
 
 returns-2 : tie.Need-returns-2
 unfolding value-or-object
-returns-2 c = rw (value-or-object, ← (c .before .before .before .before .before .byte-at .ensures), ne-eqb _ _ (c .before .before .before .before .if1 .left)) (c .before .before .parameter-object .ensures)
+returns-2 c =
+    let at-parameter-object = c .before .before in
+    let at-if1 = at-parameter-object .before .before in
+    let at-byte-at = at-if1 .before in
+    rw (value-or-object, ← (at-byte-at .byte-at .ensures), ne-eqb _ _ (at-if1 .if1 .left)) (at-parameter-object .parameter-object .ensures)
 
 pub value-or-object-spec : {M : Type 1} → statement M
 value-or-object-spec =

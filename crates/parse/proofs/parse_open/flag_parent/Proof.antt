@@ -30,14 +30,32 @@ same-length c = search needs
 
 returns-2 : tie.Need-returns-2
 unfolding flag-parent
-returns-2 c = rw (flag-parent, not-false (c .before .before .before .before .before .before .before .before .before .before .before .before .args .m .mixed) (c .before .before .before .before .before .before .before .before .before .before .if1 .left), ← (c .before .before .before .before .before .before .before .before .container-at .ensures), c .before .before .before .before .before .before .kind .given .1, c .before .before .put .ensures .1, c .before .before .before .opener .ensures)
+returns-2 c =
+    let at-put = c .before .before in
+    let at-opener = at-put .before in
+    let at-kind = at-opener .before .before .before in
+    let at-container-at = at-kind .before .before in
+    let at-if1 = at-container-at .before .before in
+    let at-start = at-if1 .before .before in
+    rw (
+      flag-parent,
+      not-false (at-start .args .m .mixed) (at-if1 .if1 .left),
+      ← (at-container-at .container-at .ensures),
+      at-kind .kind .given .1,
+      at-put .put .ensures .1,
+      at-opener .opener .ensures,
+    )
 
 same-length-2 : tie.Need-same-length-2
 same-length-2 c = search needs
 
 returns-3 : tie.Need-returns-3
 unfolding flag-parent
-returns-3 c = rw (flag-parent, not-false (c .before .before .before .before .before .before .args .m .mixed) (c .before .before .before .before .if1 .left), ← (c .before .before .container-at .ensures), c .enum-told .given .1)
+returns-3 c =
+    let at-container-at = c .before .before in
+    let at-if1 = at-container-at .before .before in
+    let at-start = at-if1 .before .before in
+    rw (flag-parent, not-false (at-start .args .m .mixed) (at-if1 .if1 .left), ← (at-container-at .container-at .ensures), c .enum-told .given .1)
 
 pub flag-parent-spec : {M : Type 1} → statement M
 flag-parent-spec =

@@ -22,11 +22,40 @@ returns-3 c = rw (follows-key, among, ne-eqb _ _ (c .before .before .if1 .left),
 
 returns-4 : tie.Need-returns-4
 unfolding follows-key
-returns-4 c = rw (follows-key, among, ne-eqb _ _ (c .before .before .before .if1 .left), among, ne-eqb _ _ (c .before .before .if2 .left), among, ne-eqb _ _ (c .before .if3 .left), among, eq-eqb _ _ (c .if4 .taken))
+returns-4 c =
+    let at-if3 = c .before in
+    let at-if2 = at-if3 .before in
+    let at-if1 = at-if2 .before in
+    rw (
+      follows-key,
+      among,
+      ne-eqb _ _ (at-if1 .if1 .left),
+      among,
+      ne-eqb _ _ (at-if2 .if2 .left),
+      among,
+      ne-eqb _ _ (at-if3 .if3 .left),
+      among,
+      eq-eqb _ _ (c .if4 .taken),
+    )
 
 returns-5 : tie.Need-returns-5
 unfolding follows-key
-returns-5 c = rw (follows-key, among, ne-eqb _ _ (c .before .before .before .if1 .left), among, ne-eqb _ _ (c .before .before .if2 .left), among, ne-eqb _ _ (c .before .if3 .left), among, ne-eqb _ _ (c .if4 .left)) (among-one (c .before .before .before .before .args .b) exclamation)
+returns-5 c =
+    let at-if3 = c .before in
+    let at-if2 = at-if3 .before in
+    let at-if1 = at-if2 .before in
+    let at-start = at-if1 .before in
+    rw (
+      follows-key,
+      among,
+      ne-eqb _ _ (at-if1 .if1 .left),
+      among,
+      ne-eqb _ _ (at-if2 .if2 .left),
+      among,
+      ne-eqb _ _ (at-if3 .if3 .left),
+      among,
+      ne-eqb _ _ (c .if4 .left),
+    ) (among-one (at-start .args .b) exclamation)
 
 pub follows-key-spec : {M : Type 1} → statement M
 follows-key-spec = tie.close (tie.spec returns returns-2 returns-3 returns-4 returns-5)

@@ -32,7 +32,21 @@ same-length c = search needs
 
 returns-2 : tie.Need-returns-2
 unfolding open-as
-returns-2 c = rw (open-as, ← (c .before .before .before .before .before .before .before .before .before .before .skip-ws-t .ensures), c .before .before .before .before .before .before .before .before .p .given .1, ← (c .before .before .before .before .before .before .byte-at .ensures), ← (c .before .before .before .before .before .follows-key .ensures), c .before .before .before .before .if1 .taken) (c .before .before .settle .ensures)
+returns-2 c =
+    let at-settle = c .before .before in
+    let at-if1 = at-settle .before .before in
+    let at-follows-key = at-if1 .before in
+    let at-byte-at = at-follows-key .before in
+    let at-p = at-byte-at .before .before in
+    let at-skip-ws-t = at-p .before .before in
+    rw (
+      open-as,
+      ← (at-skip-ws-t .skip-ws-t .ensures),
+      at-p .p .given .1,
+      ← (at-byte-at .byte-at .ensures),
+      ← (at-follows-key .follows-key .ensures),
+      at-if1 .if1 .taken,
+    ) (at-settle .settle .ensures)
 
 settle-requires-2 : tie.Need-settle-requires-2
 settle-requires-2 c κs = search needs
@@ -42,7 +56,21 @@ same-length-2 c = search needs
 
 returns-3 : tie.Need-returns-3
 unfolding open-as
-returns-3 c = rw (open-as, ← (c .before .before .before .before .before .before .before .before .before .before .skip-ws-t .ensures), c .before .before .before .before .before .before .before .before .p .given .1, ← (c .before .before .before .before .before .before .byte-at .ensures), ← (c .before .before .before .before .before .follows-key .ensures), c .before .before .before .before .if1 .left) (c .before .before .settle2 .ensures)
+returns-3 c =
+    let at-settle2 = c .before .before in
+    let at-if1 = at-settle2 .before .before in
+    let at-follows-key = at-if1 .before in
+    let at-byte-at = at-follows-key .before in
+    let at-p = at-byte-at .before .before in
+    let at-skip-ws-t = at-p .before .before in
+    rw (
+      open-as,
+      ← (at-skip-ws-t .skip-ws-t .ensures),
+      at-p .p .given .1,
+      ← (at-byte-at .byte-at .ensures),
+      ← (at-follows-key .follows-key .ensures),
+      at-if1 .if1 .left,
+    ) (at-settle2 .settle2 .ensures)
 
 pub open-as-spec : {M : Type 1} → statement M
 open-as-spec =

@@ -29,14 +29,29 @@ byte-at-requires : tie.Need-byte-at-requires
 byte-at-requires c κs = search needs
 
 add-to : tie.Need-add-to
-add-to c = let h = skip-lands _ _ _ (sym (c .before .before .before .before .before .skip-ws-t .ensures) ∙ c .before .before .before .p .given .1) in omega (arith, h .within)
+add-to c =
+    let at-p = c .before .before .before in
+    let at-skip-ws-t = at-p .before .before in
+    let h = skip-lands _ _ _ (sym (at-skip-ws-t .skip-ws-t .ensures) ∙ at-p .p .given .1) in omega (arith, h .within)
 
 to-requires : tie.Need-to-requires
 to-requires c κs = search needs
 
 returns-2 : tie.Need-returns-2
 unfolding open-brace
-returns-2 c = rw (open-brace, ← (c .before .before .before .before .before .before .skip-ws-t .ensures), c .before .before .before .before .p .given .1, ← (c .before .before .byte-at .ensures), eq-eqb _ _ (c .before .if1 .taken), c .to .ensures)
+returns-2 c =
+    let at-if1 = c .before in
+    let at-byte-at = at-if1 .before in
+    let at-p = at-byte-at .before .before in
+    let at-skip-ws-t = at-p .before .before in
+    rw (
+      open-brace,
+      ← (at-skip-ws-t .skip-ws-t .ensures),
+      at-p .p .given .1,
+      ← (at-byte-at .byte-at .ensures),
+      eq-eqb _ _ (at-if1 .if1 .taken),
+      c .to .ensures,
+    )
 
 settle-requires : tie.Need-settle-requires
 settle-requires c κs = search needs
@@ -46,7 +61,19 @@ same-length c = search needs
 
 returns-3 : tie.Need-returns-3
 unfolding open-brace
-returns-3 c = rw (open-brace, ← (c .before .before .before .before .before .before .before .before .before .skip-ws-t .ensures), c .before .before .before .before .before .before .before .p .given .1, ← (c .before .before .before .before .before .byte-at .ensures), ne-eqb _ _ (c .before .before .before .before .if1 .left)) (c .before .before .settle .ensures)
+returns-3 c =
+    let at-settle = c .before .before in
+    let at-if1 = at-settle .before .before in
+    let at-byte-at = at-if1 .before in
+    let at-p = at-byte-at .before .before in
+    let at-skip-ws-t = at-p .before .before in
+    rw (
+      open-brace,
+      ← (at-skip-ws-t .skip-ws-t .ensures),
+      at-p .p .given .1,
+      ← (at-byte-at .byte-at .ensures),
+      ne-eqb _ _ (at-if1 .if1 .left),
+    ) (at-settle .settle .ensures)
 
 pub open-brace-spec : {M : Type 1} → statement M
 open-brace-spec =

@@ -32,14 +32,30 @@ same-length c = search needs
 
 returns : tie.Need-returns
 unfolding open-empty close-at
-returns c = rw (open-empty, close-at, ← (c .before .before .before .before .before .before .before .before .less .ensures), ← (c .before .before .before .before .before .before .before .close-at .ensures), c .before .before .before .count .given .1, c .resumed .ensures, c .before .before .before .before .before .before .before .before .before .before .container-at .ensures)
+returns c =
+    let at-count = c .before .before .before in
+    let at-close-at = at-count .before .before .before .before in
+    let at-less = at-close-at .before in
+    let at-container-at = at-less .before .before in
+    rw (
+      open-empty,
+      close-at,
+      ← (at-less .less .ensures),
+      ← (at-close-at .close-at .ensures),
+      at-count .count .given .1,
+      c .resumed .ensures,
+      at-container-at .container-at .ensures,
+    )
 
 same-length-2 : tie.Need-same-length-2
 same-length-2 c = search needs
 
 returns-2 : tie.Need-returns-2
 unfolding open-empty close-at
-returns-2 c = rw (open-empty, close-at, ← (c .before .before .before .before .before .less .ensures), ← (c .before .before .before .before .close-at .ensures), c .enum-told .given .1)
+returns-2 c =
+    let at-close-at = c .before .before .before .before in
+    let at-less = at-close-at .before in
+    rw (open-empty, close-at, ← (at-less .less .ensures), ← (at-close-at .close-at .ensures), c .enum-told .given .1)
 
 pub open-empty-spec : {M : Type 1} → statement M
 open-empty-spec =

@@ -22,14 +22,31 @@ within-requires : tie.Need-within-requires
 within-requires c κs = search needs
 
 parameter-requires : tie.Need-parameter-requires
-parameter-requires c κs = (c .before .before .before .before .before .before .before .before .before .before .before .pre .0, c .before .before .before .before .before .before .before .before .before .before .before .pre .1, rw (c .within .ensures) (c .before .before .before .before .before .before .before .before .before .before .before .pre .2))
+parameter-requires c κs =
+    let at-start = c .before .before .before .before .before .before .before .before .before .before .before in
+    (at-start .pre .0, at-start .pre .1, rw (c .within .ensures) (at-start .pre .2))
 
 same-length : tie.Need-same-length
 same-length c = search needs
 
 returns-2 : tie.Need-returns-2
 unfolding open-parameter
-returns-2 c = rw (open-parameter, c .before .before .before .before .before .before .before .before .before .before .before .if1 .left, c .before .before .parameter .ensures, c .before .before .before .within .ensures, c .before .before .before .before .before .before .before .put .ensures .1, c .before .before .before .before .before .before .before .before .opener .ensures, c .before .before .before .before .before .before .before .before .before .before .less .ensures)
+returns-2 c =
+    let at-parameter = c .before .before in
+    let at-within = at-parameter .before in
+    let at-put = at-within .before .before .before .before in
+    let at-opener = at-put .before in
+    let at-less = at-opener .before .before in
+    let at-if1 = at-less .before in
+    rw (
+      open-parameter,
+      at-if1 .if1 .left,
+      at-parameter .parameter .ensures,
+      at-within .within .ensures,
+      at-put .put .ensures .1,
+      at-opener .opener .ensures,
+      at-less .less .ensures,
+    )
 
 pub open-parameter-spec : {M : Type 1} → statement M
 open-parameter-spec =

@@ -1,7 +1,8 @@
 -- `parse::parse_open::parse_open_turn` meets its contract, by what the byte is in ParseOpen.
 -- Assumes nothing.
 use borrow.Author.Needs.{needs}
-use Rattle.parse.specs.ParseOpen.{open-scalar, entry, parse-open-turn}
+use Rattle.parse.specs.ParseOpen.{parse-open-turn}
+use Rattle.parse.specs.Step.{entry}
 use Rattle.parse.proofs.parse_open.parse_open_turn.Statement.{statement}
 use Rattle.parse.proofs.parse_open.parse_open_turn.Tie as tie
 
@@ -37,24 +38,54 @@ same-length c = search needs
 
 returns : tie.Need-returns
 unfolding parse-open-turn
-returns c = rw (parse-open-turn, ← (c .before .before .before .before .before .before .before .byte-at .ensures), ← (c .before .before .before .before .before .before .open-byte .ensures), c .before .before .before .before .enum-told .given .1) (c .before .before .open-empty .ensures)
+returns c =
+    let at-open-empty = c .before .before in
+    let at-enum-told = at-open-empty .before .before in
+    let at-open-byte = at-enum-told .before .before in
+    let at-byte-at = at-open-byte .before in
+    rw (
+      parse-open-turn,
+      ← (at-byte-at .byte-at .ensures),
+      ← (at-open-byte .open-byte .ensures),
+      at-enum-told .enum-told .given .1,
+    ) (at-open-empty .open-empty .ensures)
 
 same-length-2 : tie.Need-same-length-2
 same-length-2 c = search needs
 
 returns-2 : tie.Need-returns-2
 unfolding parse-open-turn
-returns-2 c = rw (parse-open-turn, ← (c .before .before .before .before .before .before .before .byte-at .ensures), ← (c .before .before .before .before .before .before .open-byte .ensures), c .before .before .before .before .enum-told2 .given .1) (c .before .before .open-parameter .ensures)
+returns-2 c =
+    let at-open-parameter = c .before .before in
+    let at-enum-told2 = at-open-parameter .before .before in
+    let at-open-byte = at-enum-told2 .before .before in
+    let at-byte-at = at-open-byte .before in
+    rw (
+      parse-open-turn,
+      ← (at-byte-at .byte-at .ensures),
+      ← (at-open-byte .open-byte .ensures),
+      at-enum-told2 .enum-told2 .given .1,
+    ) (at-open-parameter .open-parameter .ensures)
 
 same-length-3 : tie.Need-same-length-3
 same-length-3 c = search needs
 
 returns-3 : tie.Need-returns-3
 unfolding parse-open-turn
-returns-3 c = rw (parse-open-turn, ← (c .before .before .before .before .before .before .before .byte-at .ensures), ← (c .before .before .before .before .before .before .open-byte .ensures), c .before .before .before .before .enum-told3 .given .1) (c .before .before .open-brace .ensures)
+returns-3 c =
+    let at-open-brace = c .before .before in
+    let at-enum-told3 = at-open-brace .before .before in
+    let at-open-byte = at-enum-told3 .before .before in
+    let at-byte-at = at-open-byte .before in
+    rw (
+      parse-open-turn,
+      ← (at-byte-at .byte-at .ensures),
+      ← (at-open-byte .open-byte .ensures),
+      at-enum-told3 .enum-told3 .given .1,
+    ) (at-open-brace .open-brace .ensures)
 
 returns-4 : tie.Need-returns-4
-unfolding parse-open-turn entry open-scalar
+unfolding parse-open-turn entry
 returns-4 c = rw (parse-open-turn, ← (c .before .before .before .byte-at .ensures), ← (c .before .before .open-byte .ensures), c .enum-told4 .given .1)
 
 pub parse-open-turn-spec : {M : Type 1} → statement M

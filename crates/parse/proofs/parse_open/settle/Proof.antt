@@ -19,7 +19,11 @@ same-length c = search needs
 
 returns : tie.Need-returns
 unfolding settle
-returns c = rw (settle, c .before .before .put .ensures .1, c .before .before .before .opener .ensures, c .before .before .before .before .before .less .ensures)
+returns c =
+    let at-put = c .before .before in
+    let at-opener = at-put .before in
+    let at-less = at-opener .before .before in
+    rw (settle, at-put .put .ensures .1, at-opener .opener .ensures, at-less .less .ensures)
 
 pub settle-spec : {M : Type 1} → statement M
 settle-spec = tie.close (tie.spec less-requires opener-requires put-requires same-length returns)

@@ -11,6 +11,9 @@ insert-mixed-requires c κs = search needs
 enum-known-count : tie.Need-enum-known-count
 enum-known-count c = search needs
 
+mixed-on-requires : tie.Need-mixed-on-requires
+mixed-on-requires c κs = search needs
+
 enum-told : tie.Need-enum-told
 enum-told c = search needs
 
@@ -19,7 +22,10 @@ same-length c = search needs
 
 returns : tie.Need-returns
 unfolding mix-then
-returns c = rw (mix-then, ← (c .before .before .before .before .before .insert-mixed .ensures .1), c .before .count .given .1)
+returns c =
+    let at-count = c .before .before in
+    let at-insert = at-count .before .before .before .before in
+    rw (mix-then, ← (at-insert .insert-mixed .ensures .1), at-count .count .given .1, c .mixed-on .ensures)
 
 same-length-2 : tie.Need-same-length-2
 same-length-2 c = search needs
@@ -34,6 +40,7 @@ mix-spec =
     (tie.spec
     insert-mixed-requires
     enum-known-count
+    mixed-on-requires
     enum-told
     same-length
     returns

@@ -32,7 +32,20 @@ same-length c = search needs
 
 returns-2 : tie.Need-returns-2
 unfolding separator-then
-returns-2 c = rw (separator-then, ← (c .before .before .before .before .before .before .before .is-equal .ensures), c .before .before .before .before .before .before .if1 .left, c .before .before .lay .ensures, c .before .before .before .operator .ensures, c .before .before .before .before .number .ensures)
+returns-2 c =
+    let at-lay = c .before .before in
+    let at-operator = at-lay .before in
+    let at-number = at-operator .before in
+    let at-if1 = at-number .before .before in
+    let at-is-equal = at-if1 .before in
+    rw (
+      separator-then,
+      ← (at-is-equal .is-equal .ensures),
+      at-if1 .if1 .left,
+      at-lay .lay .ensures,
+      at-operator .operator .ensures,
+      at-number .number .ensures,
+    )
 
 pub separator-then-spec : {M : Type 1} → statement M
 separator-then-spec =

@@ -25,7 +25,10 @@ enum-known-operator : tie.Need-enum-known-operator
 enum-known-operator c = search needs
 
 separator-then-requires : tie.Need-separator-then-requires
-separator-then-requires c κs = let w = sighted-width _ _ _ _ (sym (c .before .before .before .before .operator-at .ensures) ∙ c .before .before .operator .given .1) in omega (arith, w)
+separator-then-requires c κs =
+    let at-operator = c .before .before in
+    let at-operator-at = at-operator .before .before in
+    let w = sighted-width _ _ _ _ (sym (at-operator-at .operator-at .ensures) ∙ at-operator .operator .given .1) in omega (arith, w)
 
 enum-told : tie.Need-enum-told
 enum-told c = search needs
@@ -35,7 +38,22 @@ to-requires c κs = search needs
 
 returns : tie.Need-returns
 unfolding separator-turn
-returns c = rw (separator-turn, ← (c .before .before .before .before .before .before .byte-at .ensures), ← (c .before .before .before .before .before .byte-at2 .ensures), ← (c .before .before .before .before .operator-at .ensures), c .before .before .enum-told .given .1, ← (c .before .before .before .before .before .before .byte-at .ensures), eq-eqb _ _ (c .before .if1 .taken), c .to .ensures)
+returns c =
+    let at-if1 = c .before in
+    let at-enum-told = at-if1 .before in
+    let at-operator-at = at-enum-told .before .before in
+    let at-byte-at2 = at-operator-at .before in
+    let at-byte-at = at-byte-at2 .before in
+    rw (
+      separator-turn,
+      ← (at-byte-at .byte-at .ensures),
+      ← (at-byte-at2 .byte-at2 .ensures),
+      ← (at-operator-at .operator-at .ensures),
+      at-enum-told .enum-told .given .1,
+      ← (at-byte-at .byte-at .ensures),
+      eq-eqb _ _ (at-if1 .if1 .taken),
+      c .to .ensures,
+    )
 
 mix-requires : tie.Need-mix-requires
 mix-requires c κs = search needs
@@ -45,14 +63,41 @@ same-length c = search needs
 
 returns-2 : tie.Need-returns-2
 unfolding separator-turn
-returns-2 c = rw (separator-turn, ← (c .before .before .before .before .before .before .before .before .before .byte-at .ensures), ← (c .before .before .before .before .before .before .before .before .byte-at2 .ensures), ← (c .before .before .before .before .before .before .before .operator-at .ensures), c .before .before .before .before .before .operator .given .1) (c .before .before .separator-then .ensures)
+returns-2 c =
+    let at-separator-then = c .before .before in
+    let at-operator = at-separator-then .before .before .before in
+    let at-operator-at = at-operator .before .before in
+    let at-byte-at2 = at-operator-at .before in
+    let at-byte-at = at-byte-at2 .before in
+    rw (
+      separator-turn,
+      ← (at-byte-at .byte-at .ensures),
+      ← (at-byte-at2 .byte-at2 .ensures),
+      ← (at-operator-at .operator-at .ensures),
+      at-operator .operator .given .1,
+    ) (at-separator-then .separator-then .ensures)
 
 same-length-2 : tie.Need-same-length-2
 same-length-2 c = search needs
 
 returns-3 : tie.Need-returns-3
 unfolding separator-turn
-returns-3 c = rw (separator-turn, ← (c .before .before .before .before .before .before .before .before .before .byte-at .ensures), ← (c .before .before .before .before .before .before .before .before .byte-at2 .ensures), ← (c .before .before .before .before .before .before .before .operator-at .ensures), c .before .before .before .before .before .enum-told .given .1, ← (c .before .before .before .before .before .before .before .before .before .byte-at .ensures), ne-eqb _ _ (c .before .before .before .before .if1 .left)) (c .before .before .mix .ensures)
+returns-3 c =
+    let at-mix = c .before .before in
+    let at-if1 = at-mix .before .before in
+    let at-enum-told = at-if1 .before in
+    let at-operator-at = at-enum-told .before .before in
+    let at-byte-at2 = at-operator-at .before in
+    let at-byte-at = at-byte-at2 .before in
+    rw (
+      separator-turn,
+      ← (at-byte-at .byte-at .ensures),
+      ← (at-byte-at2 .byte-at2 .ensures),
+      ← (at-operator-at .operator-at .ensures),
+      at-enum-told .enum-told .given .1,
+      ← (at-byte-at .byte-at .ensures),
+      ne-eqb _ _ (at-if1 .if1 .left),
+    ) (at-mix .mix .ensures)
 
 pub separator-turn-spec : {M : Type 1} → statement M
 separator-turn-spec =

@@ -1,0 +1,60 @@
+-- The scalar that is due, taken apart: what stands there, room for its token, and what is left past it.
+-- Assumes nothing.
+use mathlib.Core.Path.{_≡_, refl}
+use mathlib.Core.Bool.{false}
+use mathlib.Core.List.{List}
+use Prim.Native.Nat.{ℕ}
+use Rattle.cut.specs.declared.Cut.{Cut}
+use Rattle.cut.specs.declared.Cut.the-variants as Cuts
+use Rattle.cut.specs.Scalars.{scalar-cut}
+use Rattle.tape.specs.Tape.{Tape, Laying, laid, full, lay}
+use Rattle.parse.specs.declared.machine.State.{State}
+use Rattle.parse.specs.declared.machine.State.the-variants.{Key, KeyValueSeparator, ObjectValue, ParseOpen, ArrayValue}
+use Rattle.parse.specs.declared.machine.Machine.{Machine}
+use Rattle.parse.specs.declared.machine.Refusal.the-variants.{Eof}
+use Rattle.parse.specs.declared.scalars.Scalar.{Scalar}
+use Rattle.parse.specs.declared.scalars.Scalar.the-variants as Found
+use Rattle.parse.specs.Machine.{After, next, refused, and-then, to, or-full, lay-then}
+use Rattle.parse.specs.Scalars.{scalar-found, cut-then, scalar-then}
+use Rattle.parse.specs.ParseOpen.{flag-parent, open-as, open-scalar}
+use Rattle.parse.specs.Step.{is-parse-open, entry, entered}
+
+module _ (text : List ℕ) (m : Machine) where
+  -- what was found is added and passed, or the text ends in it
+  abbrev pub taken : Scalar → State → Tape → After
+  taken (Found.Cut token rest) state t = or-full (lay t (m .count) token) (λ n t′. entered text t′ (to m rest state n))
+  taken Found.End state t = refused Eof
+
+  open-past : (l : Laying) (rest : ℕ)
+      → and-then (or-full l (λ n t′. next (to m rest ParseOpen n) t′)) (λ t′ m′. open-as text (flag-parent t′ m′) m′)
+      ≡ or-full l (λ n t′. entered text t′ (to m rest ParseOpen n))
+  unfolding entered
+  open-past (laid n t) rest = refl
+  open-past full rest = refl
+
+  plain-past : (l : Laying) (rest : ℕ) (state : State) → is-parse-open state ≡ false
+      → or-full l (λ n t′. next (to m rest state n) t′) ≡ or-full l (λ n t′. entered text t′ (to m rest state n))
+  unfolding entered
+  plain-past (laid n t) rest state e = rw (entered, e)
+  plain-past full rest state e = refl
+
+  open-taken : (x : Cut) (t : Tape)
+      → and-then (cut-then x ParseOpen t m) (λ t′ m′. open-as text (flag-parent t′ m′) m′) ≡ taken (scalar-found x) ParseOpen t
+  unfolding lay-then
+  open-taken (Cuts.Unquoted start end rest) t = open-past (lay t (m .count) _) rest
+  open-taken (Cuts.Quoted start end rest) t = open-past (lay t (m .count) _) rest
+  open-taken Cuts.End t = refl
+
+  plain-taken : (x : Cut) (state : State) (t : Tape) → is-parse-open state ≡ false → cut-then x state t m ≡ taken (scalar-found x) state t
+  unfolding lay-then
+  plain-taken (Cuts.Unquoted start end rest) state t e = plain-past (lay t (m .count) _) rest state e
+  plain-taken (Cuts.Quoted start end rest) state t e = plain-past (lay t (m .count) _) rest state e
+  plain-taken Cuts.End state t e = refl
+
+  pub entry-taken : (state : State) (t : Tape) → entry text state t m ≡ taken (scalar-found (scalar-cut text (m .at))) state t
+  unfolding entry open-scalar scalar-then
+  entry-taken Key t = plain-taken (scalar-cut text (m .at)) Key t refl
+  entry-taken KeyValueSeparator t = plain-taken (scalar-cut text (m .at)) KeyValueSeparator t refl
+  entry-taken ObjectValue t = plain-taken (scalar-cut text (m .at)) ObjectValue t refl
+  entry-taken ParseOpen t = open-taken (scalar-cut text (m .at)) t
+  entry-taken ArrayValue t = plain-taken (scalar-cut text (m .at)) ArrayValue t refl

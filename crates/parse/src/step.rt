@@ -1,0 +1,68 @@
+// A step of any state, and the scalar that it leaves due: the states answer that a scalar is due and which state follows,
+// and one place cuts it, so that the cut is compiled into the loop.
+use crate::machine::Machine;
+use crate::machine::Refusal;
+use crate::machine::State;
+use crate::machine::Turn;
+use crate::parse_open::flag_parent;
+use crate::parse_open::open_as;
+use crate::scalars::Scalar;
+use crate::scalars::scalar_at;
+use tape::words;
+use tape::words::Pushed;
+ghost use mathlib.Core.Path.{_≡_};
+ghost use Rattle.tape.specs.Tape.{view};
+ghost use Rattle.parse.specs.Machine.{after};
+ghost use Rattle.parse.specs.Step.{is-parse-open, entered, entry};
+ghost use Rattle.parse.specs.Here.{Lent};
+
+// What a state makes of a byte: a whole turn, or that a scalar is due and the state after it.
+pub enum Step {
+    Turned(Turn),
+    Scalar(State),
+}
+
+// Whether a state is ParseOpen.
+fn is_parse_open(state: State) -> bool
+    ensures { λ r. ⌜ r ≡ is-parse-open state ⌝ }
+{
+    match state {
+        State::Key => false,
+        State::KeyValueSeparator => false,
+        State::ObjectValue => false,
+        State::ParseOpen => true,
+        State::ArrayValue => false,
+    }
+}
+
+// After a scalar: in ParseOpen it is the container's first entry, and the byte behind it decides.
+fn entered(text: &[u8], tape: &mut [u32], m: Machine) -> Turn
+    ensures { λ r. ⌜ after r (now (tape .exit)) ≡ entered (now (text .entry)) (view (now (tape .entry)) (m .count)) m ⌝ }
+{
+    let state = m.state;
+    if is_parse_open(state) {
+        flag_parent(tape, m);
+        return open_as(text, tape, m);
+    }
+    Turn::Next(m)
+}
+
+// Takes the scalar that is due, and goes on past it in a state.
+pub(crate) fn entry(
+    text: &[u8],
+    table: &[u8; data::BYTE_COUNT],
+    tape: &mut [u32],
+    m: Machine,
+    state: State,
+) -> Turn
+    requires { ⌜ Lent (now text) (now table) ⌝ }
+    ensures { λ r. ⌜ after r (now (tape .exit)) ≡ entry (now (text .entry)) state (view (now (tape .entry)) (m .count)) m ⌝ }
+{
+    let Scalar::Cut { token, rest } = scalar_at(text, table, m.at) else {
+        return Turn::Refused(Refusal::Eof);
+    };
+    match words::push(tape, m.count, token) {
+        Pushed::Laid(count) => entered(text, tape, m.to(rest, state, count)),
+        Pushed::Full => Turn::Refused(Refusal::Full),
+    }
+}
