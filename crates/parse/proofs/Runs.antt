@@ -5,8 +5,7 @@ use mathlib.Core.List.{List}
 use Prim.Native.Nat.{ℕ, zero, suc, _+_, _<_}
 use native.Mathlib.Nat.{zero-add, suc-add, not-suc-le-zero}
 use native.Mathlib.Omega.{arith}
-use lib.ListN.{replicate}
-use Rattle.tape.specs.Tape.{Tape, view}
+use Rattle.tape.specs.Tape.{Tape, empty-tape}
 use Rattle.parse.specs.declared.machine.Machine.{Machine}
 use Rattle.parse.specs.declared.machine.Refusal.{Refusal}
 use Rattle.parse.specs.Machine.{After, next, done, refused}
@@ -78,5 +77,5 @@ pub within-enough : (text : List ℕ) (m : Machine) → left text (m .at) (m .st
 within-enough text m = omega (arith, rank-few (m .state))
 
 -- the run that a parse makes has ended, so that `answer` never meets a machine that goes on
-pub parse-ends : (text : List ℕ) (len : ℕ) → Ended (run text (enough text) (next (start (has-bom text)) (view (replicate len 0) 0)))
-parse-ends text len = run-ends text (enough text) (start (has-bom text)) (view (replicate len 0) 0) (within-enough text (start (has-bom text)))
+pub parse-ends : (text : List ℕ) (len : ℕ) → Ended (run text (enough text) (next (start (has-bom text)) (empty-tape len)))
+parse-ends text len = run-ends text (enough text) (start (has-bom text)) (empty-tape len) (within-enough text (start (has-bom text)))

@@ -7,7 +7,7 @@ use lib.ListN.{length, replicate}
 use Rattle.cut.specs.declared.Skipped.the-variants.{At, End}
 use Rattle.cut.specs.Blanks.{skip-ws}
 use Rattle.tape.specs.Words.{padded}
-use Rattle.tape.specs.Tape.{Tape, empty-tape}
+use Rattle.tape.specs.Tape.{Tape, view, empty-tape}
 use Rattle.parse.specs.declared.machine.State.the-variants.{Key, KeyValueSeparator, ObjectValue, ParseOpen, ArrayValue}
 use Rattle.parse.specs.declared.machine.Machine.{Machine}
 use Rattle.parse.specs.declared.machine.Refusal.{Refusal}
