@@ -19,7 +19,7 @@ use Rattle.promises.specs.Demand3.{most-tokens, Demand-3}
 use Rattle.promises.specs.Room.{laid-down}
 use Rattle.promises.proofs.Room.{laid-most}
 use Rattle.promises.proofs.Demand1.{numbered, success-zeroes-past}
-use Rattle.promises.proofs.Demand2.{full-told, parse-full-exactly}
+use Rattle.promises.proofs.Full.{full-told, parse-full-exactly}
 use Rattle.promises.proofs.Links.Parse.{parse-tied}
 use Rattle.promises.proofs.Rising.{parse-viewed}
 

@@ -1,16 +1,7 @@
-pub mod AsRust
 pub mod Cases
 pub mod Demand1
-pub mod Demand2
 pub mod Demand3
 pub mod Mixed
-pub mod PaperF64
 pub mod Reached
 pub mod Room
-pub mod RustCuts
-pub mod RustDomain
-pub mod RustReadings
-pub mod RustReadingsAlike
-pub mod RustRows
-pub mod RustTape
 pub mod Unique

@@ -14,6 +14,7 @@ use Rattle.tape.specs.declared.token.Token.{Token}
 use Rattle.tape.specs.declared.token.Standing as Standing
 use Rattle.tape.specs.Token.{standing-of}
 use Rattle.tape.specs.Tape.{Tape, Room, unbounded, token-at}
+use Rattle.parse.specs.Told.{ParseTold, parse-told}
 use Rattle.parse.specs.declared.machine.State.the-variants.{Key, KeyValueSeparator, ObjectValue, ParseOpen, ArrayValue}
 use Rattle.parse.specs.declared.machine.Machine.{Machine}
 use Rattle.parse.specs.declared.machine.Refusal.the-variants.{TooLong}
@@ -146,3 +147,7 @@ laid-down text =
       | true ↦ 0
       | false ↦ laid-in text (enough text) 0 (next (start (has-bom text)) (tape-of unbounded []))
     ]
+
+-- the number of the refusal that is told, 0 for none
+abbrev pub refusal-told : ParseTold → ℕ
+refusal-told (parse-told refusal count bom place words) = refusal

@@ -1,0 +1,2 @@
+pub mod PaperF64
+pub mod RustReadings

@@ -1,0 +1,3 @@
+pub mod PaperF64
+pub mod RustReadings
+pub mod RustReadingsAlike

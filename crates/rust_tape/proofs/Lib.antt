@@ -1,0 +1,12 @@
+pub mod Demand2
+pub mod Domain
+pub mod RustArray
+pub mod RustDomain
+pub mod RustKey
+pub mod RustOpen
+pub mod RustOracle
+pub mod RustParameter
+pub mod RustParse
+pub mod RustParts
+pub mod RustReads
+pub mod RustTurns
