@@ -33,7 +33,8 @@ use Rattle.parse.specs.declared.machine.State.{State}
 use Rattle.parse.specs.declared.machine.State.the-variants.{Key, KeyValueSeparator, ObjectValue, ParseOpen, ArrayValue}
 use Rattle.parse.specs.declared.machine.Machine.{Machine}
 use Rattle.parse.specs.declared.machine.Refusal.{Refusal}
-use Rattle.parse.specs.declared.machine.Refusal.the-variants.{Eof, StackEmpty, NoHeader, NoValue, MixedParameter, NothingPrecedes, UnknownOperator, NoParameter, OpenName}
+use Rattle.parse.specs.declared.machine.Refusal.the-variants.{Eof, StackEmpty, NoHeader, NoValue, MixedParameter, NothingPrecedes, UnknownOperator}
+use Rattle.parse.specs.declared.machine.Refusal.the-variants.{NoParameter, OpenName}
 use Rattle.parse.specs.declared.key.KeyByte as KeyBytes
 use Rattle.parse.specs.declared.parse_open.OpenByte as OpenBytes
 use Rattle.parse.specs.declared.array_value.ValueByte as ValueBytes
@@ -199,7 +200,8 @@ pub data Came (text : List ℕ) (m : Machine) (ts : List Token) : ℕ → Result
   mixes : m .state ≡ KeyValueSeparator → Came text m ts 1 (goes (mixed-on m (m .count + 1)) (before-last ts mixed-container-token))
   mixes-by : {w : ℕ} (o : Operator) → m .state ≡ ArrayValue → m .mixed ≡ false → ScalarStands (standing-of (token-in ts (m .count - 1))) → 1 ≤ w
       → Came text m ts 2
-      (goes (to (mixed-on m (m .count + 1)) (m .at + w) ArrayValue (m .count + 1 + 1)) (before-last ts mixed-container-token ++ (operator-of (number-of o) ∷ [])))
+      (goes (to (mixed-on m (m .count + 1)) (m .at + w) ArrayValue (m .count + 1 + 1))
+      (before-last ts mixed-container-token ++ (operator-of (number-of o) ∷ [])))
   -- `{` where a value is due
   opens : Opens (m .state) → Came text m ts 1 (goes (to m (m .at + 1) ParseOpen (m .count + 1)) (ts ++ (unsettled ∷ [])))
   -- `{` behind an Unquoted, which becomes a Header
@@ -217,7 +219,8 @@ pub data Came (text : List ℕ) (m : Machine) (ts : List Token) : ℕ → Result
       (goes (resumed (container-in ts (m .parent)) (m .parent) (m .at + 1) (m .count + 1)) (closed-as ts (m .count - 1) (opener-of Array (m .count) false)))
   settles : m .state ≡ ParseOpen
       → Came text m ts 0
-      (goes record { at = m .at; state = ArrayValue; parent = m .count - 1; mixed = false; count = m .count } (set ts (m .count - 1) (opener-of Array (m .parent) false)))
+      (goes record { at = m .at; state = ArrayValue; parent = m .count - 1; mixed = false; count = m .count }
+      (set ts (m .count - 1) (opener-of Array (m .parent) false)))
   begins : {x : Token} {rest at : ℕ} {kind : ContainerKind} {state : State} → m .state ≡ ParseOpen → Taken text (m .at) x rest → rest ≤ at → Settles kind state
       → Came text m ts 1
       (goes record { at = at; state = state; parent = m .count + 1 - 2; mixed = false; count = m .count + 1 }
@@ -232,7 +235,8 @@ pub data Came (text : List ℕ) (m : Machine) (ts : List Token) : ℕ → Result
       → Valued text (run-end text name + 1) start rest
       → Came text m ts 3
       (goes record { at = rest; state = KeyValueSeparator; parent = m .count + 1; mixed = m .mixed; count = m .count + 1 + 1 + 1 }
-      (((us ++ (run-token kind name (run-end text name) ∷ [])) ++ (opener-of Object parent false ∷ [])) ++ (run-token Unquoted start (run-end text start) ∷ [])))
+      (((us ++ (run-token kind name (run-end text name) ∷ [])) ++ (opener-of Object parent false ∷ []))
+      ++ (run-token Unquoted start (run-end text start) ∷ [])))
   refuses : {n : ℕ} {r : Refusal} → Refuses text m ts n r → number r < 11 → Came text m ts n (stops r)
 
 -- ---- the text's end: done in Key with nothing open or with one container at top level, which is closed; else Eof

@@ -10,7 +10,8 @@ use Rattle.parse.specs.declared.machine.Machine.{Machine}
 use Rattle.parse.specs.declared.machine.Refusal.{Refusal}
 use Rattle.parse.specs.Machine.{After, next, done, refused}
 use Rattle.parse.specs.Parse.{turn, run, has-bom, start, enough}
-use Rattle.parse.proofs.Falls.{All, left, rank-few, turn-falls}
+use Rattle.parse.proofs.Walk.{All}
+use Rattle.parse.proofs.Falls.{left, rank-few, Fewer, Any, turn-falls}
 
 -- what has ended stays as it is
 pub run-done : (text : List ℕ) (n k : ℕ) (t : Tape) → run text n (done k t) ≡ done k t
@@ -38,7 +39,7 @@ run-add text (suc a) b (refused r) = run-refused text (suc a + b) r ∙ sym (run
 
 module _ (text : List ℕ) (bound : ℕ) where
   each : (n k : ℕ) (x : After) → ((m : Machine) (t : Tape) → left text (m .at) (m .state) < bound → run text n (next m t) ≡ run text k (next m t))
-      → All (λ m′. left text (m′ .at) (m′ .state) < bound) x → run text n x ≡ run text k x
+      → All (Fewer text bound) Any x → run text n x ≡ run text k x
   each n k (next m t) f h = f m t h
   each n k (done c t) f h = run-done text n c t ∙ sym (run-done text k c t)
   each n k (refused r) f h = run-refused text n r ∙ sym (run-refused text k r)
@@ -56,11 +57,11 @@ run-enough text (suc n) (suc k) m t h g =
 
 -- nothing goes on
 abbrev pub Ended : After → Type 0
-Ended x = All (λ m. ⊥) x
+Ended x = All (λ m ts. ⊥) Any x
 
 ends-each : (text : List ℕ) (bound n : ℕ) (x : After)
     → ((m : Machine) (t : Tape) → left text (m .at) (m .state) < bound → Ended (run text n (next m t)))
-    → All (λ m′. left text (m′ .at) (m′ .state) < bound) x → Ended (run text n x)
+    → All (Fewer text bound) Any x → Ended (run text n x)
 ends-each text bound n (next m t) f h = f m t h
 ends-each text bound n (done c t) f h = rw (run-done text n c t) tt
 ends-each text bound n (refused r) f h = rw (run-refused text n r) tt

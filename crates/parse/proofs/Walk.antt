@@ -44,13 +44,16 @@ use Rattle.parse.specs.Parameter.{parameter-object, value-or-object, par
 use Rattle.parse.specs.Key.{key-byte, key-close, open-header, key-header, key-brace, key-turn}
 use Rattle.parse.specs.KeyValueSeparator.{mixed-on, mix-then, separator-then, separator-turn}
 use Rattle.parse.specs.ObjectValue.{object-value-turn}
-use Rattle.parse.specs.ParseOpen.{open-byte, settle, open-empty, open-parameter, open-brace, flag-parent, follows-key, open-as, open-scalar, parse-open-turn}
+use Rattle.parse.specs.ParseOpen.{open-byte, settle, open-empty, open-parameter, open-brace, flag-parent, follows-key, open-as, open-scalar}
+use Rattle.parse.specs.ParseOpen.{parse-open-turn}
 use Rattle.parse.specs.ArrayValue.{value-byte, array-close, operator-then, after-end, unmixed-operator, array-operator, array-value-turn}
 use Rattle.parse.specs.declared.Parsed.the-variants.{Tokens, Refused}
 use Rattle.parse.specs.Parse.{state-turn, turn, run, has-bom, start, enough, text-limit, Outcome, outcome, answer, parse-of}
 use Rattle.parse.proofs.Splits.{by-skipped, by-cut, by-sighted, by-container, by-standing, by-state, by-key-byte, by-open-byte, by-value-byte}
 use Rattle.parse.proofs.States as States
-use Rattle.parse.proofs.Moves.{Result, goes, ends, stops, on-tape, token-in, container-in, above, unsettled, closed-as, flagged, Taken, unquoted, quoted, Named, defined, undefined, Asked, Valued, run-token, Takes, Opens, Closes, Settles, Asks, Bracketed, Unasked, lone, nameless, open-name, valueless, ScalarStands, Refuses, Came, Over, Turned, on-byte, at-end}
+use Rattle.parse.proofs.Moves.{Result, goes, ends, stops, on-tape, token-in, container-in, above, unsettled, closed-as, flagged, Taken, unquoted, quoted}
+use Rattle.parse.proofs.Moves.{Named, defined, undefined, Asked, Valued, run-token, Takes, Opens, Closes, Settles, Asks, Bracketed, Unasked, lone}
+use Rattle.parse.proofs.Moves.{nameless, open-name, valueless, ScalarStands, Refuses, Came, Over, Turned, on-byte, at-end}
 use Rattle.parse.proofs.Moves as M
 
 -- ---- what a result is on a tape of some room
@@ -107,7 +110,8 @@ module _ (room : Room) (ts : List Token) where
   and-then-on x at state m go = by-bool (has-room room (m .count)) (λ e. rw (lay-then, lay, if-room, e)) (λ e. rw (lay-then, lay, if-room, e))
 
   close-on : (i : ℕ) (kind : ContainerKind) (mixed : _) (m : Machine) (go : ℕ → Tape → After)
-      → close-at i kind mixed (on-tape room ts) m go ≡ if-room room (m .count) (go (m .count + 1) (on-tape room (closed-as ts i (opener-of kind (m .count) mixed))))
+      → close-at i kind mixed (on-tape room ts) m go ≡ if-room room (m .count)
+      (go (m .count + 1) (on-tape room (closed-as ts i (opener-of kind (m .count) mixed))))
   unfolding close-at replace lay add
   close-on i kind mixed m go = by-bool (has-room room (m .count)) (λ e. rw (close-at, lay, replace, if-room, e)) (λ e. rw (close-at, lay, replace, if-room, e))
 
@@ -213,7 +217,8 @@ module _ (text : List ℕ) (m : Machine) (ts : List Token) where
           (λ f. moved-on ended (λ room. rw (parameter-value, e, f))))
           (λ e. moved-on ended (λ room. rw (parameter-value, e)))
 
-    name-comes : {kind : ScalarKind} {name : ℕ} → Named text (m .at) kind name → Part (λ room. parameter-name text kind name (on-tape room us) (within m parent))
+    name-comes : {kind : ScalarKind} {name : ℕ} → Named text (m .at) kind name
+        → Part (λ room. parameter-name text kind name (on-tape room us) (within m parent))
     unfolding parameter-name parameter-named
     name-comes {kind} {name} named =
         by-bool (ltb name (length text))
@@ -372,14 +377,16 @@ module _ (text : List ℕ) (m : Machine) (ts : List Token) where
           (λ e. refuse (M.unknown st b on) (omega arith) (λ room. rw (operator-then, e)))
 
       -- a MixedContainer before the last token, a scalar, and then the operator
-      mixing-comes : m .mixed ≡ false → ScalarStands (standing-of (token-in ts (m .count - 1))) → Part (λ room. mix-then (on-tape room ts) m (operator-then text))
+      mixing-comes : m .mixed ≡ false → ScalarStands (standing-of (token-in ts (m .count - 1)))
+          → Part (λ room. mix-then (on-tape room ts) m (operator-then text))
       unfolding operator-then
       mixing-comes off s =
           let us : List Token = before-last ts mixed-container-token in
           let mixed : Machine = mixed-on m (m .count + 1) in
           behind
           (by-sighted (sighted (byte-at text (m .at)) (byte-at text (m .at + 1)))
-          (λ o w e. moved-on (M.mixes-by o st off s (sighted-width _ _ o w e .some)) (λ room. rw (operator-then, e) (lay-then-on room us _ (m .at + w) ArrayValue mixed)))
+          (λ o w e. moved-on (M.mixes-by o st off s (sighted-width _ _ o w e .some))
+          (λ room. rw (operator-then, e) (lay-then-on room us _ (m .at + w) ArrayValue mixed)))
           (λ e. moved-on (M.refuses (M.marked-unknown st b off s) (omega arith)) (λ room. rw (operator-then, e))))
           (λ room. mix-on room ts m (operator-then text))
 
@@ -504,7 +511,8 @@ module _ (P : Machine → List Token → Type 0) (Q : ℕ → List Token → Typ
 
   answer-shows : (len : ℕ) (x : After) → All P Q x → Shown Q (answer (has-bom text) len x)
   answer-shows len (next m t) h = tt
-  answer-shows len (done n t) h = let e : tokens-in (padded len (t .tokens)) n ≡ t .tokens = rw (counted n (t .tokens) h) (padded-tokens len (t .tokens)) in rw e h
+  answer-shows len (done n t) h =
+      let e : tokens-in (padded len (t .tokens)) n ≡ t .tokens = rw (counted n (t .tokens) h) (padded-tokens len (t .tokens)) in rw e h
   answer-shows len (refused r) h = tt
 
   -- and the tokens that a successful parse leaves
