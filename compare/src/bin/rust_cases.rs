@@ -1,5 +1,5 @@
 //! Writes what the real Rust answers to some texts as a list that the definition of its parser is
-//! worked out against: `rust_cases FILE`, where FILE is crates/promises/specs/RustRows.antt.
+//! worked out against: `rust_cases FILE`, where FILE is crates/rust_tape/specs/RustRows.antt.
 //!
 //! Document 01's own cases and the edges, and then short texts of seed 1 in order: each whose answer
 //! shows something that fewer than enough of those before it showed. A row has the text, the refusal's

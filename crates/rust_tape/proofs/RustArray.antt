@@ -37,7 +37,8 @@ use Rattle.rust_tape.specs.RustDomain.{array-runs, Each}
 use Rattle.promises.proofs.Alike.{mixed-sized}
 use Rattle.promises.proofs.Links.Kept.{Kept}
 use Rattle.rust_tape.proofs.RustParts.{byte-there, byte-next, minus-there, index-there, slice-there, offset-there}
-use Rattle.rust_tape.proofs.RustReads.{rust-tape, opener-as, tape-length, laid-opener, laid-end, laid-operator, changed-opener, insert-read, assign-there}
+use Rattle.rust_tape.proofs.RustReads.{rust-tape, opener-as, tape-length, laid-opener}
+use Rattle.rust_tape.proofs.RustReads.{laid-end, laid-operator, changed-opener, insert-read, assign-there}
 use Rattle.rust_tape.proofs.RustReads.{container-read, mode-same, state-same, kind-same, by-stands, parent-within, end-opens}
 use Rattle.rust_tape.proofs.RustTurns.{parser-of, Same, byte-stands, scalar-same}
 use Rattle.rust_tape.proofs.RustKey.{up-same, open-test}

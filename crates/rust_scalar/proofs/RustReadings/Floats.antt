@@ -28,7 +28,8 @@ use Rattle.scalar.proofs.Runs.{digit-bounds, run-length, number-below, value-wr
 use Rattle.rust_scalar.specs.RustReadings.{Outcome, Ok, Err, AllDigits, Overflow, _>>=_, ok-or, add-usize, as-i64, as-f64, digits-in, greatest-power}
 use Rattle.rust_scalar.specs.RustReadings.{overflow-cutoff, check-from, safe-integer-len, literal-1e, power-of-ten, check-overflow, times-sign}
 use Rattle.rust_scalar.specs.RustReadings.{approximated}
-use Rattle.rust_scalar.specs.RustReadings.{check-precision, check-precision-and-overflow, without-point, with-point, f64-loop, f64-start, f64-sign, to-f64}
+use Rattle.rust_scalar.specs.RustReadings.{check-precision, check-precision-and-overflow, without-point, with-point}
+use Rattle.rust_scalar.specs.RustReadings.{f64-loop, f64-start, f64-sign, to-f64}
 use Rattle.rust_scalar.specs.RustReadingsAlike.{rust-f64, Slice}
 use Rattle.rust_scalar.proofs.RustReadings.Digits.{digit-same, digit-is, one-more-is, wrapped, checked, check-init-is, check-bare, within, spared}
 use Rattle.rust_scalar.proofs.RustReadings.Fractions.{less-is, part-to-is, fraction-is}
