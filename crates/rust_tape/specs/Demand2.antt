@@ -12,6 +12,7 @@ use Rattle.parse.specs.Refusals.{number}
 use Rattle.parse.specs.Parse.{text-limit}
 use Rattle.parse.specs.Told.{ParseTold, parse-told, tell-parse}
 use Rattle.promises.specs.Room.{unbounded-parse, laid-down}
+use Rattle.promises.specs.Room.{refusal-told}
 use Rattle.rust_tape.specs.RustTape as Rust
 use Rattle.rust_tape.specs.RustTape.{Parser, Flow, rust-turns, rust-parse, held}
 use Rattle.rust_tape.specs.RustDomain.{Domain}
