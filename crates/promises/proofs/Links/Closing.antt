@@ -14,7 +14,7 @@ use Rattle.tape.specs.declared.token.Container as Containers
 use Rattle.tape.specs.declared.shape.Link.the-variants.{ToEnd}
 use Rattle.tape.specs.Token.{no-token, opener-of, end-of, container-of}
 use Rattle.tape.proofs.Makers.{end-uncoded}
-use Rattle.tape.specs.Shape.{link-of}
+use Rattle.tape.specs.Shape.{Opens}
 use Rattle.tape.specs.Tape.{Tape, unbounded, token-at}
 use Rattle.sheet.specs.Sound.{nth}
 use Rattle.parse.specs.declared.machine.Machine.{Machine}
@@ -96,30 +96,28 @@ module _ (m : Machine) (ts : List Token) (r : Resting-at (m .count) (m .parent) 
   held-inside some = inside (on-tape unbounded ts) (m .parent) some (r .resting .kept .links .parent)
 
   -- the tokens with that container closed, inside its parent
-  pub closed-rests : (o : Inside (on-tape unbounded ts) (m .parent)) (kind : ContainerKind) (mixed : Bool)
-      → Ready (m .count + 1) (o .up) (closed-as ts (m .parent) (opener-of kind (m .count) mixed))
-  closed-rests o kind mixed =
-      let l = closed-length ts (m .parent) (opener-of kind (length ts) mixed) (end-of (m .parent)) in
+  closed-rests : (o : Inside (on-tape unbounded ts) (m .parent)) (x : Token) → Opens x (m .count) → Ready (m .count + 1) (o .up) (closed-as ts (m .parent) x)
+  closed-rests o x names =
+      let l = closed-length ts (m .parent) x (end-of (m .parent)) in
       record {
         rest = record {
           counted = rw (r .counted, l);
-          resting = rw (r .counted) (kept-close ts (m .parent) (o .up) kind mixed (r .resting) (o .link) (o .before));
+          resting = kept-close ts (m .parent) (o .up) x (rw (r .counted) at names) (r .resting) (o .link) (o .before);
         };
-        some = rw (r .counted, l) (omega arith);
+        some = rw l (omega arith);
       }
 
-  pub close-held : (kind : ContainerKind) → nothing-open (m .parent) (above ts (m .parent)) ≡ false
-      → Held (resumed (container-in ts (above ts (m .parent))) (above ts (m .parent)) (m .at + 1) (m .count + 1))
-      (closed-as ts (m .parent) (opener-of kind (m .count) (m .mixed)))
+  pub close-held : (x : Token) → Opens x (m .count) → nothing-open (m .parent) (above ts (m .parent)) ≡ false
+      → Held (resumed (container-in ts (above ts (m .parent))) (above ts (m .parent)) (m .at + 1) (m .count + 1)) (closed-as ts (m .parent) x)
   unfolding token-at
-  close-held kind e =
+  close-held x names e =
       let o = in-container (on-tape unbounded ts) (m .parent) (r .resting .kept) e in
-      let g = closed-rests o kind (m .mixed) .rest in
+      let g = closed-rests o x names .rest in
       let up : o .up ≡ above ts (m .parent) = ap C.parent-of (sym (o .read)) in
       rw (← up)
       record {
         counted = g .counted;
-        shaped = resumes (container-in ts (o .up)) (set ts (m .parent) (opener-of kind (m .count) (m .mixed))) (o .up) (m .parent) (g .resting);
+        shaped = resumes (container-in ts (o .up)) (set ts (m .parent) x) (o .up) (m .parent) (g .resting);
       }
 
 -- the text's end leaves the tokens tied, or is refused
@@ -130,6 +128,6 @@ end-held m ts h (done-closed e some top) =
     let r : Resting-at (m .count) (m .parent) ts = record { counted = h .counted; resting = rw e at (h .shaped) } in
     let o = held-inside m ts r some in
     let z : o .up ≡ 0 = ap C.parent-of (sym (o .read)) ∙ top in
-    let k = closed-rests m ts r o Object false .rest in
+    let k = closed-rests m ts r o (opener-of Object (m .count) false) (Object, false, refl) .rest in
     record { counted = k .counted; tokens = tied _ (rw z at (k .resting)) }
 end-held m ts h too-early = tt

@@ -7,6 +7,7 @@ use Prim.Native.Nat.{ℕ, suc, _+_, _-_, _≤_, _<_}
 use native.Mathlib.Omega.{arith}
 use lib.ListN.{length, set, length-set, List·getD-eq-default}
 use lib.Seq.{getD-set-same, getD-set-other}
+use Rattle.operator.specs.declared.Operator.the-variants.{Equal}
 use Rattle.tape.specs.declared.token.Token.{Token}
 use Rattle.tape.specs.declared.token.ContainerKind.{ContainerKind}
 use Rattle.tape.specs.declared.token.ContainerKind.the-variants.{Array, Object}
@@ -20,14 +21,14 @@ use Rattle.tape.specs.Shape.{linked, link-of, Opens}
 use Rattle.tape.specs.Tape.{before-last}
 use Rattle.tape.proofs.Makers.{opener-container, scalar-container, opener-standing, mixed-container-standing, operator-standing, end-standing}
 use Rattle.tape.proofs.Shapes.{scalar-shape, opens-link, end-link, link-made, unlinked-opens}
-use Rattle.parse.proofs.Moves.{ScalarStands}
+use Rattle.parse.proofs.Moves.{ScalarStands, closed-as}
 use Rattle.sheet.specs.Sound.{nth, Form, container, mixed-container, scalar, operator, closing, Closed, Opened, Nested, Headed}
 use Rattle.promises.specs.Mixed.{Flags, Marked, Scalar, Stored, equal-token}
 use Rattle.promises.proofs.Links.Nest.{by-equal, by-below, Nest, opener-below, end-below, widen, nest-open, nest-close, all-closed}
 use Rattle.promises.proofs.Links.Flags.{codes-differ, flags-add, flags-set, flags-insert}
 use Rattle.promises.proofs.Links.Rows.{last, add-length, add-new, add-same, add-last, insert-length, insert-new, insert-last, insert-same, Unmarked}
-use Rattle.promises.proofs.Links.Rows.{unmarked, scalar-made, scalar-unlinked, Unheaded, unheaded, Plain, mixed-unlinked, Row, Apart, row-add, row-set}
-use Rattle.promises.proofs.Links.Rows.{row-insert}
+use Rattle.promises.proofs.Links.Rows.{unmarked, scalar-made, plain-operator, scalar-unlinked, Unheaded, unheaded, Plain, mixed-unlinked, Row, Apart}
+use Rattle.promises.proofs.Links.Rows.{row-add, row-set, row-insert}
 
 -- the link at each index
 abbrev pub link-at : List Token → ℕ → Link
@@ -44,23 +45,23 @@ pub record Resting (ts : List Token) (p : ℕ) : Type 0 where
   pub rests : Unheaded (last ts)
 
 -- ---- openers and Ends
-opens-self : (kind : ContainerKind) (link : ℕ) (mixed : Bool) → Opens (opener-of kind link mixed) link
-opens-self kind link mixed = (kind, mixed, refl)
+-- whatever its kind and flag, an opener is no token that names none: no Header, no MixedContainer, no Equal
+module _ {x : Token} {link : ℕ} (o : Opens x link) where
+  opens-apart : {t : Token} → link-of t ≡ Link.Nothing → x ≡ t → ⊥
+  opens-apart none e = unlinked-opens x (ap link-of e ∙ none) o
 
-pub opener-link : (kind : ContainerKind) (link : ℕ) (mixed : Bool) → link-of (opener-of kind link mixed) ≡ ToEnd link
-opener-link kind link mixed = opens-link (opener-of kind link mixed) (opens-self kind link mixed)
+  opens-unheaded : Unheaded x
+  opens-unheaded offset size = opens-apart (scalar-unlinked (scalar-made Header offset size))
 
-opener-unheaded : (kind : ContainerKind) (link : ℕ) (mixed : Bool) → Unheaded (opener-of kind link mixed)
-opener-unheaded Array link mixed = unheaded _ (λ z. omega arith)
-opener-unheaded Object link mixed = unheaded _ (λ z. omega arith)
+  opens-unmarked : Unmarked x
+  opens-unmarked = opens-apart mixed-unlinked
 
-opener-unmarked : (kind : ContainerKind) (link : ℕ) (mixed : Bool) → Unmarked (opener-of kind link mixed)
-opener-unmarked Array link mixed = unmarked _ (λ z. omega arith)
-opener-unmarked Object link mixed = unmarked _ (λ z. omega arith)
+  opens-no-equal : x ≡ equal-token → ⊥
+  opens-no-equal = opens-apart (plain-operator Equal .unlinked)
 
-opener-no-equal : (kind : ContainerKind) (link : ℕ) (mixed : Bool) → opener-of kind link mixed ≡ equal-token → ⊥
-opener-no-equal Array link mixed e = codes-differ (λ z. omega arith) e
-opener-no-equal Object link mixed e = codes-differ (λ z. omega arith) e
+-- it names one token
+opens-same : {x : Token} {link other : ℕ} → Opens x link → Opens x other → link ≡ other
+opens-same {x} o q = let a = opens-link x o in let b = opens-link x q in cc
 
 -- an opener is no scalar
 opener-no-scalar : {t : Token} {link : ℕ} {P : Type 0} → link-of t ≡ ToEnd link → Scalar t → P
@@ -130,16 +131,17 @@ pub kept-opener : (ts : List Token) (kind : ContainerKind) (p : ℕ) → Kept ts
     → Resting (ts ++ (opener-of kind p false ∷ [])) (length ts)
 kept-opener ts kind p k some stored =
     let x : Token = opener-of kind p false in
+    let names : Opens x p = (kind, false, refl) in
     record {
       kept = record {
-        row = row-add ts x (k .row) (container p (opens-self kind p false)) (opener-unmarked kind p false) (λ offset size e. (p, opens-self kind p false));
+        row = row-add ts x (k .row) (container p names) (opens-unmarked names) (λ offset size e. (p, names));
         links = rw (add-length ts x)
             (nest-open (k .links) some
             (λ i d. ap link-of (add-same ts x i d))
-            (ap link-of (add-new ts x) ∙ opener-link kind p false));
+            (ap link-of (add-new ts x) ∙ opens-link x names));
         flags = flags-add ts x (k .flags) (λ c mixed e f. let o = object-kind kind p false c mixed e in rw (← (o .1)) (stored (o .0) f));
       };
-      rests = rw (add-last ts x) (opener-unheaded kind p false);
+      rests = rw (add-last ts x) (opens-unheaded names);
     }
 
 -- ---- a MixedContainer put in before the last, a scalar that has none before it
@@ -170,27 +172,25 @@ kept-insert ts {p} r some last-one apart = go (length ts - 1) (omega arith)
         }
 
 -- ---- the container that the machine is in closed
-pub kept-close : (ts : List Token) (p up : ℕ) (kind : ContainerKind) (mixed : Bool) → Resting ts p → link-at ts p ≡ ToEnd up → up < p
-    → Resting (set ts p (opener-of kind (length ts) mixed) ++ (end-of p ∷ [])) up
-kept-close ts p up kind mixed r here inner =
+pub kept-close : (ts : List Token) (p up : ℕ) (x : Token) → Opens x (length ts) → Resting ts p → link-at ts p ≡ ToEnd up → up < p
+    → Resting (closed-as ts p x) up
+kept-close ts p up x names r here inner =
     let n : ℕ = length ts in
-    let x : Token = opener-of kind n mixed in
     let us : List Token = set ts p x in
     let below : p < n = opener-below (r .kept .links) here in
     let l : length us ≡ n = length-set ts p x in
     let at : nth us p ≡ x = getD-set-same ts p x no-token below in
     let row : Row us =
-    row-set ts p x below (r .kept .row) (container n (opens-self kind n mixed)) (opener-unmarked kind n mixed) (λ o. (n, opens-self kind n mixed))
-    (opener-no-scalar here) (λ h. opener-unheaded kind n mixed)
+    row-set ts p x below (r .kept .row) (container n names) (opens-unmarked names) (λ o. (n, names)) (opener-no-scalar here) (λ h. opens-unheaded names)
     in
     let flags : Flags us =
-    flags-set ts p x below (r .kept .flags) (opener-no-equal kind n mixed)
-    (λ c m e h. let o = object-kind kind n mixed c m e .1 in absurd (omega arith))
+    flags-set ts p x below (r .kept .flags) (opens-no-equal names)
+    (λ c m e h. let o = opens-same names (Object, m, e) in absurd (omega arith))
     (λ j m e h f. let o = r .kept .links .open-one j p (opens-link (nth ts j) (Object, m, e)) (omega arith) in absurd (omega (arith, o .reached)))
     in
     let rests : Unheaded (last us) =
     by-equal (n - 1) p
-    (λ z. rw (l, z, at) (opener-unheaded kind n mixed))
+    (λ z. rw (l, z, at) (opens-unheaded names))
     (λ d. rw (l, getD-set-other ts p (n - 1) x no-token d) (r .rests))
     in
     record {
@@ -199,7 +199,7 @@ kept-close ts p up kind mixed r here inner =
         links = rw (add-length us (end-of p), l)
             (nest-close (r .kept .links) here inner
             (λ i d d′. ap link-of (add-same us (end-of p) i (λ z. d′ (z ∙ l)) ∙ getD-set-other ts p i x no-token d))
-            (ap link-of (add-same us (end-of p) p (λ z. omega arith) ∙ at) ∙ opener-link kind n mixed)
+            (ap link-of (add-same us (end-of p) p (λ z. omega arith) ∙ at) ∙ opens-link x names)
             (ap link-of (ap (λ (i : ℕ). nth (us ++ (end-of p ∷ [])) i) (sym l) ∙ add-new us (end-of p)) ∙ end-link (end-of p) refl));
         flags = flags-add us (end-of p) flags (λ c m e f. codes-differ (λ z. omega arith) e);
       };
@@ -243,13 +243,10 @@ pub kept-flag : (ts : List Token) (p : ℕ) (kind : ContainerKind) (link : ℕ) 
     → container-of (nth ts p) ≡ Containers.the-variants.Opened kind link mixed → Kept (set ts p (opener-of kind link true)) p
 kept-flag ts p kind link mixed below s e =
     let here : link-at ts p ≡ ToEnd link = container-link (s .row .forms p below) e in
-    kept-alike ts p (opener-of kind link true) below s
-    (container link (opens-self kind link true))
-    (opener-unmarked kind link true)
-    (opener-no-scalar here)
-    (opener-link kind link true ∙ sym here)
-    (λ h. opener-unheaded kind link true)
-    (flags-set ts p (opener-of kind link true) below (s .flags) (opener-no-equal kind link true)
+    let x : Token = opener-of kind link true in
+    let names : Opens x link = (kind, true, refl) in
+    kept-alike ts p x below s (container link names) (opens-unmarked names) (opener-no-scalar here) (opens-link x names ∙ sym here) (λ h. opens-unheaded names)
+    (flags-set ts p x below (s .flags) (opens-no-equal names)
     (λ c m f h. let o = object-kind kind link true c m f in (
       mixed,
       container-made (s .row .forms p below) e ∙ ap (λ (k : ContainerKind). opener-of k link mixed) (o .0) ∙ ap (λ (l : ℕ). opener-of Object l mixed) (o .1),

@@ -16,6 +16,7 @@ use Rattle.tape.specs.declared.token.Container as Containers
 use Rattle.tape.specs.Token.{no-token, opener-of, end-of, container-of}
 use Rattle.tape.specs.Shape.{link-of}
 use Rattle.tape.specs.Tape.{token-at, replace}
+use Rattle.tape.proofs.Shapes.{opens-link}
 use Rattle.sheet.specs.Sound.{nth}
 use Rattle.parse.specs.declared.machine.State.{State}
 use Rattle.parse.specs.declared.machine.State.the-variants.{ParseOpen, ArrayValue}
@@ -29,7 +30,7 @@ use Rattle.promises.specs.Mixed.{Scalar, Stored, equal-token}
 use Rattle.promises.proofs.Links.Nest.{Parent, parent-below}
 use Rattle.promises.proofs.Links.Rows.{last, add-length, add-new, add-last, Plain, Apart, apart-add}
 use Rattle.promises.proofs.Links.Flags.{codes-differ, array-no-object, not-both}
-use Rattle.promises.proofs.Links.Kept.{Kept, link-at, link-container, opener-link, kept-opener, kept-close, kept-flag}
+use Rattle.promises.proofs.Links.Kept.{Kept, link-at, link-container, kept-opener, kept-close, kept-flag}
 use Rattle.promises.proofs.Links.Held.{Signed, unsettled, Held, Resting-at, Ready, counted-add, Settled, settled-before, rest-add, taken-plain}
 use Rattle.promises.proofs.Links.Closing.{resumes, closed-length}
 
@@ -199,13 +200,13 @@ module _ (m : Machine) (ts : List Token) (c : m .count ≡ length ts) (us : List
       let l : length vs ≡ m .count = omega (arith, add-length us op, add-length us unsettled, ap length standing) in
       let x : Token = opener-of Array (m .count) false in
       let opened = kept-opener us Array (m .parent) k some (λ o. array-no-object o) in
-      let here = ap link-of (add-new us op) ∙ opener-link Array (m .parent) false in
-      let r = kept-close vs (length us) (m .parent) Array false opened here (parent-below (k .links) some) in
+      let here = ap link-of (add-new us op) ∙ opens-link op (Array, false, refl) in
+      let r = kept-close vs (length us) (m .parent) x (Array, false, rw l) opened here (parent-below (k .links) some) in
       let same : closed-as ts (m .count - 1) x ≡ set vs (length us) x ++ (end-of (length us) ∷ []) =
       rw (standing, reset us unsettled x [] place, place, set-append-seam us op [] x)
       in
       let n : length (set vs (length us) x ++ (end-of (length us) ∷ [])) ≡ length vs + 1 = closed-length vs (length us) x (end-of (length us)) in
       record {
         counted = rw (same, n, l);
-        shaped = rw same (resumes (container-in ts (m .parent)) (set vs (length us) x) (m .parent) (length us) (rw l at r));
+        shaped = rw same (resumes (container-in ts (m .parent)) (set vs (length us) x) (m .parent) (length us) r);
       }

@@ -185,7 +185,7 @@ module _ (text : List ℕ) (m : Machine) (ts : List Token) (h : Held m ts) where
       added (mixed-on m (m .count + 1)) (before-last ts mixed-container-token) _ _ ArrayValue (marked e off s .rest) (plain-operator o) (λ g. refl)
   move-held (opens s) = let o = opening s in opened-held m ts (m .at + 1) (h .counted) (o .0 .rest .resting .kept) (o .0 .some) (o .1)
   move-held (heads e past u) = headed-held e u
-  move-held (closes {kind} s e) = close-held m ts (closing s) kind e
+  move-held (closes {kind} s e) = close-held m ts (closing s) (opener-of kind (m .count) (m .mixed)) (kind, m .mixed, refl) e
   move-held (empties e) = let o = open-shape e in emptied-held m ts (h .counted) (o .0) (o .1) (o .2) (o .3) (o .4)
   move-held (settles e) = let o = open-shape e in settled-held m ts (h .counted) (o .0) (o .1) (o .2) (o .3) (o .4)
   move-held (begins e taken past s) = let o = open-shape e in begun-held m ts (h .counted) (o .0) (o .1) (o .2) (o .3) (o .4) taken s

@@ -14,14 +14,16 @@ use Rattle.tape.specs.declared.token.ScalarKind.{ScalarKind}
 use Rattle.tape.specs.declared.token.ContainerKind.{ContainerKind}
 use Rattle.tape.specs.declared.token.Container.the-variants.{Opened, Nothing}
 use Rattle.tape.specs.declared.token.Standing as Standings
-use Rattle.tape.specs.Token.{array-code, object-code, scalar-named, mixed-container-token, opener-of, scalar-of, operator-of, end-of, headed, container-of}
+use Rattle.tape.specs.Token.{array-code, object-code, scalar-named, mixed-container-token, scalar-of, operator-of, end-of, headed, container-of}
 use Rattle.tape.specs.Token.{standing-of}
+use Rattle.tape.specs.Shape.{Opens}
 use Rattle.tape.specs.Tape.{before-last}
 use Rattle.tape.proofs.Makers.{scalar-container, unquoted-coded}
 use Rattle.parse.specs.Containers.{nothing-open}
 use Rattle.parse.proofs.Splits.{by-container}
+use Rattle.parse.proofs.Moves.{closed-as}
 use Rattle.sheet.specs.Sound.{nth}
-use Rattle.promises.proofs.Rising.Spans.{span, span-of, spans, Follows, Upto, opener-bare, end-bare, mixed-bare, scalar-span, spans-add, spans-set}
+use Rattle.promises.proofs.Rising.Spans.{span, span-of, spans, Follows, Upto, opens-bare, end-bare, mixed-bare, scalar-span, spans-add, spans-set}
 use Rattle.promises.proofs.Rising.Spans.{spans-before-last, upto-later, upto-add}
 use Rattle.promises.proofs.Rising.Links.{Stands, Linked, link, stands-unlinked, stands-add, stands-set, linked-add, linked-set, linked-mixed, linked-in}
 use Rattle.promises.proofs.Rising.Links.{linked-close}
@@ -108,22 +110,16 @@ module _ {L end count parent : ℕ} {ts : List Token} (b : Base L end count pare
       }
 
   -- an opener is closed
-  pub base-close : (i : ℕ) (kind : ContainerKind) (mixed : Bool) → span-of (nth ts i) ≡ []
-      → Base L end (count + 1) parent (set ts i (opener-of kind count mixed) ++ (end-of i ∷ []))
-  base-close i kind mixed e =
-      let x = opener-of kind count mixed in
-      let same : span-of x ≡ span-of (nth ts i) = opener-bare kind count mixed ∙ sym e in
+  pub base-close : (i : ℕ) {x : Token} → Opens x count → span-of (nth ts i) ≡ [] → Base L end (count + 1) parent (closed-as ts i x)
+  base-close i {x} o e =
       record {
-        linked = linked-close ts count parent i kind mixed e (b .linked);
-        rising = rw (spans-add (set ts i x) (end-of i), end-bare i, append-nil (spans (set ts i x)), spans-set ts i x same) (b .rising);
+        linked = linked-close ts count parent i x o e (b .linked);
+        rising = rw (spans-add (set ts i x) (end-of i), end-bare i, append-nil (spans (set ts i x)), spans-set ts i x (opens-bare o ∙ sym e)) (b .rising);
       }
 
   -- where the container's parent stands after that
-  pub stands-closed : (i : ℕ) (kind : ContainerKind) (mixed : Bool) (other : ℕ) → span-of (nth ts i) ≡ [] → Stands ts other
-      → Stands (set ts i (opener-of kind count mixed) ++ (end-of i ∷ [])) other
-  stands-closed i kind mixed other e s =
-      let x = opener-of kind count mixed in
-      stands-add (set ts i x) (end-of i) other (stands-set ts i x other (opener-bare kind count mixed ∙ sym e) s)
+  pub stands-closed : (i : ℕ) {x : Token} → Opens x count → (other : ℕ) → span-of (nth ts i) ≡ [] → Stands ts other → Stands (closed-as ts i x) other
+  stands-closed i {x} o other e s = stands-add (set ts i x) (end-of i) other (stands-set ts i x other (opens-bare o ∙ sym e) s)
 
   -- the opener that is closed has no view: the parent stands, or its link shows that it opens
   pub open-bare : nothing-open parent (link (nth ts parent)) ≡ false → span-of (nth ts parent) ≡ []

@@ -1,6 +1,6 @@
 -- Where an opener's link leads while a tape is laid down: to no scalar, so that a container can be closed without touching a view.
 -- Assumes nothing.
-use mathlib.Core.Path.{_≡_, refl, sym, _∙_}
+use mathlib.Core.Path.{_≡_, refl, sym, _∙_, ap}
 use mathlib.Core.Bool.{Bool}
 use mathlib.Core.List.{List, [], _∷_, _++_}
 use Prim.Native.Nat.{ℕ, zero, suc, _+_, _<_}
@@ -14,10 +14,12 @@ use Rattle.tape.specs.declared.token.Token.{Token}
 use Rattle.tape.specs.declared.token.ContainerKind.{ContainerKind}
 use Rattle.tape.specs.declared.token.ContainerKind.the-variants.{Array, Object}
 use Rattle.tape.specs.Token.{no-token, mixed-container-token, opener-of, end-of, container-of}
+use Rattle.tape.specs.Shape.{Opens}
 use Rattle.tape.specs.Tape.{before-last}
 use Rattle.parse.specs.Containers.{parent-of}
+use Rattle.parse.proofs.Moves.{closed-as}
 use Rattle.sheet.specs.Sound.{nth}
-use Rattle.promises.proofs.Rising.Spans.{span-of, mixed-bare, end-bare, opener-bare}
+use Rattle.promises.proofs.Rising.Spans.{span-of, mixed-bare, end-bare, opens-bare}
 
 -- 0, or the index of a token that is no scalar
 abbrev pub Stands : List Token → ℕ → Type 0
@@ -82,6 +84,9 @@ pub opener-link : (kind : ContainerKind) (i : ℕ) (mixed : Bool) → link (open
 unfolding container-of
 opener-link Array i mixed = refl
 opener-link Object i mixed = refl
+
+pub opens-link : {t : Token} {i : ℕ} → Opens t i → link t ≡ i
+opens-link {i = i} o = ap link (o .2) ∙ opener-link (o .0) i (o .1)
 
 pub stands-unlinked : (ts : List Token) (i : ℕ) → i ≡ 0 → Stands ts i
 stands-unlinked ts i e h = absurd (h e)
@@ -171,18 +176,17 @@ pub linked-in : (ts : List Token) (count parent other : ℕ) → Stands ts other
 linked-in ts count parent other s l = record { counted = l .counted; inside = s; links = l .links }
 
 -- an opener that is closed: it names its End, which is laid down last
-pub linked-close : (ts : List Token) (count parent i : ℕ) (kind : ContainerKind) (mixed : Bool) → span-of (nth ts i) ≡ [] → Linked count parent ts
-    → Linked (count + 1) parent (set ts i (opener-of kind count mixed) ++ (end-of i ∷ []))
-linked-close ts count parent i kind mixed e l =
-    let x = opener-of kind count mixed in
+pub linked-close : (ts : List Token) (count parent i : ℕ) (x : Token) → Opens x count → span-of (nth ts i) ≡ [] → Linked count parent ts
+    → Linked (count + 1) parent (closed-as ts i x)
+linked-close ts count parent i x o e l =
     let y = end-of i in
     let more : Linked (count + 1) parent (ts ++ (y ∷ [])) = linked-add ts count parent y (stands-unlinked (ts ++ (y ∷ [])) (link y) (end-link i)) l in
     by-bool (ltb i (length ts))
     (λ h.
     let within : i < length ts = ltb-true _ _ h in
     let here : Stands (ts ++ (y ∷ [])) (link x) =
-    rw (opener-link kind count mixed, l .counted) (λ z. (omega (arith, length-append ts (y ∷ [])), rw (nth-last ts y) (end-bare i)))
+    rw (opens-link o, l .counted) (λ z. (omega (arith, length-append ts (y ∷ [])), rw (nth-last ts y) (end-bare i)))
     in
     rw (← set-append-left ts (y ∷ []) i x within)
-    (linked-set (ts ++ (y ∷ [])) (count + 1) parent i x (rw (nth-add ts y i within) (opener-bare kind count mixed ∙ sym e)) here more))
+    (linked-set (ts ++ (y ∷ [])) (count + 1) parent i x (rw (nth-add ts y i within) (opens-bare o ∙ sym e)) here more))
     (λ h. rw (set-out ts i x (ltb-false _ _ h)) more)

@@ -1,6 +1,6 @@
 -- The views of a list of tokens, in their order, and when they rise from a floor to an end.
 -- Assumes nothing.
-use mathlib.Core.Path.{_≡_, refl, sym, ap}
+use mathlib.Core.Path.{_≡_, refl, sym, _∙_, ap}
 use mathlib.Core.Bool.{Bool, true, false}
 use mathlib.Core.List.{List, [], _∷_, _++_, append-assoc, append-nil}
 use Prim.Native.Nat.{ℕ, zero, suc, _+_, _≤_, _<_}
@@ -13,6 +13,7 @@ use Rattle.tape.specs.declared.token.ContainerKind.the-variants.{Array, Object}
 use Rattle.tape.specs.declared.token.ScalarNamed.{ScalarNamed}
 use Rattle.tape.specs.declared.token.ScalarNamed.the-variants.{Kind}
 use Rattle.tape.specs.Token.{no-token, scalar-named, may-be-empty, mixed-container-token, opener-of, scalar-of, operator-of, end-of}
+use Rattle.tape.specs.Shape.{Opens}
 use Rattle.tape.specs.Tape.{before-last}
 use Rattle.tape.proofs.Makers.{code-names}
 use Rattle.sheet.specs.Sound.{nth}
@@ -44,6 +45,9 @@ pub opener-bare : (kind : ContainerKind) (link : ℕ) (mixed : Bool) → span-of
 unfolding span-of scalar-named
 opener-bare Array link mixed = refl
 opener-bare Object link mixed = refl
+
+pub opens-bare : {t : Token} {link : ℕ} → Opens t link → span-of t ≡ []
+opens-bare {link = link} o = ap span-of (o .2) ∙ opener-bare (o .0) link (o .1)
 
 pub end-bare : (opener : ℕ) → span-of (end-of opener) ≡ []
 unfolding span-of scalar-named

@@ -1,6 +1,6 @@
 -- Every turn keeps the views rising, up to the place that it has come to.
 -- Assumes nothing.
-use mathlib.Core.Path.{_≡_, sym, _∙_, ap}
+use mathlib.Core.Path.{_≡_, refl, sym, _∙_, ap}
 use mathlib.Core.Bool.{Bool, true, false}
 use mathlib.Core.List.{List, [], _∷_, _++_}
 use Prim.Native.Nat.{ℕ, _+_, _-_, _≤_, _<_, min}
@@ -200,15 +200,15 @@ module _ (text : List ℕ) (m : Machine) (ts : List Token) (k : Kept (length tex
   move-keeps (closes {kind} s e) =
       let bare : span-of (nth ts (m .parent)) ≡ [] = open-bare b e in
       let up : ℕ = above ts (m .parent) in
-      let over = stands-closed b (m .parent) kind (m .mixed) up bare (stands-up (m .parent) (b .linked)) in
+      let over = stands-closed b (m .parent) (kind, m .mixed, refl) up bare (stands-up (m .parent) (b .linked)) in
       record {
-        base = base-later (base-in (base-close b (m .parent) kind (m .mixed) bare) up over) (m .at + 1) (omega arith);
+        base = base-later (base-in (base-close b (m .parent) (kind, m .mixed, refl) bare) up over) (m .at + 1) (omega arith);
         topped = resumed-topped (container-in ts up) _ _;
       }
   move-keeps (empties e) =
       let top : Topped ParseOpen (m .count) ts = rw e at (k .topped) in
       record {
-        base = base-later (base-close b (m .count - 1) Array false (top .1)) (m .at + 1) (omega arith);
+        base = base-later (base-close b (m .count - 1) (Array, false, refl) (top .1)) (m .at + 1) (omega arith);
         topped = resumed-topped (container-in ts (m .parent)) _ _;
       }
   move-keeps (settles e) =
@@ -237,7 +237,7 @@ module _ (text : List ℕ) (m : Machine) (ts : List Token) (k : Kept (length tex
 
   end-keeps : {n : ℕ} {x : Result} → Over m ts n x → Meets (Kept L) (Finished L) x
   end-keeps (done-bare e f) = finished b
-  end-keeps (done-closed e f g) = finished (base-close b (m .parent) Object false (b .linked .inside f .1))
+  end-keeps (done-closed e f g) = finished (base-close b (m .parent) (Object, false, refl) (b .linked .inside f .1))
   end-keeps too-early = tt
 
 -- every turn, by its moves
