@@ -278,8 +278,32 @@ kind-same (Containers.the-variants.Opened Object link flag) end mixed = refl
 kind-same Containers.the-variants.Nothing end mixed = refl
 
 -- ---- what stands last: an Unquoted, another scalar, an End, or none of these
-stands-coded : (t : Token) {c : ℕ} → t .code ≡ c → standing-of t ≡ standing-of (record { code = c; a = t .a; b = t .b })
-stands-coded t e = ap (λ (c : ℕ). standing-of (record { code = c; a = t .a; b = t .b })) e
+-- what stands is told by its code alone
+module _ (t : Token) {c : ℕ} (coded : t .code ≡ c) where
+  by-unquoted : {answer : Bool} → eqb c unquoted-code ≡ answer → eqb (t .code) unquoted-code ≡ answer
+  by-unquoted f = ap (λ (x : ℕ). eqb x unquoted-code) coded ∙ f
+
+  by-scalar : {answer : Bool} → is-scalar-code c ≡ answer → is-scalar-code (t .code) ≡ answer
+  by-scalar f = ap is-scalar-code coded ∙ f
+
+  by-end : {answer : Bool} → eqb c end-code ≡ answer → eqb (t .code) end-code ≡ answer
+  by-end f = ap (λ (x : ℕ). eqb x end-code) coded ∙ f
+
+  stands-unquoted : eqb c unquoted-code ≡ true → standing-of t ≡ Standings.the-variants.Unquoted
+  unfolding standing-of
+  stands-unquoted f = rw (standing-of, by-unquoted f)
+
+  stands-other : eqb c unquoted-code ≡ false → is-scalar-code c ≡ true → standing-of t ≡ Standings.the-variants.OtherScalar
+  unfolding standing-of
+  stands-other f g = rw (standing-of, by-unquoted f, by-scalar g)
+
+  stands-end : eqb c unquoted-code ≡ false → is-scalar-code c ≡ false → eqb c end-code ≡ true → standing-of t ≡ Standings.the-variants.End
+  unfolding standing-of
+  stands-end f g h = rw (standing-of, by-unquoted f, by-scalar g, by-end h)
+
+  stands-nothing : eqb c unquoted-code ≡ false → is-scalar-code c ≡ false → eqb c end-code ≡ false → standing-of t ≡ Standings.the-variants.Nothing
+  unfolding standing-of
+  stands-nothing f g h = rw (standing-of, by-unquoted f, by-scalar g, by-end h)
 
 token-stands : {P : Type 0} (t : Token)
     → (standing-of t ≡ Standings.the-variants.Unquoted → Rust.as-last (some (read t)) ≡ Rust.AnUnquoted (t .a) (t .b) → P)
@@ -290,16 +314,16 @@ token-stands : {P : Type 0} (t : Token)
 unfolding read token-as-rust standing-of scalar-named
 token-stands t unquoted other ended nothing =
     by-code t
-    (λ e. nothing (stands-coded t e) (rw e))
-    (λ e. nothing (stands-coded t e) (rw e))
-    (λ e. nothing (stands-coded t e) (rw e))
-    (λ e. unquoted (stands-coded t e) (rw e))
-    (λ e. other (stands-coded t e) (rw e))
-    (λ e. other (stands-coded t e) (rw e))
-    (λ e. other (stands-coded t e) (rw e))
-    (λ e. nothing (stands-coded t e) (rw e (by-number (t .a) (λ o q. rw q) (λ q. rw q))))
-    (λ e. ended (stands-coded t e) (rw e) e)
-    (λ e. other (stands-coded t e) (rw e))
+    (λ e. nothing (stands-nothing t e refl refl refl) (rw e))
+    (λ e. nothing (stands-nothing t e refl refl refl) (rw e))
+    (λ e. nothing (stands-nothing t e refl refl refl) (rw e))
+    (λ e. unquoted (stands-unquoted t e refl) (rw e))
+    (λ e. other (stands-other t e refl refl) (rw e))
+    (λ e. other (stands-other t e refl refl) (rw e))
+    (λ e. other (stands-other t e refl refl) (rw e))
+    (λ e. nothing (stands-nothing t e refl refl refl) (rw e (by-number (t .a) (λ o q. rw q) (λ q. rw q))))
+    (λ e. ended (stands-end t e refl refl refl) (rw e) e)
+    (λ e. other (stands-other t e refl refl) (rw e))
     (λ c s q. nothing s (rw (read, q)))
 
 pub by-stands : {P : Type 0} (ts : List Token) (n : ℕ) → length ts ≡ n → let t = nth ts (n - 1) in
