@@ -9,6 +9,9 @@ use report::put::front;
 use tape::words::WORDS_PER_TOKEN;
 ghost use Prim.Native.Nat.{_+_, _≤_, _<_};
 ghost use lib.ListN.{length};
+ghost use Rattle.tape.specs.Words.{words-for};
+ghost use Rattle.report.specs.Room.{most-input, most-tokens};
+ghost use Rattle.answers.specs.Whole.{most-answer, stop-bytes, block-bytes, Whole};
 
 // The bytes of a record before its body: its kind, its capacity and its length.
 const HEAD: usize = 5;
@@ -85,7 +88,10 @@ fn tokens_answer(
     capacity: usize,
     text: &[u8],
     words: &mut [u32],
-) -> Answer {
+) -> Answer
+    requires { ⌜ (at + most-answer ≤ length (now out)) × (length (now words) ≤ words-for most-tokens) ⌝ }
+    ensures { λ r. ⌜ Whole capacity (now (text .entry)) (now (out .entry)) at r (now (out .exit)) ⌝ }
+{
     if words.len() / WORDS_PER_TOKEN < capacity {
         return Answer::Bad;
     }
@@ -94,12 +100,24 @@ fn tokens_answer(
 }
 
 // Kind `S`: the readings of a scalar.
-fn readings_answer(out: &mut [u8], at: usize, scalar: &[u8]) -> Answer {
+fn readings_answer(out: &mut [u8], at: usize, capacity: usize, scalar: &[u8]) -> Answer
+    requires { ⌜ at + most-answer ≤ length (now out) ⌝ }
+    ensures { λ r. ⌜ Whole capacity (now (scalar .entry)) (now (out .entry)) at r (now (out .exit)) ⌝ }
+{
     Answer::Put(report::readings::put_readings(out, at, scalar))
 }
 
 // Kind `C`: whether a sheet is sound. The text's length, the count, and the words to the body's end.
-fn check_answer(out: &mut [u8], at: usize, body: &[u8], words: &mut [u32]) -> Answer {
+fn check_answer(
+    out: &mut [u8],
+    at: usize,
+    capacity: usize,
+    body: &[u8],
+    words: &mut [u32],
+) -> Answer
+    requires { ⌜ at + most-answer ≤ length (now out) ⌝ }
+    ensures { λ r. ⌜ Whole capacity (now (body .entry)) (now (out .entry)) at r (now (out .exit)) ⌝ }
+{
     if body.len() < CHECK_HEAD {
         return Answer::Bad;
     }
@@ -113,7 +131,10 @@ fn check_answer(out: &mut [u8], at: usize, body: &[u8], words: &mut [u32]) -> An
 }
 
 // Kind `V`: a token's view. The index, the count, how many words, the words, and the text to the body's end.
-fn view_answer(out: &mut [u8], at: usize, body: &[u8], words: &mut [u32]) -> Answer {
+fn view_answer(out: &mut [u8], at: usize, capacity: usize, body: &[u8], words: &mut [u32]) -> Answer
+    requires { ⌜ (at + most-answer ≤ length (now out)) × (length (now body) ≤ most-input) ⌝ }
+    ensures { λ r. ⌜ Whole capacity (now (body .entry)) (now (out .entry)) at r (now (out .exit)) ⌝ }
+{
     if body.len() < VIEW_HEAD {
         return Answer::Bad;
     }
@@ -127,7 +148,7 @@ fn view_answer(out: &mut [u8], at: usize, body: &[u8], words: &mut [u32]) -> Ans
     Answer::Put(report::sheets::put_view(out, at, &body[text..], &words[..n], count, index))
 }
 
-// Answers a record by its kind.
+// Answers a record by its kind: it is bad, or all of its answer is put.
 fn answer_record(
     out: &mut [u8],
     at: usize,
@@ -135,24 +156,43 @@ fn answer_record(
     capacity: usize,
     body: &[u8],
     words: &mut [u32],
-) -> Answer {
+) -> Answer
+    requires { ⌜ (at + most-answer ≤ length (now out)) × (length (now words) ≤ words-for most-tokens) × (length (now body) ≤ most-input) ⌝ }
+    ensures { λ r. ⌜ Whole capacity (now (body .entry)) (now (out .entry)) at r (now (out .exit)) ⌝ }
+{
     match kind {
         b'T' => tokens_answer(out, at, capacity, body, words),
-        b'S' => readings_answer(out, at, body),
-        b'C' => check_answer(out, at, body, words),
-        b'V' => view_answer(out, at, body, words),
+        b'S' => readings_answer(out, at, capacity, body),
+        b'C' => check_answer(out, at, capacity, body, words),
+        b'V' => view_answer(out, at, capacity, body, words),
         _ => Answer::Bad,
     }
 }
 
 // Puts the line for a bad record, and writes all lines.
-fn stop(out: &mut [u8], at: usize) {
+fn stop(out: &mut [u8], at: usize)
+    requires { ⌜ at + stop-bytes ≤ length (now out) ⌝ }
+{
     let n = report::put::put_bytes(out, at, b"bad record\n");
     io::write_all(STDOUT_FILENO, front(out, n));
 }
 
-// Answers the records that are all there. It writes when more than half of the buffer is taken, and the other half holds any answer.
-fn answer_block(input: &[u8], words: &mut [u32], out: &mut [u8]) -> Answered {
+// The place for the next answer. Where more than half of the buffer is taken, what stands there is written first.
+fn place_for_next(out: &[u8], to: usize) -> usize
+    requires { ⌜ block-bytes ≤ length (now out) ⌝ }
+    ensures { λ r. ⌜ r + most-answer + stop-bytes ≤ length (now (out .entry)) ⌝ }
+{
+    if out.len() / 2 < to {
+        io::write_all(STDOUT_FILENO, front(out, to));
+        return 0;
+    }
+    to
+}
+
+// Answers the records that are all there.
+fn answer_block(input: &[u8], words: &mut [u32], out: &mut [u8]) -> Answered
+    requires { ⌜ (block-bytes ≤ length (now out)) × (length (now words) ≤ words-for most-tokens) ⌝ }
+{
     let mut to = 0;
     let mut at = 0;
     while at + HEAD <= input.len() {
@@ -167,15 +207,12 @@ fn answer_block(input: &[u8], words: &mut [u32], out: &mut [u8]) -> Answered {
             return Answered::Until(at);
         }
         let end = start + size;
-        if DUMP_BYTES < to {
-            io::write_all(STDOUT_FILENO, front(out, to));
-            to = 0;
-        }
         let capacity = pair(input[at + 1], input[at + 2]);
-        match answer_record(out, to, input[at], capacity, &input[start..end], words) {
+        let place = place_for_next(out, to);
+        match answer_record(out, place, input[at], capacity, &input[start..end], words) {
             Answer::Put(next) => to = next,
             Answer::Bad => {
-                stop(out, to);
+                stop(out, place);
                 return Answered::Stopped;
             }
         }
@@ -204,7 +241,9 @@ fn to_front(input: &mut [u8], from: usize, n: usize) -> usize
 
 // Block by block, until the input ends or a record is bad. A record that a block cuts waits at the front for the rest of it. The count of
 // turns is there so that the loop is seen to end, and no input is that long.
-fn run(input: &mut [u8], words: &mut [u32], out: &mut [u8]) {
+fn run(input: &mut [u8], words: &mut [u32], out: &mut [u8])
+    requires { ⌜ (block-bytes ≤ length (now out)) × (length (now words) ≤ words-for most-tokens) ⌝ }
+{
     let mut kept = 0;
     let mut turns = u64::MAX;
     while 0 < turns {
@@ -226,9 +265,18 @@ fn run(input: &mut [u8], words: &mut [u32], out: &mut [u8]) {
     }
 }
 
+// All of the input, with what the program lends: the buffer has room for any answer when one is put.
+fn answer_input(
+    input: &mut [u8; BLOCK],
+    words: &mut [u32; TAPE_WORDS],
+    out: &mut [u8; ANSWER_BYTES],
+) {
+    run(input, words, out);
+}
+
 fn main() {
     let mut input = [0u8; BLOCK];
     let mut words = [0u32; TAPE_WORDS];
     let mut out = [0u8; ANSWER_BYTES];
-    run(&mut input, &mut words, &mut out);
+    answer_input(&mut input, &mut words, &mut out);
 }

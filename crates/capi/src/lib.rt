@@ -1,7 +1,7 @@
 // The calls for C: parse, check, views, tokens and readings under plain names, on slices (a pointer and a length),
 // pointers to single numbers, and numbers. Each answers document 01's number of a refusal, 0 for none, and writes through
 // every pointer that it is given, whatever it answers.
-use parse::Parsed;
+use machine::Parsed;
 use sheet::views;
 use sheet::views::Viewed;
 use tape::words;

@@ -9,11 +9,11 @@ use Rattle.cut.specs.Runs.{run-end}
 use Rattle.tape.specs.declared.token.Token.{Token}
 use Rattle.tape.specs.declared.token.ScalarKind.{ScalarKind}
 use Rattle.tape.specs.Tape.{Tape}
-use Rattle.parse.specs.declared.machine.State.{State}
-use Rattle.parse.specs.declared.machine.State.the-variants.{Key, KeyValueSeparator, ObjectValue, ParseOpen, ArrayValue}
-use Rattle.parse.specs.declared.machine.Machine.{Machine}
-use Rattle.parse.specs.Machine.{to}
-use Rattle.parse.specs.Containers.{state-in}
+use Rattle.machine.specs.declared.State.{State}
+use Rattle.machine.specs.declared.State.the-variants.{Key, KeyValueSeparator, ObjectValue, ParseOpen, ArrayValue}
+use Rattle.machine.specs.declared.Machine.{Machine}
+use Rattle.machine.specs.Machine.{to}
+use Rattle.machine.specs.Parents.{state-in}
 use Rattle.parse.specs.Parse.{turn}
 use Rattle.parse.proofs.Moves.{Result, container-in, above, Asked, Valued, Came, passes, separates, takes, separates-by, operates, mixes, mixes-by}
 use Rattle.parse.proofs.Moves.{opens, heads, closes, empties, settles, begins, values, objects, refuses, Over, done-bare, done-closed, too-early}

@@ -1,4 +1,3 @@
-pub mod Bytes
 pub mod Falls
 pub mod Moves
 pub mod Outcomes

@@ -29,22 +29,20 @@ use Rattle.tape.specs.declared.token.Container.{Container}
 use Rattle.tape.specs.declared.token.Standing as Standings
 use Rattle.tape.specs.Token.{no-token, mixed-container-token, opener-of, end-of, scalar-of, operator-of, headed, container-of, standing-of}
 use Rattle.tape.specs.Tape.{Tape, Room, unbounded, before-last}
-use Rattle.parse.specs.declared.machine.State.{State}
-use Rattle.parse.specs.declared.machine.State.the-variants.{Key, KeyValueSeparator, ObjectValue, ParseOpen, ArrayValue}
-use Rattle.parse.specs.declared.machine.Machine.{Machine}
-use Rattle.parse.specs.declared.machine.Refusal.{Refusal}
-use Rattle.parse.specs.declared.machine.Refusal.the-variants.{Eof, StackEmpty, NoHeader, NoValue, MixedParameter, NothingPrecedes, UnknownOperator}
-use Rattle.parse.specs.declared.machine.Refusal.the-variants.{NoParameter, OpenName}
-use Rattle.parse.specs.declared.key.KeyByte as KeyBytes
-use Rattle.parse.specs.declared.parse_open.OpenByte as OpenBytes
-use Rattle.parse.specs.declared.array_value.ValueByte as ValueBytes
-use Rattle.parse.specs.Refusals.{number}
-use Rattle.parse.specs.Machine.{byte-at, to}
-use Rattle.parse.specs.Containers.{parent-of, own-kind, resumed, nothing-open}
-use Rattle.parse.specs.Key.{key-byte}
-use Rattle.parse.specs.KeyValueSeparator.{mixed-on}
-use Rattle.parse.specs.ParseOpen.{open-byte, flag-parent}
-use Rattle.parse.specs.ArrayValue.{value-byte}
+use Rattle.machine.specs.declared.State.{State}
+use Rattle.machine.specs.declared.State.the-variants.{Key, KeyValueSeparator, ObjectValue, ParseOpen, ArrayValue}
+use Rattle.machine.specs.declared.Machine.{Machine}
+use Rattle.machine.specs.declared.Refusal.{Refusal}
+use Rattle.machine.specs.declared.Refusal.the-variants.{Eof, StackEmpty, NoHeader, NoValue, MixedParameter, NothingPrecedes, UnknownOperator}
+use Rattle.machine.specs.declared.Refusal.the-variants.{NoParameter, OpenName}
+use Rattle.machine.specs.declared.bytes.KeyByte as KeyBytes
+use Rattle.machine.specs.declared.bytes.OpenByte as OpenBytes
+use Rattle.machine.specs.declared.bytes.ValueByte as ValueBytes
+use Rattle.machine.specs.Refusals.{number}
+use Rattle.machine.specs.Machine.{byte-at, to, mixed-on}
+use Rattle.machine.specs.Parents.{parent-of, own-kind, resumed, nothing-open}
+use Rattle.machine.specs.Bytes.{key-byte, open-byte, value-byte}
+use Rattle.parse.specs.ParseOpen.{flag-parent}
 
 -- where a turn goes on, with which tokens; with how many and which it is done; or its refusal
 pub data Result : Type 0 where

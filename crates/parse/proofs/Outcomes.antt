@@ -1,26 +1,25 @@
 -- What a parse leaves on a tape depends on the tape's length alone.
 -- Assumes nothing.
-use mathlib.Core.Path.{_≡_, sym, _∙_, ap}
+use mathlib.Core.Path.{_≡_, refl, sym, _∙_, ap}
+use mathlib.Core.Bool.{Bool}
 use mathlib.Core.List.{List, []}
 use Prim.Native.Nat.{ℕ, _≤_, _<_, min}
-use native.Mathlib.Nat.{sub-zero}
 use native.Mathlib.Omega.{arith}
 use borrow.Author.Tests.{lt-ltb, le-ltb}
 use lib.ListN.{length, replicate}
-use Rattle.tape.specs.Words.{capacity, greatest-word, room-of, tokens-in, words-of, padded, cleared}
+use Rattle.tape.specs.Words.{capacity, greatest-word, room-of, tokens-in, cleared}
 use Rattle.tape.specs.Tape.{Room, holds, view, empty-tape}
-use Rattle.parse.specs.declared.machine.Machine.{Machine}
-use Rattle.parse.specs.declared.machine.Refusal.the-variants.{TooLong}
-use Rattle.parse.specs.declared.Parsed.the-variants.{Refused}
-use Rattle.parse.specs.Machine.{next}
-use Rattle.parse.specs.Parse.{run, has-bom, start, enough, text-limit, outcome, answer, parse-of}
+use Rattle.machine.specs.declared.Machine.{Machine}
+use Rattle.machine.specs.declared.Refusal.the-variants.{TooLong}
+use Rattle.machine.specs.declared.Ending.{Ending}
+use Rattle.machine.specs.declared.Ending.the-variants as Ended
+use Rattle.machine.specs.declared.Parsed.the-variants.{Refused}
+use Rattle.parse.specs.After.{next}
+use Rattle.machine.specs.Start.{has-bom, start}
+use Rattle.machine.specs.Finish.{outcome, finish}
+use Rattle.parse.specs.Parse.{run, ending, enough, text-limit, answer, parse-of}
 use Rattle.parse.proofs.Moves.{on-tape}
 use Rattle.parse.proofs.Rooms.{runs-alike, told-moved, word-alike}
-
--- clearing from the front leaves zeros
-pub cleared-whole : (ws : List ℕ) → cleared ws 0 ≡ replicate (length ws) 0
-unfolding cleared padded tokens-in words-of
-cleared-whole ws = rw (sub-zero (length ws))
 
 pub parse-too-long : (text ws : List ℕ) → text-limit < length text → parse-of text (length ws) ≡ outcome (Refused TooLong) (replicate (length ws) 0)
 unfolding parse-of
@@ -44,3 +43,9 @@ pub parse-runs : (text ws : List ℕ) → length text ≤ text-limit
     ≡ answer (has-bom text) (length ws) (run text (enough text) (next (start (has-bom text)) (view ws (start (has-bom text) .count))))
 unfolding parse-of
 parse-runs text ws h = rw (parse-of, le-ltb text-limit (length text) h) (numbered text ws h)
+
+-- what the end of a run is made into is the answer of the run
+pub finish-answers : (ws : List ℕ) (e : Ending) (bom : Bool) → finish ws e bom ≡ answer bom (length ws) (ending e ws)
+unfolding finish cleared
+finish-answers ws (Ended.Done n) bom = refl
+finish-answers ws (Ended.Refused r) bom = refl

@@ -2,22 +2,22 @@
 -- that are alike for counts below a bound are alike for a run that stays below it. So it never shows that a word numbers no more than
 -- 4,294,967,295 tokens: an index always fits its word.
 -- Assumes nothing.
-use mathlib.Core.Path.{_≡_, refl, sym, _∙_, ap}
+use mathlib.Core.Path.{_≡_, refl, sym, _∙_}
 use mathlib.Core.Bool.{Bool, true, false}
-use mathlib.Core.List.{List, []}
+use mathlib.Core.List.{List}
 use Prim.Native.Nat.{ℕ, zero, suc, _+_, _*_, _≤_, _<_, min}
 use native.Mathlib.Omega.{arith}
 use borrow.Author.Tests.{lt-ltb, le-ltb, ltb-true, ltb-false}
 use lib.Dec.{ltb}
-use lib.ListN.{length}
 use Rattle.data.proofs.Cases.{by-bool}
 use Rattle.tape.specs.declared.token.Token.{Token}
 use Rattle.tape.specs.Words.{greatest-word}
-use Rattle.tape.specs.Tape.{Tape, Room, holds, has-room}
-use Rattle.parse.specs.declared.machine.Machine.{Machine}
-use Rattle.parse.specs.declared.machine.Refusal.{Refusal}
-use Rattle.parse.specs.declared.machine.Refusal.the-variants.{Full}
-use Rattle.parse.specs.Machine.{After, next, done, refused, to}
+use Rattle.tape.specs.Tape.{Room, holds, has-room}
+use Rattle.machine.specs.declared.Machine.{Machine}
+use Rattle.machine.specs.declared.Refusal.{Refusal}
+use Rattle.machine.specs.declared.Refusal.the-variants.{Full}
+use Rattle.machine.specs.Machine.{to}
+use Rattle.parse.specs.After.{After, next, done, refused}
 use Rattle.parse.specs.Parse.{turn, run, answer}
 use Rattle.parse.proofs.Runs.{run-done, run-refused, run-turn}
 use Rattle.parse.proofs.Moves.{Result, goes, ends, stops, on-tape, Unasked, Refuses, Came, Over, Turned, on-byte, at-end}

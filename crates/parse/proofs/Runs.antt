@@ -6,10 +6,11 @@ use Prim.Native.Nat.{ℕ, zero, suc, _+_, _<_}
 use native.Mathlib.Nat.{zero-add, suc-add, not-suc-le-zero}
 use native.Mathlib.Omega.{arith}
 use Rattle.tape.specs.Tape.{Tape, empty-tape}
-use Rattle.parse.specs.declared.machine.Machine.{Machine}
-use Rattle.parse.specs.declared.machine.Refusal.{Refusal}
-use Rattle.parse.specs.Machine.{After, next, done, refused}
-use Rattle.parse.specs.Parse.{turn, run, has-bom, start, enough}
+use Rattle.machine.specs.declared.Machine.{Machine}
+use Rattle.machine.specs.declared.Refusal.{Refusal}
+use Rattle.parse.specs.After.{After, next, done, refused}
+use Rattle.machine.specs.Start.{has-bom, start}
+use Rattle.parse.specs.Parse.{turn, run, enough}
 use Rattle.parse.proofs.Walk.{All}
 use Rattle.parse.proofs.Falls.{left, rank-few, Fewer, Any, turn-falls}
 

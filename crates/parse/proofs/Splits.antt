@@ -12,11 +12,11 @@ use Rattle.tape.specs.declared.token.ContainerKind.{ContainerKind}
 use Rattle.tape.specs.declared.token.Container as Containers
 use Rattle.tape.specs.declared.token.Standing as Standings
 use Rattle.tape.specs.Tape.{Tape, Laying, laid, full}
-use Rattle.parse.specs.declared.machine.State.{State}
-use Rattle.parse.specs.declared.machine.State.the-variants.{Key, KeyValueSeparator, ObjectValue, ParseOpen, ArrayValue}
-use Rattle.parse.specs.declared.key.KeyByte as KeyBytes
-use Rattle.parse.specs.declared.parse_open.OpenByte as OpenBytes
-use Rattle.parse.specs.declared.array_value.ValueByte as ValueBytes
+use Rattle.machine.specs.declared.State.{State}
+use Rattle.machine.specs.declared.State.the-variants.{Key, KeyValueSeparator, ObjectValue, ParseOpen, ArrayValue}
+use Rattle.machine.specs.declared.bytes.KeyByte as KeyBytes
+use Rattle.machine.specs.declared.bytes.OpenByte as OpenBytes
+use Rattle.machine.specs.declared.bytes.ValueByte as ValueBytes
 
 pub by-skipped : {P : Type 0} (s : Skipped) → ((p : ℕ) → s ≡ At p → P) → (s ≡ End → P) → P
 by-skipped (At p) f g = f p refl

@@ -8,16 +8,17 @@ use Rattle.cut.specs.declared.Cut.{Cut}
 use Rattle.cut.specs.declared.Cut.the-variants as Cuts
 use Rattle.cut.specs.Scalars.{scalar-cut}
 use Rattle.tape.specs.Tape.{Tape, Laying, laid, full, lay}
-use Rattle.parse.specs.declared.machine.State.{State}
-use Rattle.parse.specs.declared.machine.State.the-variants.{Key, KeyValueSeparator, ObjectValue, ParseOpen, ArrayValue}
-use Rattle.parse.specs.declared.machine.Machine.{Machine}
-use Rattle.parse.specs.declared.machine.Refusal.the-variants.{Eof}
+use Rattle.machine.specs.declared.State.{State}
+use Rattle.machine.specs.declared.State.the-variants.{Key, KeyValueSeparator, ObjectValue, ParseOpen, ArrayValue}
+use Rattle.machine.specs.declared.Machine.{Machine}
+use Rattle.machine.specs.declared.Refusal.the-variants.{Eof}
 use Rattle.parse.specs.declared.scalars.Scalar.{Scalar}
 use Rattle.parse.specs.declared.scalars.Scalar.the-variants as Found
-use Rattle.parse.specs.Machine.{After, next, refused, and-then, to, or-full, lay-then}
+use Rattle.machine.specs.Machine.{to, is-parse-open}
+use Rattle.parse.specs.After.{After, next, refused, and-then, or-full, lay-then}
 use Rattle.parse.specs.Scalars.{scalar-found, cut-then, scalar-then}
 use Rattle.parse.specs.ParseOpen.{flag-parent, open-as, open-scalar}
-use Rattle.parse.specs.Step.{is-parse-open, entry, entered}
+use Rattle.parse.specs.Step.{entry, entered}
 
 module _ (text : List ℕ) (m : Machine) where
   -- what was found is added and passed, or the text ends in it

@@ -4,55 +4,58 @@
 use mathlib.Core.Path.{_≡_, refl, _∙_, ap}
 use mathlib.Core.Bool.{true, false}
 use mathlib.Core.List.{List, [], _∷_, _++_}
-use Prim.Native.Nat.{ℕ, zero, suc, _+_, _-_, _≤_, _<_}
+use Prim.Native.Nat.{ℕ, zero, suc, _+_, _-_, _<_}
 use native.Mathlib.Omega.{arith}
 use borrow.Author.Tests.{eqb-true, eqb-false}
 use lib.Dec.{eqb, ltb}
-use lib.ListN.{length, replicate}
+use lib.ListN.{length}
 use Rattle.data.specs.Bytes.{brace-open, brace-close, equals, bracket-open, bracket-close, exclamation}
 use Rattle.data.proofs.Cases.{by-bool}
 use Rattle.cut.specs.Blanks.{skip-ws}
 use Rattle.cut.specs.Runs.{run-end}
 use Rattle.cut.specs.Scalars.{scalar-cut}
 use Rattle.cut.proofs.Blanks.{Landed, skip-lands}
-use Rattle.operator.specs.declared.Operator.{Operator}
-use Rattle.operator.specs.Operators.{number-of, is-equal, sighted}
+use Rattle.operator.specs.Operators.{is-equal, sighted}
 use Rattle.operator.proofs.Widths.{sighted-width}
 use Rattle.tape.specs.declared.token.Token.{Token}
 use Rattle.tape.specs.declared.token.ScalarKind.{ScalarKind}
-use Rattle.tape.specs.declared.token.ScalarKind.the-variants.{Unquoted, Parameter, UndefinedParameter}
+use Rattle.tape.specs.declared.token.ScalarKind.the-variants.{Unquoted}
 use Rattle.tape.specs.declared.token.ContainerKind.{ContainerKind}
 use Rattle.tape.specs.declared.token.ContainerKind.the-variants.{Array, Object}
-use Rattle.tape.specs.declared.token.Standing as Standings
-use Rattle.tape.specs.Token.{mixed-container-token, opener-of, end-of, operator-of, standing-of, headed}
+use Rattle.tape.specs.Token.{mixed-container-token, opener-of, standing-of}
 use Rattle.tape.specs.Words.{capacity, tokens-in, padded}
 use Rattle.tape.proofs.Views.{padded-tokens}
 use Rattle.tape.specs.Tape.{Tape, Room, holds, has-room, before-last, token-at, replace, add, add-before-last, lay, lay-mixed}
-use Rattle.parse.specs.declared.machine.State.{State}
-use Rattle.parse.specs.declared.machine.State.the-variants.{Key, KeyValueSeparator, ObjectValue, ParseOpen, ArrayValue}
-use Rattle.parse.specs.declared.machine.Machine.{Machine}
-use Rattle.parse.specs.declared.machine.Refusal.{Refusal}
-use Rattle.parse.specs.declared.machine.Refusal.the-variants.{Eof, Full}
-use Rattle.parse.specs.declared.key.KeyByte as KeyBytes
-use Rattle.parse.specs.declared.parse_open.OpenByte as OpenBytes
-use Rattle.parse.specs.declared.array_value.ValueByte as ValueBytes
-use Rattle.parse.specs.Refusals.{number}
-use Rattle.parse.specs.Machine.{After, next, done, refused, and-then, byte-at, to, within, or-full, lay-then}
+use Rattle.machine.specs.declared.State.{State}
+use Rattle.machine.specs.declared.State.the-variants.{Key, KeyValueSeparator, ObjectValue, ParseOpen, ArrayValue}
+use Rattle.machine.specs.declared.Machine.{Machine}
+use Rattle.machine.specs.declared.Refusal.{Refusal}
+use Rattle.machine.specs.declared.Refusal.the-variants.{Eof, Full}
+use Rattle.machine.specs.declared.bytes.KeyByte as KeyBytes
+use Rattle.machine.specs.declared.bytes.OpenByte as OpenBytes
+use Rattle.machine.specs.declared.bytes.ValueByte as ValueBytes
+use Rattle.machine.specs.Refusals.{number}
+use Rattle.machine.specs.Machine.{byte-at, to, within, mixed-on}
+use Rattle.parse.specs.After.{After, next, done, refused, and-then, or-full, lay-then}
 use Rattle.parse.specs.Scalars.{scalar-then}
-use Rattle.parse.specs.Containers.{open-then, resumed, close-at, close, nothing-open, is-key, key-end, text-end}
+use Rattle.machine.specs.Parents.{resumed, nothing-open}
+use Rattle.parse.specs.Containers.{open-then, close-at, close, key-end, text-end}
 use Rattle.parse.specs.Parameter.{parameter-object, value-or-object, parameter-value, parameter-named, parameter-name, parameter}
-use Rattle.parse.specs.Key.{key-byte, key-close, open-header, key-header, key-brace, key-turn}
-use Rattle.parse.specs.KeyValueSeparator.{mixed-on, mix-then, separator-then, separator-turn}
+use Rattle.machine.specs.Bytes.{key-byte, open-byte, follows-key, value-byte}
+use Rattle.parse.specs.Key.{key-close, open-header, key-header, key-brace, key-turn}
+use Rattle.parse.specs.KeyValueSeparator.{mix-then, separator-then, separator-turn}
 use Rattle.parse.specs.ObjectValue.{object-value-turn}
-use Rattle.parse.specs.ParseOpen.{open-byte, settle, open-empty, open-parameter, open-brace, flag-parent, follows-key, open-as, open-scalar}
+use Rattle.parse.specs.ParseOpen.{settle, open-empty, open-parameter, open-brace, flag-parent, open-as, open-scalar}
 use Rattle.parse.specs.ParseOpen.{parse-open-turn}
-use Rattle.parse.specs.ArrayValue.{value-byte, array-close, operator-then, after-end, unmixed-operator, array-operator, array-value-turn}
-use Rattle.parse.specs.declared.Parsed.the-variants.{Tokens, Refused}
-use Rattle.parse.specs.Parse.{state-turn, turn, run, has-bom, start, enough, text-limit, Outcome, outcome, answer, parse-of}
+use Rattle.parse.specs.ArrayValue.{array-close, operator-then, after-end, unmixed-operator, array-operator, array-value-turn}
+use Rattle.machine.specs.declared.Parsed.the-variants.{Tokens, Refused}
+use Rattle.machine.specs.Start.{has-bom, start}
+use Rattle.machine.specs.Finish.{Outcome, outcome}
+use Rattle.parse.specs.Parse.{state-turn, turn, run, enough, text-limit, answer, parse-of}
 use Rattle.parse.proofs.Splits.{by-skipped, by-cut, by-sighted, by-container, by-standing, by-state, by-key-byte, by-open-byte, by-value-byte}
 use Rattle.parse.proofs.States as States
 use Rattle.parse.proofs.Moves.{Result, goes, ends, stops, on-tape, token-in, container-in, above, unsettled, closed-as, flagged, Taken, unquoted, quoted}
-use Rattle.parse.proofs.Moves.{Named, defined, undefined, Asked, Valued, run-token, Takes, Opens, Closes, Settles, Asks, Bracketed, Unasked, lone}
+use Rattle.parse.proofs.Moves.{Named, defined, undefined, Asked, Valued, run-token, Takes, Opens, Closes, Asks, Bracketed, lone}
 use Rattle.parse.proofs.Moves.{nameless, open-name, valueless, ScalarStands, Refuses, Came, Over, Turned, on-byte, at-end}
 use Rattle.parse.proofs.Moves as M
 

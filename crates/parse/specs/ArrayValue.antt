@@ -2,40 +2,26 @@
 -- before it, mixed on; last token End and byte `=`, skip it; else 7. Mixed: `<=` `<` `>=` `>` `!=` `==` `=` add an operator (`=` adds
 -- Equal); else 8. Else a scalar.
 use Prim.Native.Nat.{ℕ, _+_, _-_}
-use mathlib.Core.Bool.{Bool, true, false}
-use mathlib.Core.List.{List, [], _∷_}
+use mathlib.Core.Bool.{true, false}
+use mathlib.Core.List.{List}
 use lib.Dec.{eqb}
-use Rattle.data.specs.Bytes.{equals, greater-than, less-than, exclamation, brace-open, brace-close}
-use Rattle.data.specs.Classes.{among}
+use Rattle.data.specs.Bytes.{equals}
 use Rattle.operator.specs.declared.Sighted as Sighted
 use Rattle.operator.specs.Operators.{number-of, sighted}
 use Rattle.tape.specs.declared.token.Standing as Standing
 use Rattle.tape.specs.Token.{operator-of, standing-of}
 use Rattle.tape.specs.Tape.{Tape, token-at}
-use Rattle.parse.specs.declared.machine.State.the-variants.{ArrayValue}
-use Rattle.parse.specs.declared.machine.Machine.{Machine}
-use Rattle.parse.specs.declared.machine.Refusal.the-variants.{StackEmpty, NothingPrecedes, UnknownOperator}
-use Rattle.parse.specs.declared.array_value.ValueByte.{ValueByte}
-use Rattle.parse.specs.declared.array_value.ValueByte.the-variants.{Brace, Closer, Sign, Other}
-use Rattle.parse.specs.Machine.{After, next, refused, byte-at, to, lay-then}
+use Rattle.machine.specs.declared.State.the-variants.{ArrayValue}
+use Rattle.machine.specs.declared.Machine.{Machine}
+use Rattle.machine.specs.declared.Refusal.the-variants.{StackEmpty, NothingPrecedes, UnknownOperator}
+use Rattle.machine.specs.declared.bytes.ValueByte.the-variants.{Brace, Closer, Sign, Other}
+use Rattle.machine.specs.Machine.{byte-at, to}
+use Rattle.machine.specs.Bytes.{value-byte}
+use Rattle.parse.specs.After.{After, next, refused, lay-then}
 use Rattle.parse.specs.Scalars.{scalar-then}
-use Rattle.parse.specs.Containers.{open-then, container-at, parent-of, own-kind, close, nothing-open}
+use Rattle.machine.specs.Parents.{container-at, parent-of, own-kind, nothing-open}
+use Rattle.parse.specs.Containers.{open-then, close}
 use Rattle.parse.specs.KeyValueSeparator.{mix-then}
-
--- whether a byte is `<` `>` `!` or `=`
-unfoldable pub begins-operator : ℕ → Bool
-begins-operator b = among b (less-than ∷ greater-than ∷ exclamation ∷ equals ∷ [])
-
--- what a byte is in ArrayValue
-unfoldable pub value-byte : ℕ → ValueByte
-value-byte b =
-    elim (eqb b brace-open) [
-      | true ↦ Brace
-      | false ↦ elim (eqb b brace-close) [
-        | true ↦ Closer
-        | false ↦ elim (begins-operator b) [ true ↦ Sign | false ↦ Other ]
-      ]
-    ]
 
 -- `}`: close, own kind, flag = mixed; 3 StackEmpty with nothing open, at it
 unfoldable pub array-close : Tape → Machine → After

@@ -4,7 +4,7 @@ use mathlib.Core.List.{List}
 use Prim.Native.Nat.{ℕ, _≤_, _<_}
 use lib.ListN.{length}
 use Rattle.data.specs.Classes.{classes}
-use Rattle.parse.specs.declared.machine.Machine.{Machine}
+use Rattle.machine.specs.declared.Machine.{Machine}
 use Rattle.parse.specs.Parse.{text-limit}
 
 -- the machine stands at a byte of a text within the limit

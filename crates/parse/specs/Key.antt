@@ -4,36 +4,24 @@ use Prim.Native.Nat.{ℕ, _+_, _-_}
 use mathlib.Core.Bool.{true, false}
 use mathlib.Core.List.{List}
 use lib.Dec.{eqb}
-use Rattle.data.specs.Bytes.{bracket-open, bracket-close, brace-open, brace-close}
+use Rattle.data.specs.Bytes.{brace-close}
 use Rattle.cut.specs.declared.Skipped.the-variants.{At, End}
 use Rattle.cut.specs.Blanks.{skip-ws}
 use Rattle.tape.specs.declared.token.ContainerKind.the-variants.{Array, Object}
 use Rattle.tape.specs.declared.token.Standing as Standing
 use Rattle.tape.specs.Token.{opener-of, standing-of, headed}
 use Rattle.tape.specs.Tape.{Tape, token-at, replace}
-use Rattle.parse.specs.declared.machine.State.the-variants.{Key, KeyValueSeparator, ParseOpen}
-use Rattle.parse.specs.declared.machine.Machine.{Machine}
-use Rattle.parse.specs.declared.machine.Refusal.the-variants.{Eof, NoHeader}
-use Rattle.parse.specs.declared.key.KeyByte.{KeyByte}
-use Rattle.parse.specs.declared.key.KeyByte.the-variants.{Closer, Brace, Bracket, Other}
-use Rattle.parse.specs.Machine.{After, next, refused, byte-at, to, lay-then}
+use Rattle.machine.specs.declared.State.the-variants.{Key, KeyValueSeparator, ParseOpen}
+use Rattle.machine.specs.declared.Machine.{Machine}
+use Rattle.machine.specs.declared.Refusal.the-variants.{Eof, NoHeader}
+use Rattle.machine.specs.declared.bytes.KeyByte.the-variants.{Closer, Brace, Bracket, Other}
+use Rattle.machine.specs.Machine.{byte-at, to}
+use Rattle.machine.specs.Bytes.{key-byte}
+use Rattle.parse.specs.After.{After, next, refused, lay-then}
 use Rattle.parse.specs.Scalars.{scalar-then}
-use Rattle.parse.specs.Containers.{container-at, parent-of, close, nothing-open}
+use Rattle.machine.specs.Parents.{container-at, parent-of, nothing-open}
+use Rattle.parse.specs.Containers.{close}
 use Rattle.parse.specs.Parameter.{parameter}
-
--- what a byte is in Key
-unfoldable pub key-byte : ℕ → KeyByte
-key-byte b =
-    elim (eqb b brace-close) [
-      | true ↦ Closer
-      | false ↦ elim (eqb b bracket-close) [
-        | true ↦ Closer
-        | false ↦ elim (eqb b brace-open) [
-          | true ↦ Brace
-          | false ↦ elim (eqb b bracket-open) [ true ↦ Bracket | false ↦ Other ]
-        ]
-      ]
-    ]
 
 -- `}` or `]`: nothing open, skip it; else close as Object
 unfoldable pub key-close : Tape → Machine → After

@@ -10,13 +10,10 @@ use Rattle.operator.specs.declared.Sighted.the-variants.{Sign, Nothing}
 use Rattle.operator.specs.Operators.{number-of, is-equal, sighted}
 use Rattle.tape.specs.Token.{operator-of}
 use Rattle.tape.specs.Tape.{Tape, lay-mixed}
-use Rattle.parse.specs.declared.machine.State.the-variants.{ObjectValue, ArrayValue}
-use Rattle.parse.specs.declared.machine.Machine.{Machine}
-use Rattle.parse.specs.Machine.{After, next, byte-at, to, or-full, lay-then}
-
--- the machine with mixed on, in ArrayValue
-abbrev pub mixed-on : Machine → ℕ → Machine
-mixed-on m count = record { at = m .at; state = ArrayValue; parent = m .parent; mixed = true; count = count }
+use Rattle.machine.specs.declared.State.the-variants.{ObjectValue, ArrayValue}
+use Rattle.machine.specs.declared.Machine.{Machine}
+use Rattle.machine.specs.Machine.{byte-at, to, mixed-on}
+use Rattle.parse.specs.After.{After, next, or-full, lay-then}
 
 -- MixedContainer goes in before the last token, mixed on, ArrayValue, not consumed
 unfoldable pub mix-then : Tape → Machine → (Tape → Machine → After) → After

@@ -1,5 +1,4 @@
-pub mod Refusals
-pub mod Machine
+pub mod After
 pub mod Scalars
 pub mod Containers
 pub mod Parameter

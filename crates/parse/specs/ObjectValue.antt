@@ -5,10 +5,11 @@ use mathlib.Core.List.{List}
 use lib.Dec.{eqb}
 use Rattle.data.specs.Bytes.{brace-open, brace-close}
 use Rattle.tape.specs.Tape.{Tape}
-use Rattle.parse.specs.declared.machine.State.the-variants.{Key}
-use Rattle.parse.specs.declared.machine.Machine.{Machine}
-use Rattle.parse.specs.declared.machine.Refusal.the-variants.{NoValue}
-use Rattle.parse.specs.Machine.{After, refused, byte-at}
+use Rattle.machine.specs.declared.State.the-variants.{Key}
+use Rattle.machine.specs.declared.Machine.{Machine}
+use Rattle.machine.specs.declared.Refusal.the-variants.{NoValue}
+use Rattle.machine.specs.Machine.{byte-at}
+use Rattle.parse.specs.After.{After, refused}
 use Rattle.parse.specs.Scalars.{scalar-then}
 use Rattle.parse.specs.Containers.{open-then}
 

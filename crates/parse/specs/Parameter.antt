@@ -14,10 +14,11 @@ use Rattle.tape.specs.declared.token.ScalarKind.the-variants.{Unquoted, Paramet
 use Rattle.tape.specs.declared.token.ContainerKind.the-variants.{Object}
 use Rattle.tape.specs.Token.{opener-of, scalar-of}
 use Rattle.tape.specs.Tape.{Tape}
-use Rattle.parse.specs.declared.machine.State.the-variants.{Key, KeyValueSeparator}
-use Rattle.parse.specs.declared.machine.Machine.{Machine}
-use Rattle.parse.specs.declared.machine.Refusal.the-variants.{Eof, NoParameter, OpenName}
-use Rattle.parse.specs.Machine.{After, refused, and-then, byte-at, within, lay-then}
+use Rattle.machine.specs.declared.State.the-variants.{Key, KeyValueSeparator}
+use Rattle.machine.specs.declared.Machine.{Machine}
+use Rattle.machine.specs.declared.Refusal.the-variants.{Eof, NoParameter, OpenName}
+use Rattle.machine.specs.Machine.{byte-at, within}
+use Rattle.parse.specs.After.{After, refused, and-then, lay-then}
 
 -- Else an Object opens, the run from start to end is its first key, KeyValueSeparator
 unfoldable pub parameter-object : ℕ → ℕ → ℕ → Tape → Machine → After

@@ -1,22 +1,23 @@
 -- The parse: every turn skips blanks, the state decides, and the run goes on until it is done or refused.
 use Prim.Native.Nat.{ℕ, zero, suc, _+_, _*_}
-use mathlib.Core.Bool.{Bool, true, false, _&&_}
+use mathlib.Core.Bool.{Bool, true, false}
 use mathlib.Core.List.{List}
-use lib.Dec.{eqb, ltb}
-use lib.ListN.{length, replicate}
+use lib.Dec.{ltb}
+use lib.ListN.{length}
 use Rattle.cut.specs.declared.Skipped.the-variants.{At, End}
 use Rattle.cut.specs.Blanks.{skip-ws}
 use Rattle.tape.specs.Words.{padded}
 use Rattle.tape.specs.Tape.{Tape, view, empty-tape}
-use Rattle.parse.specs.declared.machine.State.the-variants.{Key, KeyValueSeparator, ObjectValue, ParseOpen, ArrayValue}
-use Rattle.parse.specs.declared.machine.Machine.{Machine}
-use Rattle.parse.specs.declared.machine.Refusal.{Refusal}
-use Rattle.parse.specs.declared.machine.Refusal.the-variants.{TooLong, Eof}
-use Rattle.parse.specs.declared.Ending.{Ending}
-use Rattle.parse.specs.declared.Ending.the-variants as Ended
-use Rattle.parse.specs.declared.Parsed.{Parsed}
-use Rattle.parse.specs.declared.Parsed.the-variants.{Tokens, Refused}
-use Rattle.parse.specs.Machine.{After, next, done, refused, byte-at, to}
+use Rattle.machine.specs.declared.State.the-variants.{Key, KeyValueSeparator, ObjectValue, ParseOpen, ArrayValue}
+use Rattle.machine.specs.declared.Machine.{Machine}
+use Rattle.machine.specs.declared.Refusal.the-variants.{TooLong, Eof}
+use Rattle.machine.specs.Start.{has-bom, start}
+use Rattle.machine.specs.declared.Ending.{Ending}
+use Rattle.machine.specs.declared.Ending.the-variants as Ended
+use Rattle.machine.specs.declared.Parsed.the-variants.{Tokens}
+use Rattle.machine.specs.Machine.{to}
+use Rattle.machine.specs.Finish.{Outcome, outcome, refuse}
+use Rattle.parse.specs.After.{After, next, done, refused}
 use Rattle.parse.specs.Containers.{text-end}
 use Rattle.parse.specs.Key.{key-turn}
 use Rattle.parse.specs.KeyValueSeparator.{separator-turn}
@@ -55,31 +56,6 @@ abbrev pub ending : Ending → List ℕ → After
 ending (Ended.Done n) ws = done n (view ws n)
 ending (Ended.Refused r) ws = refused r
 
--- a BOM: ef bb bf
-abbrev pub bom-first : ℕ
-bom-first = 0xef
-
-abbrev pub bom-second : ℕ
-bom-second = 0xbb
-
-abbrev pub bom-third : ℕ
-bom-third = 0xbf
-
-abbrev pub bom-length : ℕ
-bom-length = 3
-
--- whether the text begins with one
-unfoldable pub has-bom : List ℕ → Bool
-has-bom text = eqb (byte-at text 0) bom-first && (eqb (byte-at text 1) bom-second && eqb (byte-at text 2) bom-third)
-
--- Start: Key, parent 0, mixed off, past the BOM
-abbrev pub first-place : Bool → ℕ
-first-place true = bom-length
-first-place false = 0
-
-unfoldable pub start : Bool → Machine
-start bom = record { at = first-place bom; state = Key; parent = 0; mixed = false; count = 0 }
-
 -- turns enough for any text: each consumes a byte or leaves KeyValueSeparator or ParseOpen for another state
 abbrev pub enough : List ℕ → ℕ
 enough text = 2 * length text + 2
@@ -87,14 +63,6 @@ enough text = 2 * length text + 2
 -- 1 TooLong: text over 16,777,215 bytes
 abbrev pub text-limit : ℕ
 text-limit = 16777215
-
--- an answer with the words that it leaves
-pub data Outcome : Type 0 where
-  outcome : Parsed → List ℕ → Outcome
-
--- A parse refusal zeroes the whole tape and reports no BOM
-abbrev pub refuse : ℕ → Refusal → Outcome
-refuse len r = outcome (Refused r) (replicate len 0)
 
 -- After success all words past the tokens are 0. An unfinished run answers Eof only because none is unfinished: `parse-ends` of
 -- crates/parse/proofs/Runs.antt

@@ -2,11 +2,10 @@
 -- drop both and stay; else mixed off, opener is an Array, ArrayValue, not consumed. Else a scalar; if mixed, the parent's stored flag
 -- is set; mixed off; skip blanks; next byte `=` `>` `<` `?` `!`: Object and KeyValueSeparator, else Array and ArrayValue.
 use Prim.Native.Nat.{ℕ, _+_, _-_}
-use mathlib.Core.Bool.{Bool, true, false}
-use mathlib.Core.List.{List, [], _∷_}
+use mathlib.Core.Bool.{true, false}
+use mathlib.Core.List.{List}
 use lib.Dec.{eqb}
-use Rattle.data.specs.Bytes.{equals, greater-than, less-than, question, exclamation, bracket-open, brace-open, brace-close}
-use Rattle.data.specs.Classes.{among}
+use Rattle.data.specs.Bytes.{brace-close}
 use Rattle.cut.specs.declared.Skipped.the-variants.{At, End}
 use Rattle.cut.specs.Blanks.{skip-ws}
 use Rattle.tape.specs.declared.token.ContainerKind.{ContainerKind}
@@ -14,27 +13,18 @@ use Rattle.tape.specs.declared.token.ContainerKind.the-variants.{Array, Object}
 use Rattle.tape.specs.declared.token.Container.the-variants.{Opened, Nothing}
 use Rattle.tape.specs.Token.{opener-of}
 use Rattle.tape.specs.Tape.{Tape, replace}
-use Rattle.parse.specs.declared.machine.State.{State}
-use Rattle.parse.specs.declared.machine.State.the-variants.{KeyValueSeparator, ParseOpen, ArrayValue}
-use Rattle.parse.specs.declared.machine.Machine.{Machine}
-use Rattle.parse.specs.declared.machine.Refusal.the-variants.{Eof, MixedParameter}
-use Rattle.parse.specs.declared.parse_open.OpenByte.{OpenByte}
-use Rattle.parse.specs.declared.parse_open.OpenByte.the-variants.{Closer, Bracket, Brace, Other}
-use Rattle.parse.specs.Machine.{After, next, refused, and-then, byte-at, to, within}
+use Rattle.machine.specs.declared.State.{State}
+use Rattle.machine.specs.declared.State.the-variants.{KeyValueSeparator, ParseOpen, ArrayValue}
+use Rattle.machine.specs.declared.Machine.{Machine}
+use Rattle.machine.specs.declared.Refusal.the-variants.{Eof, MixedParameter}
+use Rattle.machine.specs.declared.bytes.OpenByte.the-variants.{Closer, Bracket, Brace, Other}
+use Rattle.machine.specs.Machine.{byte-at, to, within}
+use Rattle.machine.specs.Bytes.{open-byte, follows-key}
+use Rattle.parse.specs.After.{After, next, refused, and-then}
 use Rattle.parse.specs.Scalars.{scalar-then}
-use Rattle.parse.specs.Containers.{container-at, resumed, close-at}
+use Rattle.machine.specs.Parents.{container-at, resumed}
+use Rattle.parse.specs.Containers.{close-at}
 use Rattle.parse.specs.Parameter.{parameter}
-
--- what a byte is in ParseOpen
-unfoldable pub open-byte : ℕ → OpenByte
-open-byte b =
-    elim (eqb b brace-close) [
-      | true ↦ Closer
-      | false ↦ elim (eqb b bracket-open) [
-        | true ↦ Bracket
-        | false ↦ elim (eqb b brace-open) [ true ↦ Brace | false ↦ Other ]
-      ]
-    ]
 
 -- the opener, the last token but back, gets its kind with its parent for a link, and the machine goes on inside it, mixed off
 unfoldable pub settle : ContainerKind → ℕ → ℕ → State → Tape → Machine → After
@@ -77,10 +67,6 @@ flag-parent t m =
       ]
       | false ↦ t
     ]
-
--- whether a byte says that what stood before it is a key
-unfoldable pub follows-key : ℕ → Bool
-follows-key b = among b (equals ∷ greater-than ∷ less-than ∷ question ∷ exclamation ∷ [])
 
 -- mixed off; skip blanks (the end is Eof, 2); next byte `=` `>` `<` `?` `!`: Object and KeyValueSeparator, else Array and ArrayValue
 unfoldable pub open-as : List ℕ → Tape → Machine → After

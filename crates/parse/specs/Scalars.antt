@@ -7,12 +7,12 @@ use Rattle.cut.specs.Scalars.{scalar-cut}
 use Rattle.tape.specs.declared.token.ScalarKind as ScalarKind
 use Rattle.tape.specs.Token.{scalar-of}
 use Rattle.tape.specs.Tape.{Tape}
-use Rattle.parse.specs.declared.machine.State.{State}
-use Rattle.parse.specs.declared.machine.Machine.{Machine}
-use Rattle.parse.specs.declared.machine.Refusal.the-variants.{Eof}
+use Rattle.machine.specs.declared.State.{State}
+use Rattle.machine.specs.declared.Machine.{Machine}
+use Rattle.machine.specs.declared.Refusal.the-variants.{Eof}
 use Rattle.parse.specs.declared.scalars.Scalar.{Scalar}
 use Rattle.parse.specs.declared.scalars.Scalar.the-variants as Found
-use Rattle.parse.specs.Machine.{After, refused, lay-then}
+use Rattle.parse.specs.After.{After, refused, lay-then}
 
 -- what a cut finds, as a token and the place after it
 abbrev pub scalar-found : Cut → Scalar

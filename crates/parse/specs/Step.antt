@@ -1,24 +1,18 @@
 -- A step of any state: a whole turn, or that a scalar is due and the state after it. The code takes turns by steps for speed,
 -- and the definitions of the turns know nothing of them.
 use Prim.Native.Nat.{ℕ}
-use mathlib.Core.Bool.{Bool, true, false}
+use mathlib.Core.Bool.{true, false}
 use mathlib.Core.List.{List}
 use Rattle.tape.specs.Tape.{Tape, view}
-use Rattle.parse.specs.declared.machine.State.{State}
-use Rattle.parse.specs.declared.machine.State.the-variants.{Key, KeyValueSeparator, ObjectValue, ParseOpen, ArrayValue}
-use Rattle.parse.specs.declared.machine.Machine.{Machine}
+use Rattle.machine.specs.declared.State.{State}
+use Rattle.machine.specs.declared.State.the-variants.{ParseOpen}
+use Rattle.machine.specs.declared.Machine.{Machine}
+use Rattle.machine.specs.Machine.{is-parse-open}
 use Rattle.parse.specs.declared.step.Step.{Step}
 use Rattle.parse.specs.declared.step.Step.the-variants.{Turned, Scalar}
-use Rattle.parse.specs.Machine.{After, after, next}
+use Rattle.parse.specs.After.{After, after, next}
 use Rattle.parse.specs.Scalars.{scalar-then}
 use Rattle.parse.specs.ParseOpen.{flag-parent, open-as, open-scalar}
-
-abbrev pub is-parse-open : State → Bool
-is-parse-open Key = false
-is-parse-open KeyValueSeparator = false
-is-parse-open ObjectValue = false
-is-parse-open ParseOpen = true
-is-parse-open ArrayValue = false
 
 -- the scalar that is due, and in ParseOpen what the next byte says
 unfoldable pub entry : List ℕ → State → Tape → Machine → After

@@ -2,9 +2,9 @@
 use Prim.Native.Nat.{ℕ}
 use mathlib.Core.Bool.{Bool, true, false}
 use mathlib.Core.List.{List}
-use Rattle.parse.specs.declared.Parsed.the-variants.{Tokens, Refused}
-use Rattle.parse.specs.Refusals.{number, place}
-use Rattle.parse.specs.Parse.{Outcome, outcome}
+use Rattle.machine.specs.declared.Parsed.the-variants.{Tokens, Refused}
+use Rattle.machine.specs.Refusals.{number, place}
+use Rattle.machine.specs.Finish.{Outcome, outcome}
 
 -- 1 for yes and 0 for no
 abbrev pub bit : Bool → ℕ

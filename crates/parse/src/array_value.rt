@@ -1,19 +1,22 @@
 // A turn in ArrayValue.
 use crate::containers::close;
-use crate::containers::container_at;
-use crate::containers::nothing_open;
 use crate::containers::open_then;
-use crate::containers::own_kind;
-use crate::containers::parent_of;
-use crate::machine::Machine;
-use crate::machine::Refusal;
-use crate::machine::State;
-use crate::machine::Turn;
-use crate::machine::byte_at;
-use crate::machine::lay;
-use crate::machine::less;
-use crate::separator::mixed_on;
+use crate::laying::lay;
 use crate::step::Step;
+use machine::Machine;
+use machine::Refusal;
+use machine::State;
+use machine::Turn;
+use machine::before;
+use machine::byte_at;
+use machine::bytes::ValueByte;
+use machine::bytes::value_byte;
+use machine::less;
+use machine::mixed_on;
+use machine::parents::container_at;
+use machine::parents::nothing_open;
+use machine::parents::own_kind;
+use machine::parents::parent_of;
 use operator::Sighted;
 use tape::token;
 use tape::token::Standing;
@@ -23,53 +26,13 @@ ghost use mathlib.Core.Path.{_≡_};
 ghost use Prim.Native.Nat.{ℕ, _-_, _<_};
 ghost use mathlib.Core.List.{List};
 ghost use Rattle.tape.specs.Tape.{view};
-ghost use Rattle.parse.specs.Machine.{after};
+ghost use Rattle.parse.specs.After.{after};
 ghost use Rattle.parse.specs.KeyValueSeparator.{mix-then};
-ghost use Rattle.parse.specs.ArrayValue.{begins-operator, value-byte, array-close, operator-then, after-end, unmixed-operator};
+ghost use Rattle.parse.specs.ArrayValue.{array-close, operator-then, after-end, unmixed-operator};
 ghost use Rattle.parse.specs.ArrayValue.{array-operator, array-value-turn};
 ghost use Rattle.parse.specs.Step.{stepped};
 ghost use Rattle.parse.specs.Parse.{text-limit};
 ghost use Rattle.parse.specs.Here.{Here};
-
-// What a byte is in ArrayValue.
-pub enum ValueByte {
-    Brace,
-    Closer,
-    Sign,
-    Other,
-}
-
-// Whether a byte begins an operator in ArrayValue.
-fn begins_operator(b: u8) -> bool
-    ensures { λ r. ⌜ r ≡ begins-operator b ⌝ }
-{
-    if b == b'<' {
-        return true;
-    }
-    if b == b'>' {
-        return true;
-    }
-    if b == b'!' {
-        return true;
-    }
-    b == b'='
-}
-
-// Tells the bytes of ArrayValue apart.
-fn value_byte(b: u8) -> ValueByte
-    ensures { λ r. ⌜ r ≡ value-byte b ⌝ }
-{
-    if b == b'{' {
-        return ValueByte::Brace;
-    }
-    if b == b'}' {
-        return ValueByte::Closer;
-    }
-    if begins_operator(b) {
-        return ValueByte::Sign;
-    }
-    ValueByte::Other
-}
 
 // `}`: closes the container that is open, in its own kind.
 fn array_close(tape: &mut [u32], m: Machine) -> Turn
@@ -82,16 +45,6 @@ fn array_close(tape: &mut [u32], m: Machine) -> Turn
         return Turn::Refused(Refusal::StackEmpty(m.at));
     }
     close(tape, m, own_kind(container), grand)
-}
-
-// The place one before another, which the refusals of operators name.
-fn before(at: usize) -> usize
-    ensures { λ r. ⌜ r ≡ at - 1 ⌝ }
-{
-    if at == 0 {
-        return 0;
-    }
-    at - 1
 }
 
 // An operator among the values of a mixed container.

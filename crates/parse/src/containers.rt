@@ -1,11 +1,14 @@
 // Opening a container, leaving one, and the text's end inside one.
-use crate::machine::Machine;
-use crate::machine::Refusal;
-use crate::machine::State;
-use crate::machine::Turn;
-use crate::machine::lay;
+use crate::laying::lay;
+use machine::Machine;
+use machine::Refusal;
+use machine::State;
+use machine::Turn;
+use machine::is_key;
+use machine::parents::container_at;
+use machine::parents::parent_of;
+use machine::parents::resumed;
 use tape::token;
-use tape::token::Container;
 use tape::token::ContainerKind;
 use tape::words;
 use tape::words::Pushed;
@@ -13,9 +16,10 @@ ghost use mathlib.Core.Path.{_≡_};
 ghost use Prim.Native.Nat.{_<_};
 ghost use Rattle.tape.specs.Token.{opener-of, end-of};
 ghost use Rattle.tape.specs.Tape.{view, replace, lay, after-push};
-ghost use Rattle.parse.specs.Machine.{after};
-ghost use Rattle.parse.specs.Containers.{open-then, container-at, parent-of, own-kind, state-in-object, state-in, mixed-in, resumed};
-ghost use Rattle.parse.specs.Containers.{close, nothing-open, key-end, is-key, text-end};
+ghost use Rattle.parse.specs.After.{after};
+ghost use Rattle.machine.specs.Parents.{resumed};
+ghost use Rattle.parse.specs.Containers.{open-then};
+ghost use Rattle.parse.specs.Containers.{close, key-end, text-end};
 ghost use Rattle.parse.specs.Parse.{text-limit};
 
 // `{` where a value is due: adds an Array, whose kind is settled in ParseOpen.
@@ -30,96 +34,6 @@ pub(crate) fn open_then(tape: &mut [u32], m: Machine) -> Turn
         m.at + 1,
         State::ParseOpen,
     )
-}
-
-// Token i of count as a container.
-pub(crate) fn container_at(tape: &[u32], count: u32, i: u32) -> Container
-    ensures { λ r. ⌜ r ≡ container-at (view (now (tape .entry)) count) i ⌝ }
-{
-    words::token(tape, count, i).container()
-}
-
-// The parent that an open container names, 0 where there is none.
-pub(crate) fn parent_of(container: Container) -> u32
-    ensures { λ r. ⌜ r ≡ parent-of container ⌝ }
-{
-    match container {
-        Container::Opened {
-            kind: _,
-            link,
-            mixed: _,
-        } => link,
-        Container::Nothing => 0,
-    }
-}
-
-// A container's own kind, Object where there is none.
-pub(crate) fn own_kind(container: Container) -> ContainerKind
-    ensures { λ r. ⌜ r ≡ own-kind container ⌝ }
-{
-    match container {
-        Container::Opened {
-            kind,
-            link: _,
-            mixed: _,
-        } => kind,
-        Container::Nothing => ContainerKind::Object,
-    }
-}
-
-// The state in which an Object that is taken up goes on.
-fn state_in_object(mixed: bool) -> State
-    ensures { λ r. ⌜ r ≡ state-in-object mixed ⌝ }
-{
-    if mixed {
-        return State::ArrayValue;
-    }
-    State::Key
-}
-
-// The state in which a container that is taken up goes on.
-fn state_in(container: Container) -> State
-    ensures { λ r. ⌜ r ≡ state-in container ⌝ }
-{
-    let Container::Opened {
-        kind,
-        link: _,
-        mixed,
-    } = container
-    else {
-        return State::Key;
-    };
-    match kind {
-        ContainerKind::Array => State::ArrayValue,
-        ContainerKind::Object => state_in_object(mixed),
-    }
-}
-
-// The flag in force in a container that is taken up.
-fn mixed_in(container: Container) -> bool
-    ensures { λ r. ⌜ r ≡ mixed-in container ⌝ }
-{
-    match container {
-        Container::Opened {
-            kind: _,
-            link: _,
-            mixed,
-        } => mixed,
-        Container::Nothing => false,
-    }
-}
-
-// The machine past a closing byte, inside a parent that is taken up.
-pub(crate) fn resumed(up: Container, parent: u32, at: usize, count: u32) -> Machine
-    ensures { λ r. ⌜ r ≡ resumed up parent at count ⌝ }
-{
-    Machine {
-        at,
-        state: state_in(up),
-        parent,
-        mixed: mixed_in(up),
-        count,
-    }
 }
 
 // Closes opener i as a kind with a flag: it names its End, and its End names it.
@@ -148,16 +62,6 @@ pub(crate) fn close(tape: &mut [u32], m: Machine, kind: ContainerKind, grand: u3
     }
 }
 
-// Whether no container is open, by the parent and the parent's own.
-pub(crate) fn nothing_open(parent: u32, grand: u32) -> bool
-    ensures { λ r. ⌜ r ≡ nothing-open parent grand ⌝ }
-{
-    if parent == 0 {
-        return grand == 0;
-    }
-    false
-}
-
 // The text's end in Key: one container may still be open, at top level, and is closed as an unmixed Object.
 fn key_end(tape: &mut [u32], m: Machine) -> Turn
     ensures { λ r. ⌜ after r (now (tape .exit)) ≡ key-end (view (now (tape .entry)) (m .count)) m ⌝ }
@@ -173,19 +77,6 @@ fn key_end(tape: &mut [u32], m: Machine) -> Turn
     match close_at(tape, count, parent, ContainerKind::Object, false) {
         Pushed::Laid(end) => Turn::Done(end),
         Pushed::Full => Turn::Refused(Refusal::Full),
-    }
-}
-
-// Whether a state is Key.
-fn is_key(state: State) -> bool
-    ensures { λ r. ⌜ r ≡ is-key state ⌝ }
-{
-    match state {
-        State::Key => true,
-        State::KeyValueSeparator => false,
-        State::ObjectValue => false,
-        State::ParseOpen => false,
-        State::ArrayValue => false,
     }
 }
 

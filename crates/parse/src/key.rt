@@ -1,18 +1,20 @@
 // A turn in Key.
 use crate::containers::close;
-use crate::containers::container_at;
-use crate::containers::nothing_open;
-use crate::containers::parent_of;
-use crate::machine::Machine;
-use crate::machine::Refusal;
-use crate::machine::State;
-use crate::machine::Turn;
-use crate::machine::byte_at;
-use crate::machine::lay;
-use crate::machine::less;
+use crate::laying::lay;
 use crate::parameter::parameter;
 use crate::step::Step;
 use cut::Skipped;
+use machine::Machine;
+use machine::Refusal;
+use machine::State;
+use machine::Turn;
+use machine::byte_at;
+use machine::bytes::KeyByte;
+use machine::bytes::key_byte;
+use machine::less;
+use machine::parents::container_at;
+use machine::parents::nothing_open;
+use machine::parents::parent_of;
 use tape::token;
 use tape::token::ContainerKind;
 use tape::token::Standing;
@@ -20,38 +22,11 @@ use tape::words;
 ghost use mathlib.Core.Path.{_≡_};
 ghost use Prim.Native.Nat.{_<_};
 ghost use Rattle.tape.specs.Tape.{view};
-ghost use Rattle.parse.specs.Machine.{after};
-ghost use Rattle.parse.specs.Key.{key-byte, key-close, open-header, key-header, key-brace, key-turn};
+ghost use Rattle.parse.specs.After.{after};
+ghost use Rattle.parse.specs.Key.{key-close, open-header, key-header, key-brace, key-turn};
 ghost use Rattle.parse.specs.Step.{stepped};
 ghost use Rattle.parse.specs.Parse.{text-limit};
 ghost use Rattle.parse.specs.Here.{Here, LentHere};
-
-// What a byte is in Key.
-pub enum KeyByte {
-    Closer,
-    Brace,
-    Bracket,
-    Other,
-}
-
-// Tells the bytes of Key apart.
-fn key_byte(b: u8) -> KeyByte
-    ensures { λ r. ⌜ r ≡ key-byte b ⌝ }
-{
-    if b == b'}' {
-        return KeyByte::Closer;
-    }
-    if b == b']' {
-        return KeyByte::Closer;
-    }
-    if b == b'{' {
-        return KeyByte::Brace;
-    }
-    if b == b'[' {
-        return KeyByte::Bracket;
-    }
-    KeyByte::Other
-}
 
 // `}` or `]`: closes the container that is open, or is skipped, since some game files have one too many.
 fn key_close(tape: &mut [u32], m: Machine) -> Turn

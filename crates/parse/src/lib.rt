@@ -1,25 +1,30 @@
 // The text tape parser: from save text to tokens on a lent tape.
-use crate::machine::Machine;
-use crate::machine::Refusal;
-use crate::machine::State;
-use crate::machine::Turn;
-use crate::machine::byte_at;
 use crate::step::Step;
 use cut::Skipped;
-use tape::words;
+use machine::Ending;
+use machine::Machine;
+use machine::Parsed;
+use machine::Refusal;
+use machine::State;
+use machine::Turn;
+use machine::finish::finish;
+use machine::finish::refuse;
+use machine::start::has_bom;
+use machine::start::start;
 ghost use mathlib.Core.Path.{_≡_};
 ghost use Prim.Native.Nat.{_≤_};
 ghost use lib.ListN.{length};
 ghost use Rattle.tape.specs.Tape.{view};
-ghost use Rattle.parse.specs.Machine.{after, next};
+ghost use Rattle.parse.specs.After.{after, next};
 ghost use Rattle.parse.specs.Step.{stepped};
-ghost use Rattle.parse.specs.Parse.{text-limit, state-turn, turn, run, ending, has-bom, start, enough, outcome, refuse, parse-of};
+ghost use Rattle.machine.specs.Finish.{outcome};
+ghost use Rattle.parse.specs.Parse.{text-limit, state-turn, turn, run, ending, enough, parse-of};
 ghost use Rattle.parse.specs.Here.{Lent, LentHere};
 
 mod array_value;
 mod containers;
 mod key;
-pub mod machine;
+mod laying;
 mod object_value;
 mod parameter;
 mod parse_open;
@@ -29,21 +34,6 @@ mod step;
 
 // A text of more bytes than this is too long.
 pub const TEXT_LIMIT: usize = 16777215;
-
-// The bytes of a BOM, and how many they are.
-const BOM_FIRST: u8 = 0xef;
-
-const BOM_SECOND: u8 = 0xbb;
-
-const BOM_THIRD: u8 = 0xbf;
-
-const BOM_LENGTH: usize = 3;
-
-// What a parse answers: how many tokens stand on the tape and whether the text began with a BOM, or why it is refused.
-pub enum Parsed {
-    Tokens { count: u32, bom: bool },
-    Refused(Refusal),
-}
 
 // What the machine's state makes of a byte that is no blank.
 fn state_step(text: &[u8], table: &[u8; data::BYTE_COUNT], tape: &mut [u32], m: Machine) -> Step
@@ -83,47 +73,6 @@ fn turn(text: &[u8], table: &[u8; data::BYTE_COUNT], tape: &mut [u32], m: Machin
     }
 }
 
-// Whether the text begins with ef bb bf.
-fn has_bom(text: &[u8]) -> bool
-    ensures { λ r. ⌜ r ≡ has-bom (now (text .entry)) ⌝ }
-{
-    if byte_at(text, 0) != BOM_FIRST {
-        return false;
-    }
-    if byte_at(text, 1) != BOM_SECOND {
-        return false;
-    }
-    byte_at(text, 2) == BOM_THIRD
-}
-
-// The machine at the text's start, past a BOM.
-fn start(bom: bool) -> Machine
-    ensures { λ r. ⌜ r ≡ start bom ⌝ }
-{
-    if bom {
-        return Machine {
-            at: BOM_LENGTH,
-            state: State::Key,
-            parent: 0,
-            mixed: false,
-            count: 0,
-        };
-    }
-    Machine {
-        at: 0,
-        state: State::Key,
-        parent: 0,
-        mixed: false,
-        count: 0,
-    }
-}
-
-// How a run ends: with the count of a finished tape, or with a refusal.
-pub enum Ending {
-    Done(u32),
-    Refused(Refusal),
-}
-
 // Turns until the text is done or refused.
 fn run(text: &[u8], tape: &mut [u32], from: Machine) -> Ending
     requires { ⌜ length (now text) ≤ text-limit ⌝ }
@@ -141,14 +90,6 @@ fn run(text: &[u8], tape: &mut [u32], from: Machine) -> Ending
     }
 }
 
-// Refuses a text: the whole tape is left zero.
-fn refuse(tape: &mut [u32], refusal: Refusal) -> Parsed
-    ensures { λ r. ⌜ outcome r (now (tape .exit)) ≡ refuse (length (now (tape .entry))) refusal ⌝ }
-{
-    words::clear_from(tape, 0);
-    Parsed::Refused(refusal)
-}
-
 // Parses a text onto a lent tape, whose old contents never matter: on success the tokens stand at its front with zeros
 // behind them, and a refusal leaves it zero.
 pub fn parse(text: &[u8], tape: &mut [u32]) -> Parsed
@@ -158,11 +99,6 @@ pub fn parse(text: &[u8], tape: &mut [u32]) -> Parsed
         return refuse(tape, Refusal::TooLong);
     }
     let bom = has_bom(text);
-    match run(text, tape, start(bom)) {
-        Ending::Done(count) => {
-            words::clear_from(tape, count);
-            Parsed::Tokens { count, bom }
-        }
-        Ending::Refused(refusal) => refuse(tape, refusal),
-    }
+    let ending = run(text, tape, start(bom));
+    finish(tape, ending, bom)
 }

@@ -1,11 +1,11 @@
 // A turn in ObjectValue.
 use crate::containers::open_then;
-use crate::machine::Machine;
-use crate::machine::Refusal;
-use crate::machine::State;
-use crate::machine::Turn;
-use crate::machine::byte_at;
 use crate::step::Step;
+use machine::Machine;
+use machine::Refusal;
+use machine::State;
+use machine::Turn;
+use machine::byte_at;
 ghost use mathlib.Core.Path.{_≡_};
 ghost use Rattle.tape.specs.Tape.{view};
 ghost use Rattle.parse.specs.ObjectValue.{object-value-turn};

@@ -1,12 +1,12 @@
 // A parameter: `[[name] value ]`, or `[[name] key ..`, which opens an Object.
-use crate::machine::Machine;
-use crate::machine::Refusal;
-use crate::machine::State;
-use crate::machine::Turn;
-use crate::machine::byte_at;
-use crate::machine::lay;
+use crate::laying::lay;
 use crate::scalars::viewed;
 use cut::Skipped;
+use machine::Machine;
+use machine::Refusal;
+use machine::State;
+use machine::Turn;
+use machine::byte_at;
 use tape::token;
 use tape::token::ContainerKind;
 use tape::token::ScalarKind;
@@ -18,7 +18,7 @@ ghost use lib.ListN.{length};
 ghost use Rattle.data.specs.Classes.{classes};
 ghost use Rattle.cut.specs.Runs.{run-end};
 ghost use Rattle.tape.specs.Tape.{view};
-ghost use Rattle.parse.specs.Machine.{after};
+ghost use Rattle.parse.specs.After.{after};
 ghost use Rattle.parse.specs.Parameter.{parameter-object, value-or-object, parameter-value, parameter-named, parameter-name, parameter};
 ghost use Rattle.parse.specs.Parse.{text-limit};
 ghost use Rattle.parse.specs.Here.{Lent, LentHere};

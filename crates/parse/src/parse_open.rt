@@ -1,16 +1,19 @@
 // A turn in ParseOpen: what the first entry says that a container is.
 use crate::containers::close_at;
-use crate::containers::container_at;
-use crate::containers::resumed;
-use crate::machine::Machine;
-use crate::machine::Refusal;
-use crate::machine::State;
-use crate::machine::Turn;
-use crate::machine::byte_at;
-use crate::machine::less;
 use crate::parameter::parameter;
 use crate::step::Step;
 use cut::Skipped;
+use machine::Machine;
+use machine::Refusal;
+use machine::State;
+use machine::Turn;
+use machine::byte_at;
+use machine::bytes::OpenByte;
+use machine::bytes::follows_key;
+use machine::bytes::open_byte;
+use machine::less;
+use machine::parents::container_at;
+use machine::parents::resumed;
 use tape::token;
 use tape::token::Container;
 use tape::token::ContainerKind;
@@ -19,35 +22,11 @@ use tape::words::Pushed;
 ghost use mathlib.Core.Path.{_≡_};
 ghost use Prim.Native.Nat.{_<_};
 ghost use Rattle.tape.specs.Tape.{view};
-ghost use Rattle.parse.specs.Machine.{after};
-ghost use Rattle.parse.specs.ParseOpen.{open-byte, settle, open-empty, open-parameter, open-brace, flag-parent, follows-key, open-as, parse-open-turn};
+ghost use Rattle.parse.specs.After.{after};
+ghost use Rattle.parse.specs.ParseOpen.{settle, open-empty, open-parameter, open-brace, flag-parent, open-as, parse-open-turn};
 ghost use Rattle.parse.specs.Step.{stepped};
 ghost use Rattle.parse.specs.Parse.{text-limit};
 ghost use Rattle.parse.specs.Here.{Here, LentHere};
-
-// What a byte is in ParseOpen.
-pub enum OpenByte {
-    Closer,
-    Bracket,
-    Brace,
-    Other,
-}
-
-// Tells the bytes of ParseOpen apart.
-fn open_byte(b: u8) -> OpenByte
-    ensures { λ r. ⌜ r ≡ open-byte b ⌝ }
-{
-    if b == b'}' {
-        return OpenByte::Closer;
-    }
-    if b == b'[' {
-        return OpenByte::Bracket;
-    }
-    if b == b'{' {
-        return OpenByte::Brace;
-    }
-    OpenByte::Other
-}
 
 // Gives the opener that stands `back` tokens before the count its kind, and goes on inside it with mixed off.
 fn settle(
@@ -133,25 +112,6 @@ pub(crate) fn flag_parent(tape: &mut [u32], m: Machine)
         } => { words::put(tape, m.count, parent, token::opener(kind, link, true)) }
         Container::Nothing => {}
     }
-}
-
-// Whether a byte says that what stood before it is a key.
-fn follows_key(b: u8) -> bool
-    ensures { λ r. ⌜ r ≡ follows-key b ⌝ }
-{
-    if b == b'=' {
-        return true;
-    }
-    if b == b'>' {
-        return true;
-    }
-    if b == b'<' {
-        return true;
-    }
-    if b == b'?' {
-        return true;
-    }
-    b == b'!'
 }
 
 // The byte after the first scalar says whether the container is an Object or an Array.

@@ -1,10 +1,11 @@
 // A turn in KeyValueSeparator.
-use crate::machine::Machine;
-use crate::machine::Refusal;
-use crate::machine::State;
-use crate::machine::Turn;
-use crate::machine::byte_at;
-use crate::machine::lay;
+use crate::laying::lay;
+use machine::Machine;
+use machine::Refusal;
+use machine::State;
+use machine::Turn;
+use machine::byte_at;
+use machine::mixed_on;
 use operator::Operator;
 use operator::Sighted;
 use tape::token;
@@ -13,23 +14,10 @@ use tape::words::Pushed;
 ghost use mathlib.Core.Path.{_≡_};
 ghost use Prim.Native.Nat.{_≤_, _<_};
 ghost use Rattle.tape.specs.Tape.{view};
-ghost use Rattle.parse.specs.Machine.{after, next};
-ghost use Rattle.parse.specs.KeyValueSeparator.{mixed-on, mix-then, separator-then, separator-turn};
+ghost use Rattle.parse.specs.After.{after, next};
+ghost use Rattle.parse.specs.KeyValueSeparator.{mix-then, separator-then, separator-turn};
 ghost use Rattle.parse.specs.Parse.{text-limit};
 ghost use Rattle.parse.specs.Here.{Here};
-
-// The machine with mixed on, in ArrayValue, after a MixedContainer was put in.
-pub(crate) fn mixed_on(m: Machine, count: u32) -> Machine
-    ensures { λ r. ⌜ r ≡ mixed-on m count ⌝ }
-{
-    Machine {
-        at: m.at,
-        state: State::ArrayValue,
-        parent: m.parent,
-        mixed: true,
-        count,
-    }
-}
 
 // Puts a MixedContainer in before the last token, and goes on in ArrayValue with mixed on.
 fn mix(tape: &mut [u32], m: Machine) -> Turn

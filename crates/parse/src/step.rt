@@ -1,38 +1,26 @@
 // A step of any state, and the scalar that it leaves due: the states answer that a scalar is due and which state follows,
 // and one place cuts it, so that the cut is compiled into the loop.
-use crate::machine::Machine;
-use crate::machine::Refusal;
-use crate::machine::State;
-use crate::machine::Turn;
 use crate::parse_open::flag_parent;
 use crate::parse_open::open_as;
 use crate::scalars::Scalar;
 use crate::scalars::scalar_at;
+use machine::Machine;
+use machine::Refusal;
+use machine::State;
+use machine::Turn;
+use machine::is_parse_open;
 use tape::words;
 use tape::words::Pushed;
 ghost use mathlib.Core.Path.{_≡_};
 ghost use Rattle.tape.specs.Tape.{view};
-ghost use Rattle.parse.specs.Machine.{after};
-ghost use Rattle.parse.specs.Step.{is-parse-open, entered, entry};
+ghost use Rattle.parse.specs.After.{after};
+ghost use Rattle.parse.specs.Step.{entered, entry};
 ghost use Rattle.parse.specs.Here.{Lent};
 
 // What a state makes of a byte: a whole turn, or that a scalar is due and the state after it.
 pub enum Step {
     Turned(Turn),
     Scalar(State),
-}
-
-// Whether a state is ParseOpen.
-fn is_parse_open(state: State) -> bool
-    ensures { λ r. ⌜ r ≡ is-parse-open state ⌝ }
-{
-    match state {
-        State::Key => false,
-        State::KeyValueSeparator => false,
-        State::ObjectValue => false,
-        State::ParseOpen => true,
-        State::ArrayValue => false,
-    }
 }
 
 // After a scalar: in ParseOpen it is the container's first entry, and the byte behind it decides.

@@ -10,12 +10,12 @@ use lib.Dec.{ltb}
 use lib.ListN.{length, length-append}
 use Rattle.tape.specs.declared.token.Token.{Token}
 use Rattle.tape.specs.Tape.{Tape, holds, unbounded, before-last}
-use Rattle.parse.specs.declared.machine.State.{State}
-use Rattle.parse.specs.declared.machine.State.the-variants.{Key, KeyValueSeparator, ObjectValue, ParseOpen, ArrayValue}
-use Rattle.parse.specs.declared.machine.Machine.{Machine}
-use Rattle.parse.specs.declared.machine.Refusal.the-variants.{Full}
-use Rattle.parse.specs.Refusals.{number}
-use Rattle.parse.specs.Machine.{After, next, done, refused}
+use Rattle.machine.specs.declared.State.{State}
+use Rattle.machine.specs.declared.State.the-variants.{Key, KeyValueSeparator, ObjectValue, ParseOpen, ArrayValue}
+use Rattle.machine.specs.declared.Machine.{Machine}
+use Rattle.machine.specs.declared.Refusal.the-variants.{Full}
+use Rattle.machine.specs.Refusals.{number}
+use Rattle.parse.specs.After.{After, next, done, refused}
 use Rattle.parse.proofs.Moves.{Result, goes, ends, stops}
 use Rattle.parse.proofs.Walk.{told, if-room, laying}
 use Rattle.promises.specs.Mixed.{Mixes}

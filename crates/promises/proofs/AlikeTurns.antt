@@ -19,12 +19,12 @@ use Rattle.tape.specs.declared.token.Standing as Standing
 use Rattle.operator.specs.Operators.{number-of}
 use Rattle.tape.specs.Token.{mixed-container-token, end-of, opener-of, operator-of, headed}
 use Rattle.tape.specs.Tape.{Tape, holds, unbounded, before-last, token-at, replace}
-use Rattle.parse.specs.declared.machine.State.{State}
-use Rattle.parse.specs.declared.machine.State.the-variants.{Key, KeyValueSeparator, ObjectValue, ParseOpen, ArrayValue}
-use Rattle.parse.specs.declared.machine.Machine.{Machine}
-use Rattle.parse.specs.declared.machine.Refusal.{Refusal}
-use Rattle.parse.specs.Machine.{to}
-use Rattle.parse.specs.Containers.{state-in, mixed-in}
+use Rattle.machine.specs.declared.State.{State}
+use Rattle.machine.specs.declared.State.the-variants.{Key, KeyValueSeparator, ObjectValue, ParseOpen, ArrayValue}
+use Rattle.machine.specs.declared.Machine.{Machine}
+use Rattle.machine.specs.declared.Refusal.{Refusal}
+use Rattle.machine.specs.Machine.{to}
+use Rattle.machine.specs.Parents.{state-in, mixed-in}
 use Rattle.parse.specs.ParseOpen.{flag-parent}
 use Rattle.parse.specs.Parse.{turn}
 use Rattle.parse.proofs.Splits.{by-container}

@@ -13,18 +13,20 @@ use Rattle.tape.specs.declared.token.Token.{Token}
 use Rattle.tape.specs.Words.{words-for, capacity, words-of, padded}
 use Rattle.tape.specs.Tape.{holds}
 use Rattle.tape.proofs.Views.{words-length, padded-length}
-use Rattle.parse.specs.declared.machine.Refusal as Refusals
-use Rattle.parse.specs.declared.machine.Refusal.{Refusal}
-use Rattle.parse.specs.declared.Parsed.{Parsed}
-use Rattle.parse.specs.Refusals.{number}
+use Rattle.machine.specs.declared.Refusal as Refusals
+use Rattle.machine.specs.declared.Refusal.{Refusal}
+use Rattle.machine.specs.declared.Parsed.{Parsed}
+use Rattle.machine.specs.Refusals.{number}
 use Rattle.parse.specs.Told.{tell-parse}
-use Rattle.parse.specs.declared.Parsed.the-variants.{Tokens, Refused}
-use Rattle.parse.specs.Machine.{After, next, done, refused}
-use Rattle.parse.specs.Parse.{Outcome, outcome, answer, has-bom, text-limit, parse-of}
+use Rattle.machine.specs.declared.Parsed.the-variants.{Tokens, Refused}
+use Rattle.parse.specs.After.{After, next, done, refused}
+use Rattle.machine.specs.Start.{has-bom}
+use Rattle.machine.specs.Finish.{Outcome, outcome}
+use Rattle.parse.specs.Parse.{answer, text-limit, parse-of}
 use Rattle.parse.proofs.parse.Reads as parse
 use Rattle.promises.specs.Demand1.{Laid-out, Demand-1}
 use Rattle.promises.specs.Room.{run-in}
-use Rattle.promises.proofs.Room.{Finished, run-finished, parse-within, parse-over}
+use Rattle.promises.proofs.Room.{Fitting, run-fits, parse-within, parse-over}
 
 -- what an outcome leaves of so many words
 abbrev Leaves : ℕ → Outcome → Type 0
@@ -42,7 +44,7 @@ padded-out len n ts e h =
       zero-past = rw (padded, words) (drop-at (words-of ts) (replicate (len - words-for n) 0) (words-for n) words);
     }
 
-answer-left : (bom : Bool) (len : ℕ) (x : After) → Finished (capacity len) x → Leaves len (answer bom len x)
+answer-left : (bom : Bool) (len : ℕ) (x : After) → Fitting (capacity len) x → Leaves len (answer bom len x)
 answer-left bom len (next m t) h = refl
 answer-left bom len (done n t) h = padded-out len n (t .tokens) (h .0) (h .1)
 answer-left bom len (refused r) h = refl
@@ -52,7 +54,7 @@ parse-left text len =
     by-bool (ltb text-limit (length text))
     (λ e. rw (parse-over text len e) refl)
     (λ e. rw (parse-within text len e)
-    (answer-left (has-bom text) len (run-in (holds (capacity len)) text) (run-finished text (capacity len))))
+    (answer-left (has-bom text) len (run-in (holds (capacity len)) text) (run-fits text (capacity len))))
 
 -- a refusal, whichever, leaves as many words as were lent, and each is zero
 pub refusal-zeroes : (text : List ℕ) (len : ℕ) (r : Refusal) (ws : List ℕ) → outcome (Refused r) ws ≡ parse-of text len → ws ≡ replicate len 0

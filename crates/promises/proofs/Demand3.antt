@@ -8,10 +8,11 @@ use native.Mathlib.Omega.{arith}
 use lib.ListN.{length}
 use Rattle.sheet.specs.Sound.{Sound}
 use Rattle.sheet.proofs.check.Reads as check
-use Rattle.parse.specs.declared.machine.Refusal.the-variants.{Full}
-use Rattle.parse.specs.declared.Parsed.{Parsed}
-use Rattle.parse.specs.declared.Parsed.the-variants.{Tokens, Refused}
-use Rattle.parse.specs.Parse.{outcome, parse-of}
+use Rattle.machine.specs.declared.Refusal.the-variants.{Full}
+use Rattle.machine.specs.declared.Parsed.{Parsed}
+use Rattle.machine.specs.declared.Parsed.the-variants.{Tokens, Refused}
+use Rattle.machine.specs.Finish.{outcome}
+use Rattle.parse.specs.Parse.{parse-of}
 use Rattle.parse.specs.Told.{tell-parse}
 use Rattle.tape.specs.Words.{capacity, words-for}
 use Rattle.parse.proofs.parse.Reads as parse

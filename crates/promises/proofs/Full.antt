@@ -8,12 +8,12 @@ use mathlib.Core.Logic.{_↔_}
 use native.Mathlib.Omega.{arith}
 use lib.ListN.{length}
 use Rattle.tape.specs.Words.{capacity}
-use Rattle.parse.specs.declared.machine.Refusal as Refusals
-use Rattle.parse.specs.declared.machine.Refusal.the-variants.{Full}
-use Rattle.parse.specs.declared.Parsed.{Parsed}
-use Rattle.parse.specs.declared.Parsed.the-variants.{Tokens, Refused}
-use Rattle.parse.specs.Refusals.{number}
-use Rattle.parse.specs.Parse.{outcome}
+use Rattle.machine.specs.declared.Refusal as Refusals
+use Rattle.machine.specs.declared.Refusal.the-variants.{Full}
+use Rattle.machine.specs.declared.Parsed.{Parsed}
+use Rattle.machine.specs.declared.Parsed.the-variants.{Tokens, Refused}
+use Rattle.machine.specs.Refusals.{number}
+use Rattle.machine.specs.Finish.{outcome}
 use Rattle.parse.specs.Told.{tell-parse}
 use Rattle.parse.proofs.parse.Reads as parse
 use Rattle.promises.specs.Room.{unbounded-parse, laid-down, refusal-told}

@@ -16,12 +16,14 @@ use Rattle.tape.specs.Words.{tokens-in}
 use Rattle.tape.proofs.Shapes.{opens-link, end-link, link-made}
 use Rattle.sheet.specs.Sound.{nth}
 use Rattle.tape.specs.Tape.{Tape, Room, holds, unbounded}
-use Rattle.parse.specs.declared.Parsed.the-variants.{Tokens}
-use Rattle.parse.specs.declared.machine.State.{State}
-use Rattle.parse.specs.declared.machine.State.the-variants.{Key, KeyValueSeparator, ObjectValue, ParseOpen, ArrayValue}
-use Rattle.parse.specs.declared.machine.Machine.{Machine}
-use Rattle.parse.specs.Machine.{After, next, done, refused}
-use Rattle.parse.specs.Parse.{outcome, parse-of, has-bom}
+use Rattle.machine.specs.declared.Parsed.the-variants.{Tokens}
+use Rattle.machine.specs.declared.State.{State}
+use Rattle.machine.specs.declared.State.the-variants.{Key, KeyValueSeparator, ObjectValue, ParseOpen, ArrayValue}
+use Rattle.machine.specs.declared.Machine.{Machine}
+use Rattle.parse.specs.After.{After, next, done, refused}
+use Rattle.machine.specs.Start.{has-bom}
+use Rattle.machine.specs.Finish.{outcome}
+use Rattle.parse.specs.Parse.{parse-of}
 use Rattle.promises.specs.Room.{after-turns}
 use Rattle.promises.specs.Mixed.{Mixing, Marked, Flags}
 use Rattle.promises.specs.Reached.{Reached}

@@ -13,17 +13,19 @@ use Prim.Native.Nat.{ℕ}
 use native.Mathlib.Omega.{arith}
 use lib.ListN.{length}
 use Rattle.tape.specs.Words.{tokens-in}
-use Rattle.parse.specs.declared.Parsed.the-variants.{Tokens}
-use Rattle.parse.specs.Parse.{start, has-bom, outcome, parse-of}
+use Rattle.machine.specs.declared.Parsed.the-variants.{Tokens}
+use Rattle.machine.specs.Start.{start, has-bom}
+use Rattle.machine.specs.Finish.{outcome}
+use Rattle.parse.specs.Parse.{parse-of}
 use Rattle.parse.proofs.Walk.{parse-keeps}
 use Rattle.promises.proofs.Rising.Spans.{spans, Upto}
 use Rattle.promises.proofs.Rising.Sheets.{Viewed, viewed}
 use Rattle.promises.proofs.Rising.Links.{stands-zero}
 use Rattle.promises.proofs.Rising.Laid.{Base}
-use Rattle.promises.proofs.Rising.Turns.{Kept, Finished, turn-keeps}
+use Rattle.promises.proofs.Rising.Turns.{Risen, Risen-whole, turn-keeps}
 
 -- a run begins with no token
-start-kept : (text-length : ℕ) (bom : Bool) → Kept text-length (start bom) []
+start-kept : (text-length : ℕ) (bom : Bool) → Risen text-length (start bom) []
 unfolding start Upto spans
 start-kept L bom =
     let none : Base L (start bom .at) 0 0 [] = record { linked = record { counted = refl; inside = stands-zero []; links = tt }; rising = omega arith } in
@@ -34,7 +36,7 @@ pub parse-viewed : (text : List ℕ) (len count : ℕ) (bom : Bool) (words : Lis
     → Viewed (length text) (tokens-in words count)
 parse-viewed text len count bom words e =
     let L : ℕ = length text in
-    let ended : Finished L count (tokens-in words count) =
-    rw e at (parse-keeps (Kept L) (Finished L) text (start-kept L (has-bom text)) (turn-keeps text) (λ n ts h. h .counted) len)
+    let ended : Risen-whole L count (tokens-in words count) =
+    rw e at (parse-keeps (Risen L) (Risen-whole L) text (start-kept L (has-bom text)) (turn-keeps text) (λ n ts h. h .counted) len)
     in
     viewed L (tokens-in words count) (ended .rising)

@@ -12,14 +12,16 @@ use lib.ListN.{length, replicate, length-replicate}
 use Rattle.data.proofs.Cases.{by-bool}
 use Rattle.tape.specs.Words.{capacity}
 use Rattle.tape.specs.Tape.{Tape, holds, unbounded}
-use Rattle.parse.specs.declared.machine.Machine.{Machine}
-use Rattle.parse.specs.declared.machine.Refusal.{Refusal}
-use Rattle.parse.specs.declared.machine.Refusal.the-variants.{TooLong, Full}
-use Rattle.parse.specs.declared.Parsed.{Parsed}
-use Rattle.parse.specs.declared.Parsed.the-variants.{Tokens, Refused}
-use Rattle.parse.specs.Refusals.{number}
-use Rattle.parse.specs.Machine.{After, next, done, refused}
-use Rattle.parse.specs.Parse.{turn, run, has-bom, start, enough, text-limit, Outcome, outcome, refuse, answer, parse-of}
+use Rattle.machine.specs.declared.Machine.{Machine}
+use Rattle.machine.specs.declared.Refusal.{Refusal}
+use Rattle.machine.specs.declared.Refusal.the-variants.{TooLong, Full}
+use Rattle.machine.specs.declared.Parsed.{Parsed}
+use Rattle.machine.specs.declared.Parsed.the-variants.{Tokens, Refused}
+use Rattle.machine.specs.Refusals.{number}
+use Rattle.parse.specs.After.{After, next, done, refused}
+use Rattle.machine.specs.Start.{has-bom, start}
+use Rattle.machine.specs.Finish.{Outcome, outcome, refuse}
+use Rattle.parse.specs.Parse.{turn, run, enough, text-limit, answer, parse-of}
 use Rattle.parse.proofs.Runs.{run-done, run-refused}
 use Rattle.promises.specs.Room.{tape-of, after-turns, run-in, unbounded-parse, turn-lays, and-one, laid-by, laid-in, laid-down}
 use Rattle.promises.proofs.Alike.{in-room, Going, Known, Alike}
@@ -167,18 +169,18 @@ module _ (text : List ℕ) (len : ℕ) where
       parse-within text len e ∙ ap (answer (has-bom text) len) (run-alike text k .full (omega arith) over))
 
 -- what a run with room for k tokens has where it is done: its count is that of its tokens, and they fit
-abbrev pub Finished : ℕ → After → Type 0
-Finished k (next m t) = Unit {0}
-Finished k (done n t) = (length (t .tokens) ≡ n) × (n ≤ k)
-Finished k (refused r) = Unit {0}
+abbrev pub Fitting : ℕ → After → Type 0
+Fitting k (next m t) = Unit {0}
+Fitting k (done n t) = (length (t .tokens) ≡ n) × (n ≤ k)
+Fitting k (refused r) = Unit {0}
 
-done-counted : (text : List ℕ) (budget k w : ℕ) (x : After) → Known text budget x → laid-by w x ≡ w → w ≤ k → Finished k (in-room k x)
+done-counted : (text : List ℕ) (budget k w : ℕ) (x : After) → Known text budget x → laid-by w x ≡ w → w ≤ k → Fitting k (in-room k x)
 done-counted text budget k w (next m t) a e h = tt
 done-counted text budget k w (done n t) a e h = (a, omega arith)
 done-counted text budget k w (refused r) a e h = tt
 
-pub run-finished : (text : List ℕ) (k : ℕ) → Finished k (run-in (holds k) text)
-run-finished text k =
+pub run-fits : (text : List ℕ) (k : ℕ) → Fitting k (run-in (holds k) text)
+run-fits text k =
     let a = run-alike text k in
     by-bool (ltb k (laid-run text))
     (λ e. rw (a .full (omega arith) (ltb-true _ _ e)) tt)

@@ -59,8 +59,29 @@ use Rattle.tape.proofs.words.insert_mixed.Reads as insert-mixed
 use Rattle.tape.proofs.words.clear_from.Reads as clear-from
 use Rattle.tape.proofs.shape.shape_of.Reads as shape-of
 use Rattle.tape.proofs.shape.link_of.Reads as link-of
-use Rattle.parse.proofs.machine.Refusal.number.Reads as refusal-number
-use Rattle.parse.proofs.machine.Refusal.place.Reads as refusal-place
+use Rattle.machine.proofs.Refusal.number.Reads as refusal-number
+use Rattle.machine.proofs.Refusal.place.Reads as refusal-place
+use Rattle.machine.proofs.Machine.to.Reads as to
+use Rattle.machine.proofs.Machine.within.Reads as within
+use Rattle.machine.proofs.byte_at.Reads as byte-at
+use Rattle.machine.proofs.less.Reads as less
+use Rattle.machine.proofs.before.Reads as before
+use Rattle.machine.proofs.mixed_on.Reads as mixed-on
+use Rattle.machine.proofs.is_key.Reads as is-key
+use Rattle.machine.proofs.is_parse_open.Reads as is-parse-open
+use Rattle.machine.proofs.parents.container_at.Reads as container-at
+use Rattle.machine.proofs.parents.parent_of.Reads as parent-of
+use Rattle.machine.proofs.parents.own_kind.Reads as own-kind
+use Rattle.machine.proofs.parents.resumed.Reads as resumed
+use Rattle.machine.proofs.parents.nothing_open.Reads as nothing-open
+use Rattle.machine.proofs.bytes.key_byte.Reads as key-byte
+use Rattle.machine.proofs.bytes.open_byte.Reads as open-byte
+use Rattle.machine.proofs.bytes.follows_key.Reads as follows-key
+use Rattle.machine.proofs.bytes.value_byte.Reads as value-byte
+use Rattle.machine.proofs.start.has_bom.Reads as has-bom
+use Rattle.machine.proofs.start.start.Reads as start
+use Rattle.machine.proofs.finish.refuse.Reads as refuse
+use Rattle.machine.proofs.finish.finish.Reads as finish
 use Rattle.parse.proofs.parse.Reads as parse
 use Rattle.sheet.proofs.check.Reads as check
 use Rattle.sheet.proofs.views.Viewed.refusal.Reads as viewed-refusal
@@ -262,17 +283,70 @@ tape-calls =
       link-of = by-definition _ _;
     }
 
-pub record Parse : Type 0 where
+pub record Machine : Type 0 where
   pub refusal-number : One-result refusal-number.Post
   pub refusal-place : One-result refusal-place.Post
+  pub to : One-result to.Post
+  pub within : One-result within.Post
+  pub byte-at : One-result byte-at.Post
+  pub less : One-result less.Post
+  pub before : One-result before.Post
+  pub mixed-on : One-result mixed-on.Post
+  pub is-key : One-result is-key.Post
+  pub is-parse-open : One-result is-parse-open.Post
+  pub container-at : One-result container-at.Post
+  pub parent-of : One-result parent-of.Post
+  pub own-kind : One-result own-kind.Post
+  pub resumed : One-result resumed.Post
+  pub nothing-open : One-result nothing-open.Post
+  pub key-byte : One-result key-byte.Post
+  pub open-byte : One-result open-byte.Post
+  pub follows-key : One-result follows-key.Post
+  pub value-byte : One-result value-byte.Post
+  pub has-bom : One-result has-bom.Post
+  pub start : One-result start.Post
+  pub refuse-result : One-result refuse.Post
+  pub refuse-tape : One-left refuse.Post (λ κs xs. xs .0 .now)
+  pub finish-result : One-result finish.Post
+  pub finish-tape : One-left finish.Post (λ κs xs. xs .0 .now)
+
+pub machine-calls : Machine
+machine-calls =
+    record {
+      refusal-number = by-definition _ _;
+      refusal-place = by-definition _ _;
+      to = by-definition _ _;
+      within = by-definition _ _;
+      byte-at = by-definition _ _;
+      less = by-definition _ _;
+      before = by-definition _ _;
+      mixed-on = by-definition _ _;
+      is-key = by-definition _ _;
+      is-parse-open = by-definition _ _;
+      container-at = by-definition _ _;
+      parent-of = by-definition _ _;
+      own-kind = by-definition _ _;
+      resumed = by-definition _ _;
+      nothing-open = by-definition _ _;
+      key-byte = by-definition _ _;
+      open-byte = by-definition _ _;
+      follows-key = by-definition _ _;
+      value-byte = by-definition _ _;
+      has-bom = by-definition _ _;
+      start = by-definition _ _;
+      refuse-result = λ κs args r s xs ys p q. cc;
+      refuse-tape = λ κs args r s xs ys p q. cc;
+      finish-result = λ κs args r s xs ys p q. cc;
+      finish-tape = λ κs args r s xs ys p q. cc;
+    }
+
+pub record Parse : Type 0 where
   pub parse-result : One-result parse.Post
   pub parse-tape : One-left parse.Post (λ κs xs. xs .1 .0 .now)
 
 pub parse-calls : Parse
 parse-calls =
     record {
-      refusal-number = by-definition _ _;
-      refusal-place = by-definition _ _;
       parse-result = λ κs args r s xs ys p q. cc;
       parse-tape = λ κs args r s xs ys p q. cc;
     }

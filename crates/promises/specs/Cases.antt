@@ -10,9 +10,10 @@ use Rattle.tape.specs.declared.token.ContainerKind.the-variants.{Array}
 use Rattle.tape.specs.declared.token.ScalarKind.the-variants.{Unquoted, Header}
 use Rattle.tape.specs.Token.{opener-of, end-of, scalar-of, operator-of, mixed-container-token}
 use Rattle.tape.specs.Words.{words-for, token-in, tokens-in}
-use Rattle.parse.specs.declared.Parsed.the-variants.{Tokens, Refused}
-use Rattle.parse.specs.Refusals.{number, place}
-use Rattle.parse.specs.Parse.{Outcome, outcome, parse-of}
+use Rattle.machine.specs.declared.Parsed.the-variants.{Tokens, Refused}
+use Rattle.machine.specs.Refusals.{number, place}
+use Rattle.machine.specs.Finish.{Outcome, outcome}
+use Rattle.parse.specs.Parse.{parse-of}
 
 infixl 20 refusal_at_
 -- the bytes of a text that is written in ASCII

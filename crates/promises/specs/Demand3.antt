@@ -7,8 +7,8 @@ use mathlib.Core.List.{List}
 use lib.ListN.{length}
 use Rattle.tape.specs.Words.{words-for}
 use Rattle.sheet.specs.Sound.{Sound}
-use Rattle.parse.specs.declared.machine.Refusal.the-variants.{Full}
-use Rattle.parse.specs.Refusals.{number}
+use Rattle.machine.specs.declared.Refusal.the-variants.{Full}
+use Rattle.machine.specs.Refusals.{number}
 use Rattle.parse.specs.Told.{ParseTold, parse-told}
 
 -- the tokens that a text of n bytes lays down at most

@@ -12,9 +12,9 @@ use Rattle.tape.specs.declared.token.ContainerKind.the-variants.{Object}
 use Rattle.tape.specs.declared.token.ScalarKind.{ScalarKind}
 use Rattle.tape.specs.Token.{mixed-container-token, opener-of, scalar-of, operator-of}
 use Rattle.sheet.specs.Sound.{nth}
-use Rattle.parse.specs.declared.machine.State.{State}
-use Rattle.parse.specs.declared.machine.State.the-variants.{Key, KeyValueSeparator, ObjectValue, ParseOpen, ArrayValue}
-use Rattle.parse.specs.Machine.{After, next, done, refused}
+use Rattle.machine.specs.declared.State.{State}
+use Rattle.machine.specs.declared.State.the-variants.{Key, KeyValueSeparator, ObjectValue, ParseOpen, ArrayValue}
+use Rattle.parse.specs.After.{After, next, done, refused}
 
 -- ---- mixed is on in ParseOpen and ArrayValue alone
 abbrev pub Mixes : State → Bool → Type 0

@@ -15,17 +15,18 @@ use Rattle.tape.specs.declared.token.Standing as Standing
 use Rattle.tape.specs.Token.{standing-of}
 use Rattle.tape.specs.Tape.{Tape, Room, unbounded, token-at}
 use Rattle.parse.specs.Told.{ParseTold, parse-told}
-use Rattle.parse.specs.declared.machine.State.the-variants.{Key, KeyValueSeparator, ObjectValue, ParseOpen, ArrayValue}
-use Rattle.parse.specs.declared.machine.Machine.{Machine}
-use Rattle.parse.specs.declared.machine.Refusal.the-variants.{TooLong}
-use Rattle.parse.specs.declared.key.KeyByte as KeyByte
-use Rattle.parse.specs.declared.parse_open.OpenByte as OpenByte
-use Rattle.parse.specs.declared.array_value.ValueByte as ValueByte
-use Rattle.parse.specs.Machine.{After, next, done, refused, byte-at, to}
-use Rattle.parse.specs.Key.{key-byte}
-use Rattle.parse.specs.ParseOpen.{open-byte}
-use Rattle.parse.specs.ArrayValue.{value-byte}
-use Rattle.parse.specs.Parse.{turn, run, has-bom, start, enough, text-limit, Outcome, refuse, answer}
+use Rattle.machine.specs.declared.State.the-variants.{Key, KeyValueSeparator, ObjectValue, ParseOpen, ArrayValue}
+use Rattle.machine.specs.declared.Machine.{Machine}
+use Rattle.machine.specs.declared.Refusal.the-variants.{TooLong}
+use Rattle.machine.specs.declared.bytes.KeyByte as KeyByte
+use Rattle.machine.specs.declared.bytes.OpenByte as OpenByte
+use Rattle.machine.specs.declared.bytes.ValueByte as ValueByte
+use Rattle.machine.specs.Machine.{byte-at, to}
+use Rattle.parse.specs.After.{After, next, done, refused}
+use Rattle.machine.specs.Bytes.{key-byte, open-byte, value-byte}
+use Rattle.machine.specs.Start.{has-bom, start}
+use Rattle.machine.specs.Finish.{Outcome, refuse}
+use Rattle.parse.specs.Parse.{turn, run, enough, text-limit, answer}
 
 -- a tape of some room with some tokens on it
 abbrev pub tape-of : Room → List Token → Tape

@@ -12,7 +12,7 @@ use lib.Dec.{eqb, leb, ltb}
 use lib.ListN.{length, getD, length-append}
 use Rattle.data.proofs.Cases.{by-bool}
 use Rattle.data.specs.Bytes.{digit-zero, digit-nine, plus}
-use Rattle.scalar.specs.Digits.{is-digit, run, carry, value, most-u64}
+use Rattle.scalar.specs.Digits.{is-digit, digit-run, carry, value, most-u64}
 use Rattle.scalar.specs.Whole.{u64-digits, u64-read}
 use Rattle.scalar.specs.declared.whole.U64Read.the-variants.{Is}
 use Rattle.report.proofs.Digits.{quotient-falls, decimal-one, decimal-more}
@@ -64,20 +64,20 @@ digit-within d h =
 digit-told : (d : ℕ) → d < 10 → is-digit (glyph d) ≡ true
 digit-told d h = ap is-digit (glyph-is d h) ∙ digit-within d h
 
-run-last : (xs : List ℕ) (b : ℕ) → run xs ≡ xs → is-digit b ≡ true → run (xs ++ (b ∷ [])) ≡ xs ++ (b ∷ [])
-unfolding run
-run-last [] b e d = rw (run, d)
+run-last : (xs : List ℕ) (b : ℕ) → digit-run xs ≡ xs → is-digit b ≡ true → digit-run (xs ++ (b ∷ [])) ≡ xs ++ (b ∷ [])
+unfolding digit-run
+run-last [] b e d = rw (digit-run, d)
 run-last (x ∷ xs) b e d =
     by-bool (is-digit x)
-    (λ t. let rest : run xs ≡ xs = (let whole = rw (run, t) at e in cc) in
-    rw (run, t) (ap (λ (l : List ℕ). x ∷ l) (run-last xs b rest d)))
-    (λ f. let none = rw (run, f) at e in let z : _≡_ {A = ℕ} 0 1 = cc in absurd (omega arith))
+    (λ t. let rest : digit-run xs ≡ xs = (let whole = rw (digit-run, t) at e in cc) in
+    rw (digit-run, t) (ap (λ (l : List ℕ). x ∷ l) (run-last xs b rest d)))
+    (λ f. let none = rw (digit-run, f) at e in let z : _≡_ {A = ℕ} 0 1 = cc in absurd (omega arith))
 
-pub decimal-run : (n : ℕ) → run (decimal n) ≡ decimal n
-unfolding run
+pub decimal-run : (n : ℕ) → digit-run (decimal n) ≡ decimal n
+unfolding digit-run
 decimal-run =
-    by-quotient (λ n. run (decimal n) ≡ decimal n)
-    (λ n h. rw (decimal-one n h, run, digit-told n h))
+    by-quotient (λ n. digit-run (decimal n) ≡ decimal n)
+    (λ n h. rw (decimal-one n h, digit-run, digit-told n h))
     (λ n h below. rw (decimal-more n h) (run-last (decimal (n / 10)) (glyph (n % 10)) below (digit-told (n % 10) (last-below n))))
 
 -- ---- the first is no 0
@@ -109,20 +109,20 @@ plus-no-digit b e =
     (λ t. ne-eqb b plus (λ is. omega (arith, leb-true digit-zero b t)))
     (λ f. absurd (false≢true (rw (is-digit, f) at e)))
 
-digits-say : (d : List ℕ) (n : ℕ) → run d ≡ d → value 0 d ≡ n → n ≤ most-u64 → u64-digits d ≡ Is n
+digits-say : (d : List ℕ) (n : ℕ) → digit-run d ≡ d → value 0 d ≡ n → n ≤ most-u64 → u64-digits d ≡ Is n
 unfolding u64-digits
 digits-say d n digits says small =
-    let total : value 0 (run d) ≡ n = ap (value 0) digits ∙ says in
-    rw (u64-digits, le-ltb (length (run d)) (length d) (omega (arith, ap length digits)), le-ltb most-u64 (value 0 (run d)) (omega arith))
+    let total : value 0 (digit-run d) ≡ n = ap (value 0) digits ∙ says in
+    rw (u64-digits, le-ltb (length (digit-run d)) (length d) (omega (arith, ap length digits)), le-ltb most-u64 (value 0 (digit-run d)) (omega arith))
     (ap Is total)
 
-reads : (d : List ℕ) (n : ℕ) → run d ≡ d → 0 < length d → value 0 d ≡ n → n ≤ most-u64 → u64-read d ≡ Is n
-unfolding u64-read run
+reads : (d : List ℕ) (n : ℕ) → digit-run d ≡ d → 0 < length d → value 0 d ≡ n → n ≤ most-u64 → u64-read d ≡ Is n
+unfolding u64-read digit-run
 reads [] n digits some says small = absurd (omega arith)
 reads (b ∷ d) n digits some says small =
     by-bool (is-digit b)
     (λ t. rw (u64-read, plus-no-digit b t) (digits-say (b ∷ d) n digits says small))
-    (λ f. let none = rw (run, f) at digits in let z : _≡_ {A = ℕ} 0 1 = cc in absurd (omega arith))
+    (λ f. let none = rw (digit-run, f) at digits in let z : _≡_ {A = ℕ} 0 1 = cc in absurd (omega arith))
 
 -- the u64 reading of what is written for a number is the number
 pub decimal-reads : (n : ℕ) → n ≤ most-u64 → u64-read (decimal n) ≡ Is n

@@ -11,7 +11,7 @@ use lib.IntN.{ℤ, pos, negsuc, negℤ}
 use lib.ListN.{length, take, drop, length-append, length-take, length-drop}
 use Rattle.data.proofs.Cases.{by-bool}
 use Rattle.data.specs.Bytes.{plus, minus}
-use Rattle.scalar.specs.Digits.{is-digit, run, value, most-u64}
+use Rattle.scalar.specs.Digits.{is-digit, digit-run, value, most-u64}
 use Rattle.scalar.specs.Float.{f64-read, pattern-of}
 use Rattle.scalar.specs.Kind.{kind-of}
 use Rattle.scalar.specs.Numbers.{kind-number-of}
@@ -64,9 +64,9 @@ unfolding u64-digits
 u64-digits-short s =
     by-bool (has-tail s)
     (λ tail. rw (u64-digits, tail) (omega (arith, two-short 21 (omega arith))))
-    (λ none. by-bool (ltb most-u64 (value 0 (run s)))
+    (λ none. by-bool (ltb most-u64 (value 0 (digit-run s)))
     (λ over. rw (u64-digits, none, over) (omega (arith, two-short 22 (omega arith))))
-    (λ within. rw (u64-digits, none, within) (omega (arith, number-short (value 0 (run s)) (omega (arith, ltb-false most-u64 (value 0 (run s)) within))))))
+    (λ within. rw (u64-digits, none, within) (omega (arith, number-short (value 0 (digit-run s)) (omega (arith, ltb-false most-u64 (value 0 (digit-run s)) within))))))
 
 u64-short : (d : List ℕ) → length (u64-text (u64-read d)) ≤ 21
 unfolding u64-read
@@ -90,9 +90,9 @@ Part-short Part.Overflow = Unit {0}
 i64-digits-short : (negative : Bool) (sign : ℕ) (s : List ℕ) → Part-short (i64-digits negative sign s)
 unfolding i64-digits
 i64-digits-short negative sign s =
-    by-bool (ltb most-i64 (value 0 (run s)))
+    by-bool (ltb most-i64 (value 0 (digit-run s)))
     (λ over. rw (i64-digits, over) tt)
-    (λ within. rw (i64-digits, within) (signed-short negative (value 0 (run s)) (ltb-false _ _ within)))
+    (λ within. rw (i64-digits, within) (signed-short negative (value 0 (digit-run s)) (ltb-false _ _ within)))
 
 i64-part-short : (d : List ℕ) → Part-short (i64-part d)
 unfolding i64-part

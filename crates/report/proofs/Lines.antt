@@ -11,13 +11,14 @@ use lib.Seq.{drop-cons}
 use Rattle.tape.specs.declared.token.Token.{Token}
 use Rattle.tape.specs.Token.{no-token}
 use Rattle.tape.specs.Words.{tokens-in, token-in}
-use Rattle.parse.specs.declared.Parsed.{Parsed}
-use Rattle.parse.specs.declared.Parsed.the-variants.{Tokens, Refused}
-use Rattle.parse.specs.declared.machine.Refusal.{Refusal}
-use Rattle.parse.specs.Parse.{outcome, parse-of}
-use Rattle.parse.specs.declared.machine.Refusal.the-variants.{TooLong, Eof, StackEmpty, NoHeader, NoValue, MixedParameter, Full}
-use Rattle.parse.specs.declared.machine.Refusal.the-variants.{NothingPrecedes, UnknownOperator, NoParameter, OpenName}
-use Rattle.parse.specs.Refusals.{number, place}
+use Rattle.machine.specs.declared.Parsed.{Parsed}
+use Rattle.machine.specs.declared.Parsed.the-variants.{Tokens, Refused}
+use Rattle.machine.specs.declared.Refusal.{Refusal}
+use Rattle.machine.specs.Finish.{outcome}
+use Rattle.parse.specs.Parse.{parse-of}
+use Rattle.machine.specs.declared.Refusal.the-variants.{TooLong, Eof, StackEmpty, NoHeader, NoValue, MixedParameter, Full}
+use Rattle.machine.specs.declared.Refusal.the-variants.{NothingPrecedes, UnknownOperator, NoParameter, OpenName}
+use Rattle.machine.specs.Refusals.{number, place}
 use Rattle.parse.specs.Told.{bit, tell-parse}
 use Rattle.report.specs.Dump.{line-of, lines-from, header-of, refused-of, lines-of, dump-of}
 

@@ -16,11 +16,12 @@ use Rattle.tape.specs.Words.{words-for, tokens-in, a-word, b-word, last-word}
 use Rattle.tape.specs.Token.{no-token}
 use Rattle.sheet.specs.Sound.{nth}
 use Rattle.tape.proofs.Views.{tokens-length, tokens-at, tokens-none, tokens-past}
-use Rattle.parse.specs.declared.Parsed.{Parsed}
-use Rattle.parse.specs.declared.Parsed.the-variants.{Tokens, Refused}
-use Rattle.parse.specs.declared.machine.Refusal.{Refusal}
-use Rattle.parse.specs.Parse.{outcome, parse-of}
-use Rattle.parse.specs.Refusals.{number, place}
+use Rattle.machine.specs.declared.Parsed.{Parsed}
+use Rattle.machine.specs.declared.Parsed.the-variants.{Tokens, Refused}
+use Rattle.machine.specs.declared.Refusal.{Refusal}
+use Rattle.machine.specs.Finish.{outcome}
+use Rattle.parse.specs.Parse.{parse-of}
+use Rattle.machine.specs.Refusals.{number, place}
 use Rattle.report.proofs.Append.{append-fits}
 use Rattle.report.proofs.Digits.{decimal-one, decimal-more}
 use Rattle.report.proofs.Lines.{dump-tokens, dump-refused}

@@ -9,7 +9,8 @@ use Rattle.tape.specs.declared.token.Token.{Token}
 use Rattle.tape.specs.Token.{array-code, object-code, mixed-container-code, operator-code, end-code}
 use Rattle.tape.specs.Token.{unquoted-code, quoted-code, parameter-code, undefined-parameter-code, header-code}
 use Rattle.tape.specs.Words.{tokens-in}
-use Rattle.parse.specs.Parse.{Outcome, outcome, parse-of}
+use Rattle.machine.specs.Finish.{Outcome, outcome}
+use Rattle.parse.specs.Parse.{parse-of}
 use Rattle.parse.specs.Told.{ParseTold, parse-told, tell-parse}
 use Rattle.report.specs.Digits.{decimal}
 use Rattle.report.specs.Room.{most-input}

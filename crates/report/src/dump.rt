@@ -8,7 +8,7 @@ use crate::put::put_bytes;
 use crate::tokens::put_header;
 use crate::tokens::put_refused;
 use crate::tokens::put_tokens;
-use parse::Parsed;
+use machine::Parsed;
 ghost use mathlib.Core.Path.{_≡_};
 ghost use mathlib.Core.List.{[], _∷_, _++_};
 ghost use lib.ListN.{length};

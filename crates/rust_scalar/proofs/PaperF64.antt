@@ -11,7 +11,7 @@ use lib.Dec.{eqb, leb, ltb}
 use lib.ListN.{length, drop, length-drop}
 use Rattle.data.proofs.Cases.{by-bool}
 use Rattle.data.specs.Bytes.{plus, minus, point}
-use Rattle.scalar.specs.Digits.{is-digit, run, value, most-u64}
+use Rattle.scalar.specs.Digits.{is-digit, digit-run, value, most-u64}
 use Rattle.scalar.specs.Float.{most-safe, most-places, rest, tail-of, lossy, unpointed, factor, divided, quotient, pointed, after-point, f64-digits, begins}
 use Rattle.scalar.specs.Float.{f64-read}
 use Rattle.scalar.specs.Whole.{most-i64}
@@ -37,7 +37,7 @@ exact-same negative n h =
     lossy-same true = by-bool (ltb most-i64 n) (λ p. rw (paper-lossy, lossy, p)) (λ f. rw (paper-lossy, lossy, f))
     lossy-same false = refl
 
-unpointed-same : (negative : Bool) (s : List ℕ) → run s ≡ s → paper-unpointed negative s ≡ unpointed negative (value 0 s)
+unpointed-same : (negative : Bool) (s : List ℕ) → digit-run s ≡ s → paper-unpointed negative s ≡ unpointed negative (value 0 s)
 unfolding paper-unpointed
 unpointed-same negative s e =
     by-bool (ltb (length s) few-digits)
@@ -82,13 +82,13 @@ pointed-same negative all whole fraction few =
         rw (mod-eq-of-lt {n = number} {m = 2 ^ 64} (omega (arith, ltb-false most-u64 number w)))
         (quotient-same negative number (length fraction) ∙ sym (pointed-is negative whole fraction w))
 
-fraction-same : (negative : Bool) (all whole : ℕ) (s : List ℕ) → (all < many-bytes → value whole (run s) ≤ most-u64)
+fraction-same : (negative : Bool) (all whole : ℕ) (s : List ℕ) → (all < many-bytes → value whole (digit-run s) ≤ most-u64)
     → paper-fraction negative all whole s ≡ after-point negative whole s
 unfolding paper-fraction after-point
 fraction-same negative all whole s few = go (tail-of (rest s)) refl
   where
     go : (t : Tail) → tail-of (rest s) ≡ t → paper-fraction negative all whole s ≡ after-point negative whole s
-    go End e = rw (paper-fraction, after-point, e) (pointed-same negative all whole (run s) few)
+    go End e = rw (paper-fraction, after-point, e) (pointed-same negative all whole (digit-run s) few)
     go Point e = rw (paper-fraction, after-point, e)
     go Other e = rw (paper-fraction, after-point, e)
 
@@ -102,12 +102,12 @@ digits-same negative s = go (tail-of (rest s)) refl
     after = drop 1 (rest s)
 
     go : (t : Tail) → tail-of (rest s) ≡ t → paper-digits negative s ≡ f64-digits negative s
-    go End e = rw (paper-digits, f64-digits, e) (unpointed-same negative (run s) (run-again s))
+    go End e = rw (paper-digits, f64-digits, e) (unpointed-same negative (digit-run s) (run-again s))
     go Point e =
         rw (paper-digits, f64-digits, e)
-        (fraction-same negative (length s - 1) (value 0 (run s) % 2 ^ 64) after
+        (fraction-same negative (length s - 1) (value 0 (digit-run s) % 2 ^ 64) after
         (λ few. few-pointed s after
-        (omega (arith, point-within s (length (run s)) e, run-length after, length-drop 1 (rest s), length-drop (length (run s)) s))))
+        (omega (arith, point-within s (length (digit-run s)) e, run-length after, length-drop 1 (rest s), length-drop (length (digit-run s)) s))))
     go Other e = rw (paper-digits, f64-digits, e)
 
 pub paper-alike : (d : List ℕ) → PaperAlike d

@@ -8,7 +8,7 @@ use lib.Ieee.{Float, binary64, ofInt, mul, div}
 use lib.IntN.{ℤ, pos}
 use lib.ListN.{length, drop}
 use Rattle.data.specs.Bytes.{plus, minus, point}
-use Rattle.scalar.specs.Digits.{is-digit, run, value}
+use Rattle.scalar.specs.Digits.{is-digit, digit-run, value}
 use Rattle.scalar.specs.Float.{rest, tail-of, f64-read}
 use Rattle.scalar.specs.Whole.{signed}
 use Rattle.scalar.specs.declared.float.F64Read.the-variants.{Is, AllDigits, Overflow, PrecisionLoss}
@@ -73,13 +73,13 @@ paper-pointed negative all whole fraction =
 -- "Sign, digits, one point, one closing `f`; .. any other form is 21, before 22 and 24."
 unfoldable pub paper-fraction : Bool → ℕ → ℕ → List ℕ → F64Read
 paper-fraction negative all whole s =
-    elim (tail-of (rest s)) [ End ↦ paper-pointed negative all whole (run s) | Point ↦ AllDigits | Other ↦ AllDigits ]
+    elim (tail-of (rest s)) [ End ↦ paper-pointed negative all whole (digit-run s) | Point ↦ AllDigits | Other ↦ AllDigits ]
 
 unfoldable pub paper-digits : Bool → List ℕ → F64Read
 paper-digits negative s =
     elim (tail-of (rest s)) [
-      | End ↦ paper-unpointed negative (run s)
-      | Point ↦ paper-fraction negative (length s - 1) (gathered-from 0 (run s)) (drop 1 (rest s))
+      | End ↦ paper-unpointed negative (digit-run s)
+      | Point ↦ paper-fraction negative (length s - 1) (gathered-from 0 (digit-run s)) (drop 1 (rest s))
       | Other ↦ AllDigits
     ]
 

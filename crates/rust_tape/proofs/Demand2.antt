@@ -8,11 +8,11 @@ use mathlib.Core.List.{List}
 use mathlib.Core.Logic.{_↔_}
 use lib.ListN.{length}
 use Rattle.tape.specs.Words.{capacity}
-use Rattle.parse.specs.declared.machine.Refusal.the-variants.{Full}
-use Rattle.parse.specs.declared.Parsed.{Parsed}
-use Rattle.parse.specs.declared.Parsed.the-variants.{Refused}
-use Rattle.parse.specs.Refusals.{number}
-use Rattle.parse.specs.Parse.{Outcome, outcome}
+use Rattle.machine.specs.declared.Refusal.the-variants.{Full}
+use Rattle.machine.specs.declared.Parsed.{Parsed}
+use Rattle.machine.specs.declared.Parsed.the-variants.{Refused}
+use Rattle.machine.specs.Refusals.{number}
+use Rattle.machine.specs.Finish.{Outcome, outcome}
 use Rattle.parse.proofs.parse.Reads as parse
 use Rattle.parse.specs.Told.{tell-parse}
 use Rattle.promises.specs.Room.{laid-down, refusal-told}

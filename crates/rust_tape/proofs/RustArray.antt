@@ -23,13 +23,16 @@ use Rattle.tape.specs.declared.token.Standing as Standings
 use Rattle.tape.specs.Token.{mixed-container-token, opener-of, operator-of, end-of, container-of, standing-of}
 use Rattle.tape.specs.Tape.{Tape, unbounded, token-at, replace, add, before-last, add-before-last, lay, lay-mixed}
 use Rattle.sheet.specs.Sound.{nth}
-use Rattle.parse.specs.declared.machine.State.the-variants.{ArrayValue}
-use Rattle.parse.specs.declared.machine.Machine.{Machine}
-use Rattle.parse.specs.declared.machine.Refusal.the-variants.{UnknownOperator}
-use Rattle.parse.specs.Machine.{After, refused, byte-at, lay-then}
-use Rattle.parse.specs.Containers.{open-then, parent-of, own-kind, close-at, close, nothing-open}
-use Rattle.parse.specs.KeyValueSeparator.{mixed-on, mix-then}
-use Rattle.parse.specs.ArrayValue.{begins-operator, value-byte, array-close, operator-then, after-end, unmixed-operator, array-operator, array-value-turn}
+use Rattle.machine.specs.declared.State.the-variants.{ArrayValue}
+use Rattle.machine.specs.declared.Machine.{Machine}
+use Rattle.machine.specs.declared.Refusal.the-variants.{UnknownOperator}
+use Rattle.machine.specs.Machine.{byte-at, mixed-on}
+use Rattle.parse.specs.After.{After, refused, lay-then}
+use Rattle.machine.specs.Parents.{parent-of, own-kind, nothing-open}
+use Rattle.parse.specs.Containers.{open-then, close-at, close}
+use Rattle.parse.specs.KeyValueSeparator.{mix-then}
+use Rattle.machine.specs.Bytes.{begins-operator, value-byte}
+use Rattle.parse.specs.ArrayValue.{array-close, operator-then, after-end, unmixed-operator, array-operator, array-value-turn}
 use Rattle.promises.specs.Room.{tape-of, is-scalar, value-lays, and-one}
 use Rattle.rust_tape.specs.RustTape as Rust
 use Rattle.rust_tape.specs.RustTape.{Parser, Flow, TextToken}

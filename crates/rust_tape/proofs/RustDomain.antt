@@ -5,8 +5,9 @@ use mathlib.Core.List.{List, [], _∷_}
 use mathlib.Core.Logic.{inr}
 use lib.ListN.{length}
 use Rattle.tape.specs.Tape.{unbounded}
-use Rattle.parse.specs.Machine.{After, next, done, refused}
-use Rattle.parse.specs.Parse.{turn, has-bom, start, enough, text-limit}
+use Rattle.parse.specs.After.{After, next, done, refused}
+use Rattle.machine.specs.Start.{has-bom, start}
+use Rattle.parse.specs.Parse.{turn, enough, text-limit}
 use Rattle.promises.specs.Room.{tape-of}
 use Rattle.rust_tape.specs.RustDomain.{In-domain, turn-runs, Each, Along, Domain, Plain}
 use Rattle.rust_tape.specs.Demand2.{Spoken-of}

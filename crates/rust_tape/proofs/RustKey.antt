@@ -20,11 +20,14 @@ use Rattle.tape.specs.declared.token.Container as Containers
 use Rattle.tape.specs.Token.{opener-of, end-of, headed, container-of}
 use Rattle.tape.specs.Tape.{Tape, unbounded, token-at, replace, add, lay}
 use Rattle.sheet.specs.Sound.{nth}
-use Rattle.parse.specs.declared.machine.State.the-variants.{Key, KeyValueSeparator}
-use Rattle.parse.specs.declared.machine.Machine.{Machine}
-use Rattle.parse.specs.Machine.{byte-at, lay-then}
-use Rattle.parse.specs.Containers.{parent-of, close-at, close, nothing-open, key-end, text-end}
-use Rattle.parse.specs.Key.{key-byte, key-close, open-header, key-header, key-brace, key-turn}
+use Rattle.machine.specs.declared.State.the-variants.{Key, KeyValueSeparator}
+use Rattle.machine.specs.declared.Machine.{Machine}
+use Rattle.machine.specs.Machine.{byte-at}
+use Rattle.parse.specs.After.{lay-then}
+use Rattle.machine.specs.Parents.{parent-of, nothing-open}
+use Rattle.parse.specs.Containers.{close-at, close, key-end, text-end}
+use Rattle.machine.specs.Bytes.{key-byte}
+use Rattle.parse.specs.Key.{key-close, open-header, key-header, key-brace, key-turn}
 use Rattle.parse.proofs.Splits.{by-skipped, by-state}
 use Rattle.promises.specs.Room.{tape-of, key-lays, and-one}
 use Rattle.rust_tape.specs.RustTape as Rust

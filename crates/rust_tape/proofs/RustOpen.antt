@@ -21,14 +21,16 @@ use Rattle.tape.specs.declared.token.Container as Containers
 use Rattle.tape.specs.Token.{opener-of, end-of, scalar-of, container-of}
 use Rattle.tape.specs.Tape.{Tape, unbounded, token-at, replace, add, lay}
 use Rattle.sheet.specs.Sound.{nth}
-use Rattle.parse.specs.declared.machine.State.the-variants.{ParseOpen}
-use Rattle.parse.specs.declared.machine.Machine.{Machine}
-use Rattle.parse.specs.declared.machine.Refusal.the-variants.{MixedParameter}
-use Rattle.parse.specs.Machine.{refused, byte-at, to, within, lay-then}
+use Rattle.machine.specs.declared.State.the-variants.{ParseOpen}
+use Rattle.machine.specs.declared.Machine.{Machine}
+use Rattle.machine.specs.declared.Refusal.the-variants.{MixedParameter}
+use Rattle.machine.specs.Machine.{byte-at, to, within}
+use Rattle.parse.specs.After.{refused, lay-then}
 use Rattle.parse.specs.Scalars.{scalar-then}
 use Rattle.parse.specs.Containers.{close-at}
 use Rattle.parse.specs.Parameter.{parameter}
-use Rattle.parse.specs.ParseOpen.{open-byte, settle, open-empty, open-parameter, open-brace, flag-parent, follows-key, open-as, open-scalar, parse-open-turn}
+use Rattle.machine.specs.Bytes.{open-byte, follows-key}
+use Rattle.parse.specs.ParseOpen.{settle, open-empty, open-parameter, open-brace, flag-parent, open-as, open-scalar, parse-open-turn}
 use Rattle.parse.proofs.Splits.{by-skipped, by-cut}
 use Rattle.promises.specs.Room.{tape-of, parameter-lays, is-cut, open-lays, and-one}
 use Rattle.rust_tape.specs.RustTape as Rust

@@ -16,13 +16,10 @@ use Rattle.rust_tape.specs.RustTape.{parameter-name, parameter-from, par
 use Rattle.rust_tape.specs.RustTape.{separator-by, value-arm, open-close, open-brace, flagged, open-first, open-bracket, open-arm, array-close}
 use Rattle.rust_tape.specs.RustTape.{operator-by, after-end, array-sign, array-arm, by-its-state, rust-turn, rust-loop, utf8-bom, begin}
 use Rattle.rust_tape.specs.RustTape.{rust-turns, rust-parse}
+use Rattle.parse.specs.Told.{bit}
 use Rattle.rust_tape.specs.AsRust.{error-number, error-place}
 
 -- ---- the Rust's tokens by document 01's numbers
-abbrev bit : Bool → ℕ
-bit true = 1
-bit false = 0
-
 abbrev variant-code : Variant → ℕ
 variant-code Rust.Unquoted = 4
 variant-code Rust.Quoted = 5

@@ -22,9 +22,10 @@ use Rattle.tape.specs.declared.token.ScalarKind.{ScalarKind}
 use Rattle.tape.specs.declared.token.ScalarKind.the-variants.{Unquoted, Parameter, UndefinedParameter}
 use Rattle.tape.specs.Token.{opener-of, scalar-of}
 use Rattle.tape.specs.Tape.{Tape, unbounded, add, lay}
-use Rattle.parse.specs.declared.machine.State.the-variants.{Key}
-use Rattle.parse.specs.declared.machine.Machine.{Machine}
-use Rattle.parse.specs.Machine.{byte-at, to, lay-then}
+use Rattle.machine.specs.declared.State.the-variants.{Key}
+use Rattle.machine.specs.declared.Machine.{Machine}
+use Rattle.machine.specs.Machine.{byte-at, to}
+use Rattle.parse.specs.After.{lay-then}
 use Rattle.parse.specs.Parameter.{parameter-object, value-or-object, parameter-value, parameter-named, parameter-name, parameter}
 use Rattle.parse.proofs.Splits.{by-skipped}
 use Rattle.promises.specs.Room.{tape-of, name-ended, parameter-lays, and-one}

@@ -17,14 +17,16 @@ use Rattle.tape.specs.declared.token.Token.{Token}
 use Rattle.tape.specs.Tape.{Tape, unbounded}
 use Rattle.tape.specs.Words.{words-of, padded}
 use Rattle.tape.proofs.Views.{tokens-back}
-use Rattle.parse.specs.declared.machine.State.{State}
-use Rattle.parse.specs.declared.machine.State.the-variants.{Key, KeyValueSeparator, ObjectValue, ParseOpen, ArrayValue}
-use Rattle.parse.specs.declared.machine.Machine.{Machine}
-use Rattle.parse.specs.declared.machine.Refusal as Refusals
-use Rattle.parse.specs.declared.machine.Refusal.{Refusal}
-use Rattle.parse.specs.Refusals.{number}
-use Rattle.parse.specs.Machine.{After, next, done, refused, byte-at, to}
-use Rattle.parse.specs.Parse.{state-turn, turn, run, has-bom, start, enough, text-limit, answer}
+use Rattle.machine.specs.declared.State.{State}
+use Rattle.machine.specs.declared.State.the-variants.{Key, KeyValueSeparator, ObjectValue, ParseOpen, ArrayValue}
+use Rattle.machine.specs.declared.Machine.{Machine}
+use Rattle.machine.specs.declared.Refusal as Refusals
+use Rattle.machine.specs.declared.Refusal.{Refusal}
+use Rattle.machine.specs.Refusals.{number}
+use Rattle.machine.specs.Machine.{byte-at, to}
+use Rattle.parse.specs.After.{After, next, done, refused}
+use Rattle.machine.specs.Start.{has-bom, start}
+use Rattle.parse.specs.Parse.{state-turn, turn, run, enough, text-limit, answer}
 use Rattle.parse.specs.Told.{bit, tell-parse}
 use Rattle.parse.proofs.Splits.{by-skipped, by-state}
 use Rattle.parse.proofs.States.{in-key, in-separator, in-object-value, in-parse-open, in-array-value}

@@ -28,9 +28,9 @@ use Rattle.tape.proofs.Makers.{end-uncoded}
 use Rattle.operator.specs.declared.Operator as Ours
 use Rattle.operator.specs.Operators.{number-of}
 use Rattle.sheet.specs.Sound.{nth, Form, container, mixed-container, scalar, operator, closing}
-use Rattle.parse.specs.declared.machine.State.{State}
-use Rattle.parse.specs.declared.machine.State.the-variants.{Key, KeyValueSeparator, ObjectValue, ParseOpen, ArrayValue}
-use Rattle.parse.specs.Containers.{parent-of, own-kind, state-in, mixed-in, nothing-open}
+use Rattle.machine.specs.declared.State.{State}
+use Rattle.machine.specs.declared.State.the-variants.{Key, KeyValueSeparator, ObjectValue, ParseOpen, ArrayValue}
+use Rattle.machine.specs.Parents.{parent-of, own-kind, state-in, mixed-in, nothing-open}
 use Rattle.parse.proofs.Splits.{by-container}
 use Rattle.promises.specs.Room.{tape-of}
 use Rattle.promises.specs.Mixed.{Scalar}

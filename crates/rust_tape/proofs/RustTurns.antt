@@ -20,16 +20,17 @@ use Rattle.tape.specs.declared.token.ContainerKind.the-variants.{Array}
 use Rattle.tape.specs.declared.token.ScalarKind.the-variants.{Unquoted, Quoted}
 use Rattle.tape.specs.Token.{mixed-container-token}
 use Rattle.tape.specs.Tape.{Tape, unbounded, add, before-last, add-before-last, lay, lay-mixed}
-use Rattle.parse.specs.declared.machine.State.{State}
-use Rattle.parse.specs.declared.machine.State.the-variants.{Key, KeyValueSeparator, ObjectValue, ParseOpen, ArrayValue}
-use Rattle.parse.specs.declared.machine.Machine.{Machine}
-use Rattle.parse.specs.declared.machine.Refusal.{Refusal}
-use Rattle.parse.specs.declared.machine.Refusal.the-variants.{NoValue}
-use Rattle.parse.specs.Refusals.{number, place}
-use Rattle.parse.specs.Machine.{After, next, done, refused, byte-at, to, lay-then}
+use Rattle.machine.specs.declared.State.{State}
+use Rattle.machine.specs.declared.State.the-variants.{Key, KeyValueSeparator, ObjectValue, ParseOpen, ArrayValue}
+use Rattle.machine.specs.declared.Machine.{Machine}
+use Rattle.machine.specs.declared.Refusal.{Refusal}
+use Rattle.machine.specs.declared.Refusal.the-variants.{NoValue}
+use Rattle.machine.specs.Refusals.{number, place}
+use Rattle.machine.specs.Machine.{byte-at, to, mixed-on}
+use Rattle.parse.specs.After.{After, next, done, refused, lay-then}
 use Rattle.parse.specs.Scalars.{scalar-then}
 use Rattle.parse.specs.Containers.{open-then}
-use Rattle.parse.specs.KeyValueSeparator.{mixed-on, mix-then, separator-then, separator-turn}
+use Rattle.parse.specs.KeyValueSeparator.{mix-then, separator-then, separator-turn}
 use Rattle.parse.specs.ObjectValue.{object-value-turn}
 use Rattle.parse.proofs.Splits.{by-cut}
 use Rattle.promises.specs.Room.{tape-of}

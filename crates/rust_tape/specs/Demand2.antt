@@ -7,8 +7,8 @@ use mathlib.Core.List.{List}
 use mathlib.Core.Logic.{_↔_}
 use lib.ListN.{length}
 use Rattle.tape.specs.Words.{capacity}
-use Rattle.parse.specs.declared.machine.Refusal.the-variants.{Full}
-use Rattle.parse.specs.Refusals.{number}
+use Rattle.machine.specs.declared.Refusal.the-variants.{Full}
+use Rattle.machine.specs.Refusals.{number}
 use Rattle.parse.specs.Parse.{text-limit}
 use Rattle.parse.specs.Told.{ParseTold, parse-told, tell-parse}
 use Rattle.promises.specs.Room.{unbounded-parse, laid-down}

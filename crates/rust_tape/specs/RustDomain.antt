@@ -14,16 +14,16 @@ use Rattle.cut.specs.Blanks.{skip-ws}
 use Rattle.cut.specs.Runs.{unquoted-run, run-end}
 use Rattle.cut.specs.Scalars.{opens-variable}
 use Rattle.tape.specs.Tape.{Tape, unbounded}
-use Rattle.parse.specs.declared.machine.State.the-variants.{Key, KeyValueSeparator, ObjectValue, ParseOpen, ArrayValue}
-use Rattle.parse.specs.declared.machine.Machine.{Machine}
-use Rattle.parse.specs.declared.key.KeyByte as KeyByte
-use Rattle.parse.specs.declared.parse_open.OpenByte as OpenByte
-use Rattle.parse.specs.declared.array_value.ValueByte as ValueByte
-use Rattle.parse.specs.Machine.{After, next, done, refused, byte-at, to}
-use Rattle.parse.specs.Key.{key-byte}
-use Rattle.parse.specs.ParseOpen.{open-byte}
-use Rattle.parse.specs.ArrayValue.{value-byte}
-use Rattle.parse.specs.Parse.{turn, has-bom, start, enough}
+use Rattle.machine.specs.declared.State.the-variants.{Key, KeyValueSeparator, ObjectValue, ParseOpen, ArrayValue}
+use Rattle.machine.specs.declared.Machine.{Machine}
+use Rattle.machine.specs.declared.bytes.KeyByte as KeyByte
+use Rattle.machine.specs.declared.bytes.OpenByte as OpenByte
+use Rattle.machine.specs.declared.bytes.ValueByte as ValueByte
+use Rattle.machine.specs.Machine.{byte-at, to}
+use Rattle.parse.specs.After.{After, next, done, refused}
+use Rattle.machine.specs.Bytes.{key-byte, open-byte, value-byte}
+use Rattle.machine.specs.Start.{has-bom, start}
+use Rattle.parse.specs.Parse.{turn, enough}
 use Rattle.promises.specs.Room.{tape-of}
 use Rattle.rust_tape.specs.RustCuts.{vertical-tab, form-feed}
 

@@ -15,7 +15,7 @@ use lib.Pow.{pow-add}
 use lib.Seq.{drop-cons, drop-drop}
 use Rattle.data.proofs.Cases.{by-bool}
 use Rattle.data.specs.Bytes.{plus, minus, point, letter-f}
-use Rattle.scalar.specs.Digits.{run, value, gathered, most-u64}
+use Rattle.scalar.specs.Digits.{digit-run, value, gathered, most-u64}
 use Rattle.scalar.specs.Float.{most-safe, most-places, rest, tail-of, lossy, unpointed, divided, quotient, pointed, after-point, f64-digits, begins}
 use Rattle.scalar.specs.Float.{f64-read}
 use Rattle.scalar.specs.Whole.{signed, most-i64}
@@ -107,7 +107,7 @@ unfolding pointed
 pointed-is negative whole fraction e = rw (pointed, e)
 
 pub after-point-end : (negative : Bool) (whole : ℕ) (s : List ℕ) → tail-of (rest s) ≡ End
-    → after-point negative whole s ≡ pointed negative whole (run s)
+    → after-point negative whole s ≡ pointed negative whole (digit-run s)
 unfolding after-point
 after-point-end negative whole s e = rw (after-point, e)
 
@@ -121,12 +121,12 @@ after-point-other negative whole s e = rw (after-point, e)
 
 -- ---- after the sign
 
-pub digits-end : (negative : Bool) (s : List ℕ) → tail-of (rest s) ≡ End → f64-digits negative s ≡ unpointed negative (value 0 (run s))
+pub digits-end : (negative : Bool) (s : List ℕ) → tail-of (rest s) ≡ End → f64-digits negative s ≡ unpointed negative (value 0 (digit-run s))
 unfolding f64-digits
 digits-end negative s e = rw (f64-digits, e)
 
 pub digits-point : (negative : Bool) (s : List ℕ) → tail-of (rest s) ≡ Point
-    → f64-digits negative s ≡ after-point negative (value 0 (run s) % 2 ^ 64) (drop 1 (rest s))
+    → f64-digits negative s ≡ after-point negative (value 0 (digit-run s) % 2 ^ 64) (drop 1 (rest s))
 unfolding f64-digits
 digits-point negative s e = rw (f64-digits, e)
 
@@ -161,7 +161,7 @@ f64-other b s h k e = rw (f64-read, ne-eqb b minus h, ne-eqb b plus k, e)
 
 -- what stands after the digits stands at the place after them
 pub rest-at : (d : List ℕ) (at start : ℕ) (g : Gathered) → g ≡ gathered d at start → drop (g .at) d ≡ rest (drop at d)
-rest-at d at start g e = ap (λ (n : ℕ). drop n d) (place-is d at start g e) ∙ sym (drop-drop (length (run (drop at d))) at d)
+rest-at d at start g e = ap (λ (n : ℕ). drop n d) (place-is d at start g e) ∙ sym (drop-drop (length (digit-run (drop at d))) at d)
 
 -- so what was found there is found after the digits
 pub tail-told : (d : List ℕ) (at start : ℕ) (g : Gathered) (t : Tail) → g ≡ gathered d at start → tail-of (drop (g .at) d) ≡ t
@@ -173,21 +173,21 @@ pub past-point : (d : List ℕ) (at start : ℕ) (g : Gathered) → g ≡ gather
 past-point d at start g e = sym (drop-drop 1 (g .at) d) ∙ ap (drop 1) (rest-at d at start g e)
 
 -- n digits and m more write a number below ten to the n + m
-pub both-below : (s t : List ℕ) (m : ℕ) → m ≤ value 0 (run s) → value m (run t) < 10 ^ (length (run s) + length (run t))
+pub both-below : (s t : List ℕ) (m : ℕ) → m ≤ value 0 (digit-run s) → value m (digit-run t) < 10 ^ (length (digit-run s) + length (digit-run t))
 both-below s t m h =
     lt-of-lt-of-le (value-below t m)
-    (rw (pow-add 10 (length (run s)) (length (run t)))
-    (mul-le-mul-right (10 ^ length (run t)) (omega (arith, value-below s 0))))
+    (rw (pow-add 10 (length (digit-run s)) (length (digit-run t)))
+    (mul-le-mul-right (10 ^ length (digit-run t)) (omega (arith, value-below s 0))))
 
 -- bytes under the cutoff with a point among them write no digits past 64 bits
 pub short-pointed : (d : List ℕ) (sign : ℕ) (g : Gathered) → g ≡ gathered d sign 0 → g .at < length d → length d < overflow-cutoff
-    → value (g .total) (run (drop (g .at + 1) d)) ≤ most-u64
+    → value (g .total) (digit-run (drop (g .at + 1) d)) ≤ most-u64
 short-pointed d sign g e within short =
     let s = drop sign d in
     let t = drop (g .at + 1) d in
-    let total-le : g .total ≤ value 0 (run s) = le-trans (le-of-eq (ap (λ (x : Gathered). x .total) e)) (mod-le (value 0 (run s)) (2 ^ 64)) in
-    let digits-le : length (run s) + length (run t) ≤ 18 =
+    let total-le : g .total ≤ value 0 (digit-run s) = le-trans (le-of-eq (ap (λ (x : Gathered). x .total) e)) (mod-le (value 0 (digit-run s)) (2 ^ 64)) in
+    let digits-le : length (digit-run s) + length (digit-run t) ≤ 18 =
     omega (arith, place-is d sign 0 g e, run-length t, length-drop (g .at + 1) d) in
-    let below : value (g .total) (run t) < 10 ^ 18 =
+    let below : value (g .total) (digit-run t) < 10 ^ 18 =
     lt-of-lt-of-le (both-below s t (g .total) total-le) (pow-le-pow-right {n = 10} (omega arith) digits-le) in
     omega (arith, below)

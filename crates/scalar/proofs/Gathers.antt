@@ -8,7 +8,7 @@ use native.Mathlib.Nat.{mod-eq-of-lt}
 use native.Mathlib.Omega.{arith}
 use borrow.Author.Tests.{lt-ltb, le-ltb}
 use lib.ListN.{length, getD, drop, length-drop}
-use Rattle.scalar.specs.Digits.{run, value, gathered, most-u64}
+use Rattle.scalar.specs.Digits.{digit-run, value, gathered, most-u64}
 use Rattle.scalar.specs.Whole.{has-tail}
 use Rattle.scalar.specs.declared.digits.Gathered.{Gathered}
 
@@ -23,18 +23,18 @@ first-byte [] h = absurd (h refl)
 first-byte (b ∷ d) h = refl
 
 -- the place after the digits
-pub place-is : (d : List ℕ) (at start : ℕ) (g : Gathered) → g ≡ gathered d at start → g .at ≡ at + length (run (drop at d))
+pub place-is : (d : List ℕ) (at start : ℕ) (g : Gathered) → g ≡ gathered d at start → g .at ≡ at + length (digit-run (drop at d))
 place-is d at start g e = ap (λ (x : Gathered). x .at) e
 
 -- the total is the number itself while 64 bits hold it
-pub total-is : (d : List ℕ) (at start : ℕ) (g : Gathered) → g ≡ gathered d at start → value start (run (drop at d)) ≤ most-u64
-    → g .total ≡ value start (run (drop at d))
+pub total-is : (d : List ℕ) (at start : ℕ) (g : Gathered) → g ≡ gathered d at start → value start (digit-run (drop at d)) ≤ most-u64
+    → g .total ≡ value start (digit-run (drop at d))
 total-is d at start g e h = ap (λ (x : Gathered). x .total) e ∙ mod-eq-of-lt (omega arith)
 
 -- something is left after the digits
 pub tailed : (d : List ℕ) (at start : ℕ) (g : Gathered) → g ≡ gathered d at start → g .at < length d → has-tail (drop at d) ≡ true
-tailed d at start g e h = lt-ltb (length (run (drop at d))) (length (drop at d)) (rw length-drop (omega (arith, place-is d at start g e)))
+tailed d at start g e h = lt-ltb (length (digit-run (drop at d))) (length (drop at d)) (rw length-drop (omega (arith, place-is d at start g e)))
 
 -- nothing is left after them
 pub untailed : (d : List ℕ) (at start : ℕ) (g : Gathered) → g ≡ gathered d at start → length d ≤ g .at → has-tail (drop at d) ≡ false
-untailed d at start g e h = le-ltb (length (run (drop at d))) (length (drop at d)) (rw length-drop (omega (arith, place-is d at start g e)))
+untailed d at start g e h = le-ltb (length (digit-run (drop at d))) (length (drop at d)) (rw length-drop (omega (arith, place-is d at start g e)))

@@ -12,7 +12,7 @@ use lib.Dec.{leb}
 use lib.ListN.{length, getD, drop, drop-of-length-le, length-drop}
 use lib.Seq.{drop-cons}
 use Rattle.data.proofs.Cases.{by-bool}
-use Rattle.scalar.specs.Digits.{is-digit, run, carry, value, most-u64}
+use Rattle.scalar.specs.Digits.{is-digit, digit-run, carry, value, most-u64}
 
 -- a digit lies between `0` and `9`
 pub digit-bounds : (b : ℕ) → is-digit b ≡ true → (48 ≤ b) × (b ≤ 57)
@@ -23,28 +23,28 @@ digit-bounds b e =
     (λ f. absurd (false≢true (rw (is-digit, f) at e)))
 
 -- a digit at a place begins the run from there
-pub run-on : (d : List ℕ) (i : ℕ) → i < length d → is-digit (getD d i 0) ≡ true → run (drop i d) ≡ getD d i 0 ∷ run (drop (i + 1) d)
-unfolding run
-run-on d i h e = rw (add-one, drop-cons d i 0 h, run, e)
+pub run-on : (d : List ℕ) (i : ℕ) → i < length d → is-digit (getD d i 0) ≡ true → digit-run (drop i d) ≡ getD d i 0 ∷ digit-run (drop (i + 1) d)
+unfolding digit-run
+run-on d i h e = rw (add-one, drop-cons d i 0 h, digit-run, e)
 
 -- any other byte ends it
-pub run-stops : (d : List ℕ) (i : ℕ) → i < length d → is-digit (getD d i 0) ≡ false → run (drop i d) ≡ []
-unfolding run
-run-stops d i h e = rw (drop-cons d i 0 h, run, e)
+pub run-stops : (d : List ℕ) (i : ℕ) → i < length d → is-digit (getD d i 0) ≡ false → digit-run (drop i d) ≡ []
+unfolding digit-run
+run-stops d i h e = rw (drop-cons d i 0 h, digit-run, e)
 
 -- and so does the end of the bytes
-pub run-ends : (d : List ℕ) (i : ℕ) → length d ≤ i → run (drop i d) ≡ []
-unfolding run
+pub run-ends : (d : List ℕ) (i : ℕ) → length d ≤ i → digit-run (drop i d) ≡ []
+unfolding digit-run
 run-ends d i h = rw (drop-of-length-le d h)
 
 -- a run is no longer than what it is a run of
-pub run-length : (s : List ℕ) → length (run s) ≤ length s
-unfolding run
+pub run-length : (s : List ℕ) → length (digit-run s) ≤ length s
+unfolding digit-run
 run-length [] = zero-le
 run-length (b ∷ s) =
     by-bool (is-digit b)
-    (λ t. rw (run, t) (suc-le-suc (run-length s)))
-    (λ f. rw (run, f) zero-le)
+    (λ t. rw (digit-run, t) (suc-le-suc (run-length s)))
+    (λ f. rw (digit-run, f) zero-le)
 
 -- one digit carries a number modulo 2^64 on as it carries the number
 pub carry-wraps : (x b : ℕ) → carry (x % 2 ^ 64) b % 2 ^ 64 ≡ carry x b % 2 ^ 64
@@ -76,28 +76,28 @@ scaled x b v n h k =
     le-of-carry x b h = omega arith
 
 -- a number carried on through n digits stays below ten to the n times the next number
-pub value-below : (s : List ℕ) (x : ℕ) → value x (run s) < (x + 1) * 10 ^ length (run s)
-unfolding run value
+pub value-below : (s : List ℕ) (x : ℕ) → value x (digit-run s) < (x + 1) * 10 ^ length (digit-run s)
+unfolding digit-run value
 value-below [] x = omega arith
 value-below (b ∷ s) x =
     by-bool (is-digit b)
-    (λ t. rw (run, t) (scaled x b (value (carry x b) (run s)) (length (run s)) (digit-bounds b t .1) (value-below s (carry x b))))
-    (λ f. rw (run, f) (omega arith))
+    (λ t. rw (digit-run, t) (scaled x b (value (carry x b) (digit-run s)) (length (digit-run s)) (digit-bounds b t .1) (value-below s (carry x b))))
+    (λ f. rw (digit-run, f) (omega arith))
 
 -- so n digits write a number below ten to the n
-pub number-below : (s : List ℕ) (n : ℕ) → length s ≤ n → value 0 (run s) < 10 ^ n
+pub number-below : (s : List ℕ) (n : ℕ) → length s ≤ n → value 0 (digit-run s) < 10 ^ n
 number-below s n h =
     lt-of-lt-of-le (value-below s 0)
     (omega (arith, pow-le-pow-right {n = 10} (omega arith) (le-trans (run-length s) h)))
 
 -- a digit at a place carries the number on
 pub value-on : (d : List ℕ) (i total : ℕ) → i < length d → is-digit (getD d i 0) ≡ true
-    → value total (run (drop i d)) ≡ value (carry total (getD d i 0)) (run (drop (i + 1) d))
+    → value total (digit-run (drop i d)) ≡ value (carry total (getD d i 0)) (digit-run (drop (i + 1) d))
 unfolding value
 value-on d i total h e = ap (value total) (run-on d i h e)
 
 -- where a run ends, the number is the total
-pub value-done : (s : List ℕ) (total : ℕ) → run s ≡ [] → value total (run s) ≡ total
+pub value-done : (s : List ℕ) (total : ℕ) → digit-run s ≡ [] → value total (digit-run s) ≡ total
 unfolding value
 value-done s total e = ap (value total) e
 
@@ -106,5 +106,5 @@ abbrev pub overflow-cutoff : ℕ
 overflow-cutoff = 20
 
 -- so they write no number past 64 bits
-pub short-number : (d : List ℕ) (at : ℕ) → length d < overflow-cutoff → value 0 (run (drop at d)) ≤ most-u64
+pub short-number : (d : List ℕ) (at : ℕ) → length d < overflow-cutoff → value 0 (digit-run (drop at d)) ≤ most-u64
 short-number d at h = omega (arith, number-below (drop at d) 19 (rw length-drop (omega arith)))

@@ -11,7 +11,7 @@ use lib.IntN.{ℤ, pos, negℤ}
 use lib.ListN.{length}
 use lib.Signed.{mag}
 use Rattle.data.specs.Bytes.{plus, minus}
-use Rattle.scalar.specs.Digits.{is-digit, run, value, most-u64}
+use Rattle.scalar.specs.Digits.{is-digit, digit-run, value, most-u64}
 use Rattle.scalar.specs.Whole.{has-tail, u64-digits, u64-read, signed, most-i64, i64-digits, i64-part, whole-only, i64-read}
 use Rattle.scalar.specs.declared.whole.I64Part.the-variants as Part
 use Rattle.scalar.specs.declared.whole.I64Read.the-variants as I64
@@ -35,11 +35,11 @@ pub u64-tail : (s : List ℕ) → has-tail s ≡ true → u64-digits s ≡ U64.A
 unfolding u64-digits
 u64-tail s e = rw (u64-digits, e)
 
-pub u64-past : (s : List ℕ) → has-tail s ≡ false → ltb most-u64 (value 0 (run s)) ≡ true → u64-digits s ≡ U64.Overflow
+pub u64-past : (s : List ℕ) → has-tail s ≡ false → ltb most-u64 (value 0 (digit-run s)) ≡ true → u64-digits s ≡ U64.Overflow
 unfolding u64-digits
 u64-past s e f = rw (u64-digits, e, f)
 
-pub u64-is : (s : List ℕ) → has-tail s ≡ false → ltb most-u64 (value 0 (run s)) ≡ false → u64-digits s ≡ U64.Is (value 0 (run s))
+pub u64-is : (s : List ℕ) → has-tail s ≡ false → ltb most-u64 (value 0 (digit-run s)) ≡ false → u64-digits s ≡ U64.Is (value 0 (digit-run s))
 unfolding u64-digits
 u64-is s e f = rw (u64-digits, e, f)
 
@@ -66,14 +66,14 @@ pub i64-other : (b : ℕ) (s : List ℕ) → (b ≡ minus → ⊥) → (b ≡ pl
 unfolding i64-part
 i64-other b s h k e = rw (i64-part, ne-eqb b minus h, ne-eqb b plus k, e)
 
-pub i64-past : (negative : Bool) (sign : ℕ) (s : List ℕ) → most-i64 < value 0 (run s) → i64-digits negative sign s ≡ Part.Overflow
+pub i64-past : (negative : Bool) (sign : ℕ) (s : List ℕ) → most-i64 < value 0 (digit-run s) → i64-digits negative sign s ≡ Part.Overflow
 unfolding i64-digits
-i64-past negative sign s h = rw (i64-digits, lt-ltb most-i64 (value 0 (run s)) h)
+i64-past negative sign s h = rw (i64-digits, lt-ltb most-i64 (value 0 (digit-run s)) h)
 
-pub i64-is : (negative : Bool) (sign : ℕ) (s : List ℕ) → value 0 (run s) ≤ most-i64
-    → i64-digits negative sign s ≡ Part.Is (signed negative (value 0 (run s))) (sign + length (run s))
+pub i64-is : (negative : Bool) (sign : ℕ) (s : List ℕ) → value 0 (digit-run s) ≤ most-i64
+    → i64-digits negative sign s ≡ Part.Is (signed negative (value 0 (digit-run s))) (sign + length (digit-run s))
 unfolding i64-digits
-i64-is negative sign s h = rw (i64-digits, le-ltb most-i64 (value 0 (run s)) h)
+i64-is negative sign s h = rw (i64-digits, le-ltb most-i64 (value 0 (digit-run s)) h)
 
 -- ---- with a sign, and nothing after it
 

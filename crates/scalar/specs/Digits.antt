@@ -16,10 +16,10 @@ unfoldable pub is-digit : ℕ → Bool
 is-digit b = elim (leb digit-zero b) [ true ↦ leb b digit-nine | false ↦ false ]
 
 -- the digits in front
-unfoldable pub run : List ℕ → List ℕ
+unfoldable pub digit-run : List ℕ → List ℕ
 unfolding is-digit
-run [] = []
-run (b ∷ d) = elim (is-digit b) [ true ↦ b ∷ run d | false ↦ [] ]
+digit-run [] = []
+digit-run (b ∷ d) = elim (is-digit b) [ true ↦ b ∷ digit-run d | false ↦ [] ]
 
 -- a number carried on by one more digit
 abbrev pub carry : ℕ → ℕ → ℕ
@@ -32,4 +32,4 @@ value total (b ∷ d) = value (carry total b) d
 
 -- the digits from a place on, carried on from a total modulo 2^64, and the place after them
 abbrev pub gathered : List ℕ → ℕ → ℕ → Gathered
-gathered d at start = record { total = value start (run (drop at d)) % 2 ^ 64; at = at + length (run (drop at d)) }
+gathered d at start = record { total = value start (digit-run (drop at d)) % 2 ^ 64; at = at + length (digit-run (drop at d)) }

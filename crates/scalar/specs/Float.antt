@@ -7,7 +7,7 @@ use lib.Ieee.{Float, binary64, ofInt, mul, div, isNan, toBits}
 use lib.IntN.{pos, negsuc}
 use lib.ListN.{length, drop}
 use Rattle.data.specs.Bytes.{plus, minus, point, letter-f}
-use Rattle.scalar.specs.Digits.{is-digit, run, value, most-u64}
+use Rattle.scalar.specs.Digits.{is-digit, digit-run, value, most-u64}
 use Rattle.scalar.specs.Whole.{signed, most-i64}
 use Rattle.scalar.specs.declared.float.F64Read.the-variants.{Is, AllDigits, Overflow, PrecisionLoss}
 use Rattle.scalar.specs.declared.float.F64Read.{F64Read}
@@ -24,7 +24,7 @@ most-places = 22
 
 -- what stands after the digits in front
 abbrev pub rest : List ℕ → List ℕ
-rest s = drop (length (run s)) s
+rest s = drop (length (digit-run s)) s
 
 -- what stands after an `f`: the end, or something
 abbrev pub after-f : List ℕ → Tail
@@ -73,17 +73,17 @@ pointed negative whole fraction =
 
 -- after a point: digits and at most a closing `f`
 unfoldable pub after-point : Bool → ℕ → List ℕ → F64Read
-unfolding run tail-of pointed
+unfolding digit-run tail-of pointed
 after-point negative whole s =
-    elim (tail-of (rest s)) [ End ↦ pointed negative whole (run s) | Point ↦ AllDigits | Other ↦ AllDigits ]
+    elim (tail-of (rest s)) [ End ↦ pointed negative whole (digit-run s) | Point ↦ AllDigits | Other ↦ AllDigits ]
 
 -- after the sign: digits, gathered modulo 2^64 where a point follows, and at most a closing `f`
 unfoldable pub f64-digits : Bool → List ℕ → F64Read
-unfolding run value tail-of unpointed after-point
+unfolding digit-run value tail-of unpointed after-point
 f64-digits negative s =
     elim (tail-of (rest s)) [
-      | End ↦ unpointed negative (value 0 (run s))
-      | Point ↦ after-point negative (value 0 (run s) % 2 ^ 64) (drop 1 (rest s))
+      | End ↦ unpointed negative (value 0 (digit-run s))
+      | Point ↦ after-point negative (value 0 (digit-run s) % 2 ^ 64) (drop 1 (rest s))
       | Other ↦ AllDigits
     ]
 

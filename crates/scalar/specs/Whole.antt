@@ -6,7 +6,7 @@ use lib.Dec.{eqb, ltb}
 use lib.IntN.{ℤ, pos, negℤ}
 use lib.ListN.{length}
 use Rattle.data.specs.Bytes.{plus, minus}
-use Rattle.scalar.specs.Digits.{is-digit, run, value, most-u64}
+use Rattle.scalar.specs.Digits.{is-digit, digit-run, value, most-u64}
 use Rattle.scalar.specs.declared.whole.I64Part.the-variants as Part
 use Rattle.scalar.specs.declared.whole.I64Part.{I64Part}
 use Rattle.scalar.specs.declared.whole.I64Read.the-variants as I64
@@ -20,15 +20,15 @@ most-i64 = 2 ^ 63 - 1
 
 -- whether anything stands after the digits in front
 abbrev pub has-tail : List ℕ → Bool
-has-tail s = ltb (length (run s)) (length s)
+has-tail s = ltb (length (digit-run s)) (length s)
 
 -- digits alone: any other byte is refused first, and a number above 2^64 - 1 next
 unfoldable pub u64-digits : List ℕ → U64Read
-unfolding run value
+unfolding digit-run value
 u64-digits s =
     elim (has-tail s) [
       | true ↦ U64.AllDigits
-      | false ↦ elim (ltb most-u64 (value 0 (run s))) [ true ↦ U64.Overflow | false ↦ U64.Is (value 0 (run s)) ]
+      | false ↦ elim (ltb most-u64 (value 0 (digit-run s))) [ true ↦ U64.Overflow | false ↦ U64.Is (value 0 (digit-run s)) ]
     ]
 
 -- an optional `+`, then digits; nothing at all is refused
@@ -44,9 +44,9 @@ signed false n = pos n
 
 -- digits after a sign of so many bytes: a number above 2^63 - 1 is refused; any other is answered with the place after its digits
 unfoldable pub i64-digits : Bool → ℕ → List ℕ → I64Part
-unfolding run value
+unfolding digit-run value
 i64-digits negative sign s =
-    elim (ltb most-i64 (value 0 (run s))) [ true ↦ Part.Overflow | false ↦ Part.Is (signed negative (value 0 (run s))) (sign + length (run s)) ]
+    elim (ltb most-i64 (value 0 (digit-run s))) [ true ↦ Part.Overflow | false ↦ Part.Is (signed negative (value 0 (digit-run s))) (sign + length (digit-run s)) ]
 
 -- an optional sign, then digits, with whatever stands after them left over; any other first byte is refused
 unfoldable pub i64-part : List ℕ → I64Part

@@ -4,7 +4,7 @@ ghost use mathlib.Core.Bool.{true};
 ghost use Prim.Native.Nat.{_*_, _%_, _^_};
 ghost use lib.Dec.{ltb};
 ghost use lib.ListN.{drop};
-ghost use Rattle.scalar.specs.Digits.{is-digit, carry, run, value, gathered, most-u64};
+ghost use Rattle.scalar.specs.Digits.{is-digit, carry, digit-run, value, gathered, most-u64};
 
 // Fewer bytes than this cannot write digits past 64 bits, with or without a point: 2^64 has twenty.
 pub(crate) const OVERFLOW_CUTOFF: usize = 20;
@@ -58,7 +58,7 @@ pub(crate) fn gather(d: &[u8], at: usize, start: u64) -> Gathered
 // Whether the digits from a place on carry a total past what 64 bits hold. Only long inputs pay for
 // this second look.
 pub(crate) fn overflows(d: &[u8], at: usize, start: u64) -> bool
-    ensures { λ r. ⌜ r ≡ ltb most-u64 (value start (run (drop at (now (d .entry))))) ⌝ }
+    ensures { λ r. ⌜ r ≡ ltb most-u64 (value start (digit-run (drop at (now (d .entry))))) ⌝ }
 {
     let mut total = start;
     let mut i = at;
@@ -79,7 +79,7 @@ pub(crate) fn overflows(d: &[u8], at: usize, start: u64) -> bool
 
 // Whether the digits from a place on write a number past what 64 bits hold.
 pub(crate) fn exceeds(d: &[u8], at: usize) -> bool
-    ensures { λ r. ⌜ r ≡ ltb most-u64 (value 0 (run (drop at (now (d .entry))))) ⌝ }
+    ensures { λ r. ⌜ r ≡ ltb most-u64 (value 0 (digit-run (drop at (now (d .entry))))) ⌝ }
 {
     if d.len() < OVERFLOW_CUTOFF {
         false

@@ -13,7 +13,7 @@ ghost use lib.Dec.{ltb};
 ghost use lib.Ieee.{binary64, ofInt};
 ghost use lib.IntN.{pos};
 ghost use lib.ListN.{length, drop};
-ghost use Rattle.scalar.specs.Digits.{run, value, gathered, most-u64};
+ghost use Rattle.scalar.specs.Digits.{digit-run, value, gathered, most-u64};
 ghost use Rattle.scalar.specs.Float.{most-places, tail-of, lossy as lossy-of, unpointed as unpointed-of, factor as factor-of, divided as divided-of};
 ghost use Rattle.scalar.specs.Float.{quotient as quotient-of, after-point, f64-digits, begins as begins-number, f64-read, pattern-of};
 
@@ -133,7 +133,7 @@ fn tail_at(d: &[u8], at: usize) -> Tail
 // A number without a point, from its gathered digits.
 fn unpointed(d: &[u8], sign: usize, negative: bool, whole: Gathered) -> F64Read
     requires { ⌜ whole ≡ gathered (now d) sign 0 ⌝ }
-    ensures { λ r. ⌜ r ≡ unpointed-of negative (value 0 (run (drop sign (now (d .entry))))) ⌝ }
+    ensures { λ r. ⌜ r ≡ unpointed-of negative (value 0 (digit-run (drop sign (now (d .entry))))) ⌝ }
 {
     if exceeds(d, sign) {
         return F64Read::Overflow;
@@ -184,7 +184,7 @@ fn pointed(d: &[u8], sign: usize, negative: bool, whole: Gathered) -> F64Read
 // Whether the fraction carries the gathered whole part past what 64 bits hold.
 fn carries_past(d: &[u8], sign: usize, whole: Gathered) -> bool
     requires { ⌜ (whole ≡ gathered (now d) sign 0) × (whole .at < length (now d)) ⌝ }
-    ensures { λ r. ⌜ r ≡ ltb most-u64 (value (whole .total) (run (drop (whole .at + 1) (now (d .entry))))) ⌝ }
+    ensures { λ r. ⌜ r ≡ ltb most-u64 (value (whole .total) (digit-run (drop (whole .at + 1) (now (d .entry))))) ⌝ }
 {
     if d.len() < OVERFLOW_CUTOFF {
         false

@@ -1,15 +1,18 @@
--- `answers::answer_block` is safe and ends: each record ends after it begins and within the input.
+-- `answers::answer_block` is safe and ends: each record ends after it begins and within the input. Each answer
+-- finds room, since the place for it leaves half of the buffer, and there is room behind it for the line of a bad record.
 -- Assumes nothing.
 use mathlib.Core.Path.{_≡_}
-use Prim.Native.Nat.{_≤_, _-_}
+use Prim.Native.Nat.{_+_, _≤_, _-_}
 use borrow.Author.Needs.{needs}
 use lib.ListN.{length}
+use Rattle.answers.specs.Whole.{stop-bytes}
+use Rattle.answers.proofs.Fits.{next-near}
 use Rattle.answers.proofs.answer_block.Statement.{statement}
 use Rattle.answers.proofs.answer_block.Tie as tie
 
 abbrev Inv-loop : tie.InvT-loop
 Inv-loop input words₀ out₀ to₀ at₀ words out to at =
-    (at ≤ length input) × (length words ≡ length words₀) × (length out ≡ length out₀)
+    (at ≤ length input) × (length words ≡ length words₀) × (length out ≡ length out₀) × (to + stop-bytes ≤ length out)
 
 abbrev μ-loop : tie.MeasureT-loop
 μ-loop input words₀ out₀ to₀ at₀ words out to at = length input - at
@@ -71,12 +74,6 @@ returns-2 c = search needs
 add-end : tie.Need-add-end Inv-loop μ-loop
 add-end c = search needs
 
-front-requires-2 : tie.Need-front-requires-2 Inv-loop μ-loop
-front-requires-2 c κs = search needs
-
-write-all-requires-2 : tie.Need-write-all-requires-2 Inv-loop μ-loop
-write-all-requires-2 c κs = search needs
-
 add-pair-3 : tie.Need-add-pair-3 Inv-loop μ-loop
 add-pair-3 c = search needs
 
@@ -91,6 +88,9 @@ shared-slice-read-pair-4 c = search needs
 
 pair-requires-2 : tie.Need-pair-requires-2 Inv-loop μ-loop
 pair-requires-2 c κs = search needs
+
+place-for-next-requires : tie.Need-place-for-next-requires Inv-loop μ-loop
+place-for-next-requires c κs = search needs
 
 shared-slice-read-answer-record : tie.Need-shared-slice-read-answer-record Inv-loop μ-loop
 shared-slice-read-answer-record c = search needs
@@ -129,13 +129,21 @@ loop-less : tie.Need-loop-less Inv-loop μ-loop
 loop-less c = search needs
 
 loop-again : tie.Need-loop-again Inv-loop μ-loop
-loop-again c = search needs
+loop-again c = (
+  search needs,
+  search needs,
+  search needs,
+  (let at-next = c .before in
+      let at-answer = at-next .before .before .before .before .before .before in
+      let near = next-near _ _ _ _ _ _ _ (at-next .next .given .1) (at-answer .answer-record .ensures) in
+      search needs),
+)
 
-front-requires-3 : tie.Need-front-requires-3 Inv-loop μ-loop
-front-requires-3 c κs = search needs
+front-requires-2 : tie.Need-front-requires-2 Inv-loop μ-loop
+front-requires-2 c κs = search needs
 
-write-all-requires-3 : tie.Need-write-all-requires-3 Inv-loop μ-loop
-write-all-requires-3 c κs = search needs
+write-all-requires-2 : tie.Need-write-all-requires-2 Inv-loop μ-loop
+write-all-requires-2 c κs = search needs
 
 same-length-7 : tie.Need-same-length-7 Inv-loop μ-loop
 same-length-7 c = search needs
@@ -171,13 +179,12 @@ answer-block-spec =
     same-length-4
     returns-2
     add-end
-    front-requires-2
-    write-all-requires-2
     add-pair-3
     shared-slice-read-pair-3
     add-pair-4
     shared-slice-read-pair-4
     pair-requires-2
+    place-for-next-requires
     shared-slice-read-answer-record
     sub-answer-record
     part-answer-record-start
@@ -191,8 +198,8 @@ answer-block-spec =
     returns-3
     loop-less
     loop-again
-    front-requires-3
-    write-all-requires-3
+    front-requires-2
+    write-all-requires-2
     same-length-7
     same-length-8
     returns-4)

@@ -1,8 +1,9 @@
--- `answers::check_answer` is safe and ends: the words that were read are a part of the room.
+-- `answers::check_answer` puts all of its line: the words that were read are a part of the room, and the line is short.
 -- Assumes nothing.
 use mathlib.Core.Path.{sym}
 use lib.Seq.{length-take-le}
 use borrow.Author.Needs.{needs}
+use Rattle.answers.proofs.Fits.{verdict-all}
 use Rattle.answers.proofs.check_answer.Statement.{statement}
 use Rattle.answers.proofs.check_answer.Tie as tie
 
@@ -52,7 +53,9 @@ same-length-2 : tie.Need-same-length-2
 same-length-2 c = search needs
 
 returns-3 : tie.Need-returns-3
-returns-3 c = search needs
+returns-3 c =
+    let at-put = c .before .before in
+    record { holds = verdict-all _ _ _ _ (at-put .put-check .ensures) (search needs) }
 
 pub check-answer-spec : {M : Type 1} → statement M
 check-answer-spec =

@@ -1,9 +1,10 @@
--- `answers::tokens_answer` is safe and ends: the room lies within the words.
+-- `answers::tokens_answer` puts all of the dump: the room lies within the words, and holds no more tokens than the buffer's half does lines.
 -- Assumes nothing.
 use mathlib.Core.Path.{sym}
 use native.Mathlib.Omega.{arith}
 use lib.Seq.{length-take-le}
 use borrow.Author.Needs.{needs}
+use Rattle.answers.proofs.Fits.{dump-all}
 use Rattle.answers.proofs.tokens_answer.Statement.{statement}
 use Rattle.answers.proofs.tokens_answer.Tie as tie
 
@@ -29,7 +30,10 @@ same-length-2 : tie.Need-same-length-2
 same-length-2 c = search needs
 
 returns-2 : tie.Need-returns-2
-returns-2 c = search needs
+returns-2 c =
+    let at-put = c .before .before .before .before in
+    let put = at-put .put-dump .ensures in
+    record { holds = dump-all _ _ _ _ _ (put .0) (put .1 .1) (length-take-le _ _ (omega arith)) (search needs) (search needs) }
 
 pub tokens-answer-spec : {M : Type 1} → statement M
 tokens-answer-spec =

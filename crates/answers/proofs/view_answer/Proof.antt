@@ -1,8 +1,11 @@
--- `answers::view_answer` is safe and ends: the words that were read are a part of the room.
+-- `answers::view_answer` puts all of its line: the words that were read are a part of the room, and the line is short.
 -- Assumes nothing.
 use mathlib.Core.Path.{sym}
+use Prim.Native.Nat.{_+_, _*_, _-_}
+use lib.ListN.{length}
 use lib.Seq.{length-take-le}
 use borrow.Author.Needs.{needs}
+use Rattle.answers.proofs.Fits.{view-all}
 use Rattle.answers.proofs.view_answer.Statement.{statement}
 use Rattle.answers.proofs.view_answer.Tie as tie
 
@@ -64,7 +67,9 @@ slice-reshare-prefix-put-view : tie.Need-slice-reshare-prefix-put-view
 slice-reshare-prefix-put-view c = search needs
 
 slice-aggregate-put-view : tie.Need-slice-aggregate-put-view
-slice-aggregate-put-view c = sym (length-take-le _ _ (c .before .before .before .before .before .take-words .ensures))
+slice-aggregate-put-view c =
+    let at-words = c .before .before .before .before .before in
+    sym (length-take-le _ _ (at-words .take-words .ensures))
 
 put-view-requires : tie.Need-put-view-requires
 put-view-requires c κs = search needs
@@ -75,8 +80,15 @@ same-length c = search needs
 same-length-2 : tie.Need-same-length-2
 same-length-2 c = search needs
 
+-- the text stands behind the ten bytes of the head and the words of four bytes each, and goes to the body's end
 returns-3 : tie.Need-returns-3
-returns-3 c = search needs
+returns-3 c =
+    let at-put = c .before .before in
+    let at-pair = at-put .before .before .before .before .before .before .before .before .before .before in
+    let at-start = at-pair .before .before .before .before .before .before .before .before .before in
+    let from = 10 + at-pair .pair .result * 4 in
+    let size = length (at-start .args .body .now) - from in
+    record { holds = view-all _ _ _ _ from size _ _ _ (at-put .put-view .ensures) (at-start .pre .1) (at-start .pre .0) }
 
 pub view-answer-spec : {M : Type 1} → statement M
 view-answer-spec =

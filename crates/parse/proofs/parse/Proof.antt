@@ -1,9 +1,9 @@
 -- `parse::parse` meets its contract: what the run leaves, with the words past its tokens cleared.
 -- Assumes nothing.
+use mathlib.Core.Path.{_∙_}
 use borrow.Author.Needs.{needs}
 use denote.Ref.{now}
-use Rattle.parse.proofs.Outcomes.{parse-too-long, parse-runs}
-use Rattle.tape.specs.Words.{cleared}
+use Rattle.parse.proofs.Outcomes.{parse-too-long, parse-runs, finish-answers}
 use Rattle.parse.proofs.parse.Statement.{statement}
 use Rattle.parse.proofs.parse.Tie as tie
 
@@ -28,27 +28,16 @@ start-requires c κs = search needs
 run-requires : tie.Need-run-requires
 run-requires c κs = search needs
 
-enum-known-count : tie.Need-enum-known-count
-enum-known-count c = search needs
-
-clear-from-requires : tie.Need-clear-from-requires
-clear-from-requires c κs = search needs
-
-enum-known-refusal : tie.Need-enum-known-refusal
-enum-known-refusal c = search needs
-
-refuse-requires-2 : tie.Need-refuse-requires-2
-refuse-requires-2 c κs = search needs
+finish-requires : tie.Need-finish-requires
+finish-requires c κs = search needs
 
 same-length-2 : tie.Need-same-length-2
 same-length-2 c = search needs
 
 returns-2 : tie.Need-returns-2
-unfolding cleared
 returns-2 c =
-    let at-clear = c .before .before in
-    let at-count = at-clear .before .before .before in
-    let at-run = at-count .before .before .before .before in
+    let at-finish = c .before .before in
+    let at-run = at-finish .before .before .before .before in
     let at-start = at-run .before in
     let at-bom = at-start .before .before in
     let at-test = at-bom .before in
@@ -58,32 +47,8 @@ returns-2 c =
       ← (at-bom .has-bom .ensures),
       ← (at-start .start .ensures),
       ← (at-run .run .ensures),
-      at-count .count .given .1,
-      at-clear .clear-from .ensures,
-      cleared,
-      at-run .run .kept .1 .0,
-    )
-
-same-length-3 : tie.Need-same-length-3
-same-length-3 c = search needs
-
-returns-3 : tie.Need-returns-3
-returns-3 c =
-    let at-refuse = c .before .before in
-    let at-refusal = at-refuse .before .before .before in
-    let at-run = at-refusal .before .before .before .before in
-    let at-start = at-run .before in
-    let at-bom = at-start .before .before in
-    let at-test = at-bom .before in
-    let a = at-test .before .before .before .args in
-    rw (
-      parse-runs (now (a .text)) (now (a .tape)) (at-test .if1 .left),
-      ← (at-bom .has-bom .ensures),
-      ← (at-start .start .ensures),
-      ← (at-run .run .ensures),
-      at-refusal .refusal .given .1,
       ← (at-run .run .kept .1 .0),
-    ) (at-refuse .refuse2 .ensures)
+    ) (at-finish .finish .ensures ∙ finish-answers _ _ _)
 
 pub parse-spec : {M : Type 1} → statement M
 parse-spec =
@@ -95,11 +60,6 @@ parse-spec =
     has-bom-requires
     start-requires
     run-requires
-    enum-known-count
-    clear-from-requires
-    enum-known-refusal
-    refuse-requires-2
+    finish-requires
     same-length-2
-    returns-2
-    same-length-3
-    returns-3)
+    returns-2)

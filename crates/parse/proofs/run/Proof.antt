@@ -9,7 +9,7 @@ use lib.ListN.{length}
 use mathlib.Core.Path.{_≡_, refl, sym, _∙_}
 use Rattle.data.specs.Classes.{classes}
 use Rattle.tape.specs.Tape.{view}
-use Rattle.parse.specs.Machine.{next}
+use Rattle.parse.specs.After.{next}
 use Rattle.parse.specs.Parse.{run, enough}
 use Rattle.parse.proofs.Falls.{left, turn-falls}
 use Rattle.parse.proofs.Runs.{run-done, run-refused, run-turn, run-enough, within-enough}

@@ -17,9 +17,9 @@ use Rattle.tape.proofs.Makers.{end-uncoded}
 use Rattle.tape.specs.Shape.{Opens}
 use Rattle.tape.specs.Tape.{Tape, unbounded, token-at}
 use Rattle.sheet.specs.Sound.{nth}
-use Rattle.parse.specs.declared.machine.Machine.{Machine}
-use Rattle.parse.specs.Containers as C
-use Rattle.parse.specs.Containers.{container-at, state-in, mixed-in, resumed, nothing-open}
+use Rattle.machine.specs.declared.Machine.{Machine}
+use Rattle.machine.specs.Parents as C
+use Rattle.machine.specs.Parents.{container-at, state-in, mixed-in, resumed, nothing-open}
 use Rattle.parse.proofs.Splits.{by-container}
 use Rattle.parse.proofs.Moves.{Result, on-tape, container-in, above, closed-as, Over, done-bare, done-closed, too-early}
 use Rattle.parse.proofs.Walk.{Meets}

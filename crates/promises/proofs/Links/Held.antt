@@ -10,10 +10,11 @@ use Rattle.tape.specs.declared.token.Token.{Token}
 use Rattle.tape.specs.declared.token.ScalarKind.the-variants.{Unquoted, Quoted}
 use Rattle.tape.specs.declared.token.ContainerKind.the-variants.{Array}
 use Rattle.tape.specs.Token.{opener-of}
-use Rattle.parse.specs.declared.machine.State.{State}
-use Rattle.parse.specs.declared.machine.State.the-variants.{Key, KeyValueSeparator, ObjectValue, ParseOpen, ArrayValue}
-use Rattle.parse.specs.declared.machine.Machine.{Machine}
-use Rattle.parse.specs.Machine.{After, to}
+use Rattle.machine.specs.declared.State.{State}
+use Rattle.machine.specs.declared.State.the-variants.{Key, KeyValueSeparator, ObjectValue, ParseOpen, ArrayValue}
+use Rattle.machine.specs.declared.Machine.{Machine}
+use Rattle.machine.specs.Machine.{to}
+use Rattle.parse.specs.After.{After}
 use Rattle.parse.proofs.Moves.{Taken, unquoted, quoted}
 use Rattle.parse.proofs.Walk as Walk
 use Rattle.promises.specs.Mixed.{Scalar, equal-token}

@@ -18,11 +18,11 @@ use Rattle.tape.specs.Shape.{link-of}
 use Rattle.tape.specs.Tape.{token-at, replace}
 use Rattle.tape.proofs.Shapes.{opens-link}
 use Rattle.sheet.specs.Sound.{nth}
-use Rattle.parse.specs.declared.machine.State.{State}
-use Rattle.parse.specs.declared.machine.State.the-variants.{ParseOpen, ArrayValue}
-use Rattle.parse.specs.declared.machine.Machine.{Machine}
-use Rattle.parse.specs.Machine.{to}
-use Rattle.parse.specs.Containers.{resumed}
+use Rattle.machine.specs.declared.State.{State}
+use Rattle.machine.specs.declared.State.the-variants.{ParseOpen, ArrayValue}
+use Rattle.machine.specs.declared.Machine.{Machine}
+use Rattle.machine.specs.Machine.{to}
+use Rattle.machine.specs.Parents.{resumed}
 use Rattle.parse.specs.ParseOpen.{flag-parent}
 use Rattle.parse.proofs.Splits.{by-container}
 use Rattle.parse.proofs.Moves.{container-in, closed-as, flagged, Taken, Settles, with-key, with-entry}

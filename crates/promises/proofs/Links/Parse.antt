@@ -11,9 +11,11 @@ use Rattle.tape.specs.Shape.{linked}
 use Rattle.tape.specs.Words.{tokens-in}
 use Rattle.tape.specs.Tape.{Tape}
 use Rattle.tape.proofs.Shapes.{no-shape}
-use Rattle.parse.specs.declared.Parsed.the-variants.{Tokens}
-use Rattle.parse.specs.Machine.{next}
-use Rattle.parse.specs.Parse.{run, start, has-bom, outcome, parse-of}
+use Rattle.machine.specs.declared.Parsed.the-variants.{Tokens}
+use Rattle.parse.specs.After.{next}
+use Rattle.machine.specs.Start.{start, has-bom}
+use Rattle.machine.specs.Finish.{outcome}
+use Rattle.parse.specs.Parse.{run, parse-of}
 use Rattle.parse.proofs.Walk.{run-keeps, parse-keeps}
 use Rattle.promises.proofs.Links.Nest.{nest-none}
 use Rattle.promises.proofs.Links.Rows.{unmarked, unheaded}

@@ -22,11 +22,10 @@ use Rattle.tape.specs.Token.{no-token, mixed-container-token, opener-of, operat
 use Rattle.tape.specs.Tape.{Tape, before-last}
 use Rattle.tape.proofs.Makers.{none-standing}
 use Rattle.sheet.specs.Sound.{nth}
-use Rattle.parse.specs.declared.machine.State.{State}
-use Rattle.parse.specs.declared.machine.State.the-variants.{Key, KeyValueSeparator, ObjectValue, ParseOpen, ArrayValue}
-use Rattle.parse.specs.declared.machine.Machine.{Machine}
-use Rattle.parse.specs.Machine.{to}
-use Rattle.parse.specs.KeyValueSeparator.{mixed-on}
+use Rattle.machine.specs.declared.State.{State}
+use Rattle.machine.specs.declared.State.the-variants.{Key, KeyValueSeparator, ObjectValue, ParseOpen, ArrayValue}
+use Rattle.machine.specs.declared.Machine.{Machine}
+use Rattle.machine.specs.Machine.{to, mixed-on}
 use Rattle.parse.specs.Parse.{turn}
 use Rattle.parse.proofs.Moves.{Result, Named, defined, undefined, Asked, Valued, run-token, Takes, key, value, entry, Opens, in-value, in-array, Closes}
 use Rattle.parse.proofs.Moves.{as-object, as-own, Asks, asks-key, asks-open, ScalarStands, Came, passes, separates, takes, separates-by, operates, mixes}

@@ -19,7 +19,7 @@ use Rattle.tape.specs.Token.{standing-of}
 use Rattle.tape.specs.Shape.{Opens}
 use Rattle.tape.specs.Tape.{before-last}
 use Rattle.tape.proofs.Makers.{scalar-container, unquoted-coded}
-use Rattle.parse.specs.Containers.{nothing-open}
+use Rattle.machine.specs.Parents.{nothing-open}
 use Rattle.parse.proofs.Splits.{by-container}
 use Rattle.parse.proofs.Moves.{closed-as}
 use Rattle.sheet.specs.Sound.{nth}

@@ -16,7 +16,7 @@ use Rattle.tape.specs.declared.token.ContainerKind.the-variants.{Array, Object}
 use Rattle.tape.specs.Token.{no-token, mixed-container-token, opener-of, end-of, container-of}
 use Rattle.tape.specs.Shape.{Opens}
 use Rattle.tape.specs.Tape.{before-last}
-use Rattle.parse.specs.Containers.{parent-of}
+use Rattle.machine.specs.Parents.{parent-of}
 use Rattle.parse.proofs.Moves.{closed-as}
 use Rattle.sheet.specs.Sound.{nth}
 use Rattle.promises.proofs.Rising.Spans.{span-of, mixed-bare, end-bare, opens-bare}

@@ -21,11 +21,11 @@ use Rattle.tape.specs.declared.token.Container.the-variants.{Opened, Nothing}
 use Rattle.tape.specs.Token.{opener-of, operator-of, headed}
 use Rattle.tape.specs.Tape.{token-at, replace}
 use Rattle.operator.specs.Operators.{number-of}
-use Rattle.parse.specs.declared.machine.State.{State}
-use Rattle.parse.specs.declared.machine.State.the-variants.{Key, KeyValueSeparator, ObjectValue, ParseOpen, ArrayValue}
-use Rattle.parse.specs.declared.machine.Machine.{Machine}
-use Rattle.parse.specs.Machine.{to}
-use Rattle.parse.specs.Containers.{parent-of, state-in}
+use Rattle.machine.specs.declared.State.{State}
+use Rattle.machine.specs.declared.State.the-variants.{Key, KeyValueSeparator, ObjectValue, ParseOpen, ArrayValue}
+use Rattle.machine.specs.declared.Machine.{Machine}
+use Rattle.machine.specs.Machine.{to}
+use Rattle.machine.specs.Parents.{parent-of, state-in}
 use Rattle.parse.specs.ParseOpen.{flag-parent}
 use Rattle.parse.proofs.Splits.{by-container}
 use Rattle.parse.proofs.Moves.{Result, container-in, above, unsettled, closed-as, flagged, Taken, unquoted, quoted, Asked, Valued, run-token, Takes, key, value}
@@ -48,12 +48,12 @@ Topped ParseOpen count ts = (0 < count) × (span-of (nth ts (count - 1)) ≡ [])
 Topped ArrayValue count ts = Unit {0}
 
 -- what a machine that goes on keeps: the views rise up to its place, and its links lead to no scalar
-pub record Kept (text-length : ℕ) (m : Machine) (ts : List Token) : Type 0 where
+pub record Risen (text-length : ℕ) (m : Machine) (ts : List Token) : Type 0 where
   pub base : Base text-length (m .at) (m .count) (m .parent) ts
   pub topped : Topped (m .state) (m .count) ts
 
 -- what a finished tape has
-pub record Finished (text-length : ℕ) (count : ℕ) (ts : List Token) : Type 0 where
+pub record Risen-whole (text-length : ℕ) (count : ℕ) (ts : List Token) : Type 0 where
   pub counted : count ≡ length ts
   pub rising : Upto 0 (spans ts) text-length
 
@@ -149,7 +149,7 @@ module _ {L : ℕ} (m : Machine) (ts : List Token) (b : Base L (m .at) (m .count
       (λ e. rw (flagged, flag-parent, e))
 
 -- ---- the moves
-module _ (text : List ℕ) (m : Machine) (ts : List Token) (k : Kept (length text) m ts) where
+module _ (text : List ℕ) (m : Machine) (ts : List Token) (k : Risen (length text) m ts) where
   abbrev L : ℕ
   L = length text
 
@@ -184,7 +184,7 @@ module _ (text : List ℕ) (m : Machine) (ts : List Token) (k : Kept (length tex
       settled-base (flag-keeps past (ts ++ (x ∷ [])) c) kind (m .count + 1 - 2) (omega (arith, top .0))
       (flag-views past (ts ++ (x ∷ [])) c (m .count + 1 - 2) ∙ bare)
 
-  move-keeps : {n : ℕ} {x : Result} → Came text m ts n x → Meets (Kept L) (Finished L) x
+  move-keeps : {n : ℕ} {x : Result} → Came text m ts n x → Meets (Risen L) (Risen-whole L) x
   move-keeps (passes at e h) = record { base = base-later b at (omega arith); topped = rw e at (k .topped) }
   move-keeps (separates at e h) = record { base = base-later b at h; topped = tt }
   move-keeps (takes s taken) = record { base = taken-base taken b; topped = taken-topped s _ _ }
@@ -232,16 +232,16 @@ module _ (text : List ℕ) (m : Machine) (ts : List Token) (k : Kept (length tex
   move-keeps (refuses r few) = tt
 
   -- the text's end
-  finished : {n p : ℕ} {us : List Token} → Base L (m .at) n p us → Finished L n us
+  finished : {n p : ℕ} {us : List Token} → Base L (m .at) n p us → Risen-whole L n us
   finished {n} {p} {us} c = record { counted = c .linked .counted; rising = upto-later 0 (spans us) (min (m .at) L) L (omega arith) (c .rising) }
 
-  end-keeps : {n : ℕ} {x : Result} → Over m ts n x → Meets (Kept L) (Finished L) x
+  end-keeps : {n : ℕ} {x : Result} → Over m ts n x → Meets (Risen L) (Risen-whole L) x
   end-keeps (done-bare e f) = finished b
   end-keeps (done-closed e f g) = finished (base-close b (m .parent) (Object, false, refl) (b .linked .inside f .1))
   end-keeps too-early = tt
 
 -- every turn, by its moves
-pub turn-keeps : (text : List ℕ) (m : Machine) (ts : List Token) → Kept (length text) m ts → Keeps (Kept (length text)) (Finished (length text)) text m ts
+pub turn-keeps : (text : List ℕ) (m : Machine) (ts : List Token) → Risen (length text) m ts → Keeps (Risen (length text)) (Risen-whole (length text)) text m ts
 turn-keeps text m ts k =
     record {
       moves = λ {p} landed by. move-keeps text (to m p (m .state) (m .count)) ts record { base = base-later (k .base) p (landed .from); topped = k .topped } by;

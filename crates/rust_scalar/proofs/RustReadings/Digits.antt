@@ -10,7 +10,7 @@ use borrow.Author.Tests.{lt-ltb, le-ltb, le-leb, ltb-true, ltb-false, leb-false}
 use lib.Dec.{ltb, leb, leb·suc-suc}
 use lib.ListN.{length}
 use Rattle.data.proofs.Cases.{by-bool}
-use Rattle.scalar.specs.Digits.{is-digit, run, carry, value, most-u64}
+use Rattle.scalar.specs.Digits.{is-digit, digit-run, carry, value, most-u64}
 use Rattle.scalar.specs.Float.{rest}
 use Rattle.scalar.specs.Whole.{has-tail}
 use Rattle.scalar.proofs.Runs.{digit-bounds, value-wraps, value-grows}
@@ -36,14 +36,14 @@ wrapped n = mod-lt n (omega arith)
 
 -- ---- the loops that gather
 
-pub partial-is : (s : List ℕ) (acc : ℕ) → acc < 2 ^ 64 → to-u64-partial s acc ≡ Ok (value acc (run s) % 2 ^ 64, rest s)
-unfolding to-u64-partial run value
+pub partial-is : (s : List ℕ) (acc : ℕ) → acc < 2 ^ 64 → to-u64-partial s acc ≡ Ok (value acc (digit-run s) % 2 ^ 64, rest s)
+unfolding to-u64-partial digit-run value
 partial-is [] acc h = λ j. Ok (sym (mod-eq-of-lt h) j, [])
 partial-is (b ∷ s) acc h =
     by-bool (is-digit b)
-    (λ t. rw (to-u64-partial, digit-same b ∙ t, one-more-is acc b t, run, t)
-    (partial-is s (carry acc b % 2 ^ 64) (wrapped (carry acc b)) ∙ (λ j. Ok (value-wraps (run s) (carry acc b) j, rest s))))
-    (λ f. rw (to-u64-partial, digit-same b ∙ f, run, f) (λ j. Ok (sym (mod-eq-of-lt h) j, b ∷ s)))
+    (λ t. rw (to-u64-partial, digit-same b ∙ t, one-more-is acc b t, digit-run, t)
+    (partial-is s (carry acc b % 2 ^ 64) (wrapped (carry acc b)) ∙ (λ j. Ok (value-wraps (digit-run s) (carry acc b) j, rest s))))
+    (λ f. rw (to-u64-partial, digit-same b ∙ f, digit-run, f) (λ j. Ok (sym (mod-eq-of-lt h) j, b ∷ s)))
 
 -- an answer where bytes are all digits, and their refusal
 abbrev pub unless-tail : Bool → ℕ → Outcome ℕ
@@ -51,31 +51,31 @@ unless-tail true total = Err AllDigits
 unless-tail false total = Ok total
 
 pub tail-on : (b : ℕ) (s : List ℕ) → is-digit b ≡ true → has-tail (b ∷ s) ≡ has-tail s
-unfolding run
-tail-on b s e = rw (run, e) (leb·suc-suc (suc (length (run s))) (length s))
+unfolding digit-run
+tail-on b s e = rw (digit-run, e) (leb·suc-suc (suc (length (digit-run s))) (length s))
 
 pub tail-here : (b : ℕ) (s : List ℕ) → is-digit b ≡ false → has-tail (b ∷ s) ≡ true
-unfolding run
-tail-here b s e = rw (run, e) (lt-ltb 0 (suc (length s)) (omega arith))
+unfolding digit-run
+tail-here b s e = rw (digit-run, e) (lt-ltb 0 (suc (length s)) (omega arith))
 
-pub value-on : (b : ℕ) (s : List ℕ) (acc : ℕ) → is-digit b ≡ true → value acc (run (b ∷ s)) ≡ value (carry acc b) (run s)
-unfolding run value
-value-on b s acc e = rw (run, e)
+pub value-on : (b : ℕ) (s : List ℕ) (acc : ℕ) → is-digit b ≡ true → value acc (digit-run (b ∷ s)) ≡ value (carry acc b) (digit-run s)
+unfolding digit-run value
+value-on b s acc e = rw (digit-run, e)
 
-pub value-stops : (b : ℕ) (s : List ℕ) (acc : ℕ) → is-digit b ≡ false → value acc (run (b ∷ s)) ≡ acc
-unfolding run value
-value-stops b s acc e = rw (run, e)
+pub value-stops : (b : ℕ) (s : List ℕ) (acc : ℕ) → is-digit b ≡ false → value acc (digit-run (b ∷ s)) ≡ acc
+unfolding digit-run value
+value-stops b s acc e = rw (digit-run, e)
 
-pub all-digits-is : (s : List ℕ) (acc : ℕ) → acc < 2 ^ 64 → all-digits s acc ≡ unless-tail (has-tail s) (value acc (run s) % 2 ^ 64)
-unfolding all-digits run value
+pub all-digits-is : (s : List ℕ) (acc : ℕ) → acc < 2 ^ 64 → all-digits s acc ≡ unless-tail (has-tail s) (value acc (digit-run s) % 2 ^ 64)
+unfolding all-digits digit-run value
 all-digits-is [] acc h = ap Ok (sym (mod-eq-of-lt h))
 all-digits-is (b ∷ s) acc h =
     by-bool (is-digit b)
     (λ t. rw (all-digits, digit-same b ∙ t, one-more-is acc b t)
     (all-digits-is s (carry acc b % 2 ^ 64) (wrapped (carry acc b))
-    ∙ (λ j. unless-tail (sym (tail-on b s t) j) (value-wraps (run s) (carry acc b) j))
+    ∙ (λ j. unless-tail (sym (tail-on b s t) j) (value-wraps (digit-run s) (carry acc b) j))
     ∙ ap (unless-tail (has-tail (b ∷ s))) (ap (λ (n : ℕ). n % 2 ^ 64) (sym (value-on b s acc t)))))
-    (λ f. rw (all-digits, digit-same b ∙ f) (ap (λ (tailed : Bool). unless-tail tailed (value acc (run (b ∷ s)) % 2 ^ 64)) (sym (tail-here b s f))))
+    (λ f. rw (all-digits, digit-same b ∙ f) (ap (λ (tailed : Bool). unless-tail tailed (value acc (digit-run (b ∷ s)) % 2 ^ 64)) (sym (tail-here b s f))))
 
 -- ---- the loops that check
 
@@ -105,28 +105,28 @@ one-more-checked-is acc b e =
     next : ℕ
     next = carry acc b
 
-pub check-init-is : (s : List ℕ) (acc : ℕ) → acc < 2 ^ 64 → check-overflow-init s acc ≡ checked (value acc (run s))
-unfolding check-overflow-init run value
+pub check-init-is : (s : List ℕ) (acc : ℕ) → acc < 2 ^ 64 → check-overflow-init s acc ≡ checked (value acc (digit-run s))
+unfolding check-overflow-init digit-run value
 check-init-is [] acc h = sym (checked-is acc (omega arith))
 check-init-is (b ∷ s) acc h =
     by-bool (is-digit b)
     (λ t. by-bool (ltb most-u64 (carry acc b))
     (λ u. let past = ltb-true most-u64 (carry acc b) u in
     rw (check-overflow-init, digit-same b ∙ t, one-more-checked-is acc b t ∙ checked-past (carry acc b) past, value-on b s acc t)
-    (sym (checked-past (value (carry acc b) (run s)) (lt-of-lt-of-le past (value-grows (run s) (carry acc b))))))
+    (sym (checked-past (value (carry acc b) (digit-run s)) (lt-of-lt-of-le past (value-grows (digit-run s) (carry acc b))))))
     (λ u. let held = ltb-false most-u64 (carry acc b) u in
     rw (check-overflow-init, digit-same b ∙ t, one-more-checked-is acc b t ∙ checked-is (carry acc b) held, value-on b s acc t)
     (check-init-is s (carry acc b) (omega (arith, held)))))
     (λ f. rw (check-overflow-init, digit-same b ∙ f, value-stops b s acc f) (sym (checked-is acc (omega arith))))
 
 -- a sign is passed over
-pub check-signed : (b : ℕ) (s : List ℕ) → is-sign b ≡ true → check-overflow (b ∷ s) ≡ checked (value 0 (run s))
+pub check-signed : (b : ℕ) (s : List ℕ) → is-sign b ≡ true → check-overflow (b ∷ s) ≡ checked (value 0 (digit-run s))
 unfolding check-overflow
 check-signed b s e =
     let inside = lt-ltb 0 (suc (length s)) (omega arith) in
     rw (index, inside, e, part-from, inside) (check-init-is s 0 (omega arith))
 
-pub check-bare : (b : ℕ) (s : List ℕ) → is-sign b ≡ false → check-overflow (b ∷ s) ≡ checked (value 0 (run (b ∷ s)))
+pub check-bare : (b : ℕ) (s : List ℕ) → is-sign b ≡ false → check-overflow (b ∷ s) ≡ checked (value 0 (digit-run (b ∷ s)))
 unfolding check-overflow
 check-bare b s e = rw (index, lt-ltb 0 (suc (length s)) (omega arith), e) (check-init-is (b ∷ s) 0 (omega arith))
 

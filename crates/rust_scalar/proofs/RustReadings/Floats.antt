@@ -15,7 +15,7 @@ use lib.ListN.{length, take, drop, getElem?, length-drop}
 use lib.Seq.{take-all}
 use Rattle.data.proofs.Cases.{by-bool}
 use Rattle.data.specs.Bytes.{plus, minus, point, letter-f}
-use Rattle.scalar.specs.Digits.{is-digit, run, carry, value, most-u64}
+use Rattle.scalar.specs.Digits.{is-digit, digit-run, carry, value, most-u64}
 use Rattle.scalar.specs.Float.{most-safe, most-places, rest, tail-of, lossy, unpointed, factor, divided, quotient, pointed, after-point, f64-digits, begins}
 use Rattle.scalar.specs.Float.{f64-read}
 use Rattle.scalar.specs.Whole.{most-i64}
@@ -65,21 +65,21 @@ no-power k h = rw powers-are (literal-past 23 0 k h)
 
 -- ---- runs
 
-pub run-again : (s : List ℕ) → run (run s) ≡ run s
-unfolding run
+pub run-again : (s : List ℕ) → digit-run (digit-run s) ≡ digit-run s
+unfolding digit-run
 run-again [] = refl
 run-again (b ∷ s) =
     by-bool (is-digit b)
-    (λ t. rw (run, t, run, t) (ap (λ (r : List ℕ). b ∷ r) (run-again s)))
-    (λ f. rw (run, f))
+    (λ t. rw (digit-run, t, digit-run, t) (ap (λ (r : List ℕ). b ∷ r) (run-again s)))
+    (λ f. rw (digit-run, f))
 
-run-taken : (s : List ℕ) → take (length (run s)) s ≡ run s
-unfolding run
+run-taken : (s : List ℕ) → take (length (digit-run s)) s ≡ digit-run s
+unfolding digit-run
 run-taken [] = refl
 run-taken (b ∷ s) =
     by-bool (is-digit b)
-    (λ t. rw (run, t) (ap (λ (r : List ℕ). b ∷ r) (run-taken s)))
-    (λ f. rw (run, f))
+    (λ t. rw (digit-run, t) (ap (λ (r : List ℕ). b ∷ r) (run-taken s)))
+    (λ f. rw (digit-run, f))
 
 -- ---- without a point
 
@@ -89,15 +89,15 @@ unfolding safe-integer-len digits-in greatest-power
 safe-len-most = (leb-true 1 safe-integer-len refl, leb-true safe-integer-len 16 refl)
 
 -- a run begins with a digit
-run-begins : (b : ℕ) (s : List ℕ) → run (b ∷ s) ≡ b ∷ s → is-digit b ≡ true
-unfolding run
-run-begins b s e = by-bool (is-digit b) (λ t. t) (λ f. absurd (none-is-some (rw (run, f) at e)))
+run-begins : (b : ℕ) (s : List ℕ) → digit-run (b ∷ s) ≡ b ∷ s → is-digit b ≡ true
+unfolding digit-run
+run-begins b s e = by-bool (is-digit b) (λ t. t) (λ f. absurd (none-is-some (rw (digit-run, f) at e)))
   where
     none-is-some : [] ≡ b ∷ s → ⊥
     none-is-some z = let n : _≡_ {A = ℕ} 0 (suc (length s)) = ap length z in omega arith
 
 -- so the check of a run passes over no sign
-check-run : (s : List ℕ) → run s ≡ s → 0 < length s → check-overflow s ≡ checked (value 0 s)
+check-run : (s : List ℕ) → digit-run s ≡ s → 0 < length s → check-overflow s ≡ checked (value 0 s)
 check-run [] e h = absurd (omega arith)
 check-run (b ∷ s) e h = check-bare b s (digit-no-sign b (run-begins b s e)) ∙ ap (λ (r : List ℕ). checked (value 0 r)) e
 
@@ -130,7 +130,7 @@ by-size negative n h =
     (λ s. precise negative n (ltb-false most-safe n s))
 
 -- a run of digits, by how many there are
-without-point-is : (negative : Bool) (s : List ℕ) → run s ≡ s
+without-point-is : (negative : Bool) (s : List ℕ) → digit-run s ≡ s
     → without-point (sign-of negative) (value 0 s % 2 ^ 64) s ≡ rust-f64 (unpointed negative (value 0 s))
 unfolding without-point check-precision-and-overflow
 without-point-is negative s e =
@@ -168,19 +168,19 @@ divided-is negative total places =
     (λ f. rw (power-is places (ltb-false most-places places f), factor-is negative)
     (ap rust-f64 (sym (quotient-is negative total places (ltb-false most-places places f)))))
 
-module _ (negative : Bool) (acc : ℕ) (part s : List ℕ) (small : acc < 2 ^ 64) (room : length (run s) < length part) (sized : length part ≤ 2 ^ 64)
-    (few : length part ≤ 20 → value acc (run s) ≤ most-u64) where
+module _ (negative : Bool) (acc : ℕ) (part s : List ℕ) (small : acc < 2 ^ 64) (room : length (digit-run s) < length part) (sized : length part ≤ 2 ^ 64)
+    (few : length part ≤ 20 → value acc (digit-run s) ≤ most-u64) where
   abbrev number : ℕ
-  number = value acc (run s)
+  number = value acc (digit-run s)
 
   abbrev places : ℕ
-  places = length (run s)
+  places = length (digit-run s)
 
   -- the digits that are counted are the bytes less one
   counted : places + (length part - places - 1) ≡ length part - 1
   counted = omega arith
 
-  ended : tail-of (rest s) ≡ End → with-point (sign-of negative) acc part s ≡ rust-f64 (pointed negative acc (run s))
+  ended : tail-of (rest s) ≡ End → with-point (sign-of negative) acc part s ≡ rust-f64 (pointed negative acc (digit-run s))
   unfolding with-point
   ended e =
       rw (
@@ -190,14 +190,14 @@ module _ (negative : Bool) (acc : ℕ) (part s : List ℕ) (small : acc < 2 ^ 64
         less-is (length part - places) 1 (omega arith),
         add-usize,
         lt-ltb (places + (length part - places - 1)) (2 ^ 64) (omega arith),
-        check-init-is (run s) acc small,
+        check-init-is (digit-run s) acc small,
         run-again s,
       )
       (spared (check-from) (places + (length part - places - 1)) number _ (λ short. few (omega (arith, check-from-most, counted)))
       ∙ by-bool (ltb most-u64 number)
-      (λ p. rw (within, p) (ap rust-f64 (sym (pointed-past negative acc (run s) p))))
+      (λ p. rw (within, p) (ap rust-f64 (sym (pointed-past negative acc (digit-run s) p))))
       (λ w. rw (within, w, mod-eq-of-lt {n = number} {m = 2 ^ 64} (omega (arith, ltb-false most-u64 number w)))
-      (divided-is negative number places ∙ ap rust-f64 (sym (pointed-is negative acc (run s) w)))))
+      (divided-is negative number places ∙ ap rust-f64 (sym (pointed-is negative acc (digit-run s) w)))))
 
   pub with-point-is : with-point (sign-of negative) acc part s ≡ rust-f64 (after-point negative acc s)
   unfolding with-point
@@ -222,55 +222,55 @@ ended-at sign s total part =
     by-tail (tail-of (rest s)) (without-point sign total (take (length part - length (rest s)) part)) (with-point sign total part (drop 1 (rest s)))
 
 loop-is : (sign : ℤ) (s : List ℕ) (acc : ℕ) (part : List ℕ) → acc < 2 ^ 64
-    → f64-loop sign s acc part ≡ ended-at sign s (value acc (run s) % 2 ^ 64) part
-unfolding f64-loop run value tail-of
+    → f64-loop sign s acc part ≡ ended-at sign s (value acc (digit-run s) % 2 ^ 64) part
+unfolding f64-loop digit-run value tail-of
 loop-is sign [] acc part h = λ j. without-point sign (sym (mod-eq-of-lt h) j) (sym (take-all (length part - 0) part (omega arith)) j)
 loop-is sign (b ∷ s) acc part h =
     by-bool (is-digit b)
-    (λ t. rw (f64-loop, digit-same b ∙ t, one-more-is acc b t, run, t)
-    (loop-is sign s (carry acc b % 2 ^ 64) part (wrapped (carry acc b)) ∙ ap (λ (n : ℕ). ended-at sign s n part) (value-wraps (run s) (carry acc b))))
+    (λ t. rw (f64-loop, digit-same b ∙ t, one-more-is acc b t, digit-run, t)
+    (loop-is sign s (carry acc b % 2 ^ 64) part (wrapped (carry acc b)) ∙ ap (λ (n : ℕ). ended-at sign s n part) (value-wraps (digit-run s) (carry acc b))))
     (λ n. by-bool (eqb b point)
-    (λ p. rw (f64-loop, digit-same b ∙ n, p, run, n, tail-of, p) (ap (λ (k : ℕ). with-point sign k part s) (sym (mod-eq-of-lt h))))
-    (λ p. by-bool (eqb b letter-f) (λ f. closing s n p f) (λ f. rw (f64-loop, digit-same b ∙ n, p, f, run, n, tail-of, p, f))))
+    (λ p. rw (f64-loop, digit-same b ∙ n, p, digit-run, n, tail-of, p) (ap (λ (k : ℕ). with-point sign k part s) (sym (mod-eq-of-lt h))))
+    (λ p. by-bool (eqb b letter-f) (λ f. closing s n p f) (λ f. rw (f64-loop, digit-same b ∙ n, p, f, digit-run, n, tail-of, p, f))))
   where
     closing : (s : List ℕ) → is-digit b ≡ false → eqb b point ≡ false → eqb b letter-f ≡ true
-        → f64-loop sign (b ∷ s) acc part ≡ ended-at sign (b ∷ s) (value acc (run (b ∷ s)) % 2 ^ 64) part
+        → f64-loop sign (b ∷ s) acc part ≡ ended-at sign (b ∷ s) (value acc (digit-run (b ∷ s)) % 2 ^ 64) part
     closing [] n p f =
-        rw (f64-loop, digit-same b ∙ n, p, f, part-to-is part (length part - 1) (omega arith), run, n, tail-of, p, f)
+        rw (f64-loop, digit-same b ∙ n, p, f, part-to-is part (length part - 1) (omega arith), digit-run, n, tail-of, p, f)
         (ap (λ (k : ℕ). without-point sign k (take (length part - 1) part)) (sym (mod-eq-of-lt h)))
-    closing (c ∷ s) n p f = rw (f64-loop, digit-same b ∙ n, p, f, run, n, tail-of, p, f)
+    closing (c ∷ s) n p f = rw (f64-loop, digit-same b ∙ n, p, f, digit-run, n, tail-of, p, f)
 
 -- ---- after the sign
 
 -- at most twenty bytes with a point among them write no digits past 64 bits
-pub few-pointed : (s t : List ℕ) → length (run s) + length (run t) ≤ 19 → value (value 0 (run s) % 2 ^ 64) (run t) ≤ most-u64
+pub few-pointed : (s t : List ℕ) → length (digit-run s) + length (digit-run t) ≤ 19 → value (value 0 (digit-run s) % 2 ^ 64) (digit-run t) ≤ most-u64
 few-pointed s t h =
-    omega (arith, lt-of-lt-of-le (both-below s t (value 0 (run s) % 2 ^ 64) (mod-le (value 0 (run s)) (2 ^ 64))) (pow-le-pow-right {n = 10} (omega arith) h))
+    omega (arith, lt-of-lt-of-le (both-below s t (value 0 (digit-run s) % 2 ^ 64) (mod-le (value 0 (digit-run s)) (2 ^ 64))) (pow-le-pow-right {n = 10} (omega arith) h))
 
 digits-same : (negative : Bool) (s : List ℕ) → Slice s → f64-loop (sign-of negative) s 0 s ≡ rust-f64 (f64-digits negative s)
 digits-same negative s sized = loop-is (sign-of negative) s 0 s (omega arith) ∙ go (tail-of (rest s)) refl
   where
     total : ℕ
-    total = value 0 (run s) % 2 ^ 64
+    total = value 0 (digit-run s) % 2 ^ 64
 
-    front : take (length s - length (rest s)) s ≡ run s
+    front : take (length s - length (rest s)) s ≡ digit-run s
     front =
-        let counted : length s - length (rest s) ≡ length (run s) = omega (arith, length-drop (length (run s)) s, run-length s) in
+        let counted : length s - length (rest s) ≡ length (digit-run s) = omega (arith, length-drop (length (digit-run s)) s, run-length s) in
         ap (λ (n : ℕ). take n s) counted ∙ run-taken s
 
     after : List ℕ
     after = drop 1 (rest s)
 
     -- the bytes after the point are fewer than those that the point stands among
-    after-length : tail-of (rest s) ≡ Point → length (run s) + length (run after) < length s
+    after-length : tail-of (rest s) ≡ Point → length (digit-run s) + length (digit-run after) < length s
     after-length e =
-        omega (arith, point-within s (length (run s)) e, run-length after, length-drop 1 (rest s), length-drop (length (run s)) s)
+        omega (arith, point-within s (length (digit-run s)) e, run-length after, length-drop 1 (rest s), length-drop (length (digit-run s)) s)
 
     go : (t : Tail) → tail-of (rest s) ≡ t → ended-at (sign-of negative) s total s ≡ rust-f64 (f64-digits negative s)
     go End e =
-        rw (e, front) (without-point-is negative (run s) (run-again s) ∙ ap rust-f64 (sym (digits-end negative s e)))
+        rw (e, front) (without-point-is negative (digit-run s) (run-again s) ∙ ap rust-f64 (sym (digits-end negative s e)))
     go Point e =
-        rw e (with-point-is negative total s after (wrapped (value 0 (run s))) (omega (arith, after-length e)) (omega arith)
+        rw e (with-point-is negative total s after (wrapped (value 0 (digit-run s))) (omega (arith, after-length e)) (omega arith)
         (λ few. few-pointed s after (omega (arith, after-length e)))
         ∙ ap rust-f64 (sym (digits-point negative s e)))
     go Other e = rw e (ap rust-f64 (sym (digits-other negative s e)))

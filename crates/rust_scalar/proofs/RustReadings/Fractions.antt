@@ -12,7 +12,7 @@ use lib.Dec.{eqb}
 use lib.ListN.{length, take}
 use Rattle.data.proofs.Cases.{by-bool}
 use Rattle.data.specs.Bytes.{point, letter-f}
-use Rattle.scalar.specs.Digits.{is-digit, run, carry, value}
+use Rattle.scalar.specs.Digits.{is-digit, digit-run, carry, value}
 use Rattle.scalar.specs.Float.{rest, tail-of}
 use Rattle.scalar.specs.declared.float.Tail.the-variants.{End, Point, Other}
 use Rattle.scalar.specs.declared.float.Tail.{Tail}
@@ -96,16 +96,16 @@ if-end-fronted b total s Other = refl
 
 -- one byte alone
 fraction-one : (b acc : ℕ) → acc < 2 ^ 64
-    → fraction (b ∷ []) acc ≡ if-end (tail-of (rest (b ∷ []))) (Ok (value acc (run (b ∷ [])) % 2 ^ 64, run (b ∷ [])))
-unfolding fraction split-last all-digits run value tail-of
+    → fraction (b ∷ []) acc ≡ if-end (tail-of (rest (b ∷ []))) (Ok (value acc (digit-run (b ∷ [])) % 2 ^ 64, digit-run (b ∷ [])))
+unfolding fraction split-last all-digits digit-run value tail-of
 fraction-one b acc h =
     by-bool (is-digit b)
-    (λ t. rw (last-digit b acc (b ∷ []) t, run, t))
+    (λ t. rw (last-digit b acc (b ∷ []) t, digit-run, t))
     (λ n. by-bool (eqb b point)
-    (λ p. rw (last-none b acc (b ∷ []) n (no-f b p), run, n, tail-of, p))
+    (λ p. rw (last-none b acc (b ∷ []) n (no-f b p), digit-run, n, tail-of, p))
     (λ p. by-bool (eqb b letter-f)
-    (λ f. rw (last-f b acc b [] n f, run, n, tail-of, p, f) (λ j. Ok (sym (mod-eq-of-lt h) j, [])))
-    (λ f. rw (last-none b acc (b ∷ []) n f, run, n, tail-of, p, f))))
+    (λ f. rw (last-f b acc b [] n f, digit-run, n, tail-of, p, f) (λ j. Ok (sym (mod-eq-of-lt h) j, [])))
+    (λ f. rw (last-none b acc (b ∷ []) n f, digit-run, n, tail-of, p, f))))
   where
     no-f : (b : ℕ) → eqb b point ≡ true → eqb b letter-f ≡ false
     no-f b p = ap (λ (x : ℕ). eqb x letter-f) (eqb-true b point p)
@@ -118,14 +118,14 @@ no-end b c s answer =
     (λ p. rw (tail-of, p))
     (λ p. by-bool (eqb b letter-f) (λ f. rw (tail-of, p, f)) (λ f. rw (tail-of, p, f)))
 
-pub fraction-is : (s : List ℕ) (acc : ℕ) → acc < 2 ^ 64 → fraction s acc ≡ if-end (tail-of (rest s)) (Ok (value acc (run s) % 2 ^ 64, run s))
-unfolding fraction split-last run value tail-of
+pub fraction-is : (s : List ℕ) (acc : ℕ) → acc < 2 ^ 64 → fraction s acc ≡ if-end (tail-of (rest s)) (Ok (value acc (digit-run s) % 2 ^ 64, digit-run s))
+unfolding fraction split-last digit-run value tail-of
 fraction-is [] acc h = λ j. Ok (sym (mod-eq-of-lt h) j, [])
 fraction-is (b ∷ []) acc h = fraction-one b acc h
 fraction-is (b ∷ c ∷ s) acc h =
     by-bool (is-digit b)
     (λ t. rw (fraction-on b c acc s t, fraction-is (c ∷ s) (carry acc b % 2 ^ 64) (wrapped (carry acc b)))
-    (if-end-fronted b (value (carry acc b % 2 ^ 64) (run (c ∷ s)) % 2 ^ 64) (run (c ∷ s)) (tail-of (rest (c ∷ s)))
-    ∙ ap (λ (n : ℕ). if-end (tail-of (rest (c ∷ s))) (Ok (n, b ∷ run (c ∷ s)))) (value-wraps (run (c ∷ s)) (carry acc b))
-    ∙ sym (rw (run, t))))
-    (λ n. rw (fraction-off b c acc s n, run, n) (sym (no-end b c s (Ok (acc % 2 ^ 64, [])))))
+    (if-end-fronted b (value (carry acc b % 2 ^ 64) (digit-run (c ∷ s)) % 2 ^ 64) (digit-run (c ∷ s)) (tail-of (rest (c ∷ s)))
+    ∙ ap (λ (n : ℕ). if-end (tail-of (rest (c ∷ s))) (Ok (n, b ∷ digit-run (c ∷ s)))) (value-wraps (digit-run (c ∷ s)) (carry acc b))
+    ∙ sym (rw (digit-run, t))))
+    (λ n. rw (fraction-off b c acc s n, digit-run, n) (sym (no-end b c s (Ok (acc % 2 ^ 64, [])))))

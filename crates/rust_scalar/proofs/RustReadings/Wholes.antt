@@ -14,7 +14,7 @@ use lib.ListN.{length, drop, drop-of-length-le}
 use lib.Seq.{drop-cons}
 use Rattle.data.proofs.Cases.{by-bool}
 use Rattle.data.specs.Bytes.{plus, minus}
-use Rattle.scalar.specs.Digits.{is-digit, run, value, most-u64}
+use Rattle.scalar.specs.Digits.{is-digit, digit-run, value, most-u64}
 use Rattle.scalar.specs.Float.{rest}
 use Rattle.scalar.specs.Whole.{has-tail, u64-digits, u64-read, most-i64, signed, i64-digits, i64-part, i64-read}
 use Rattle.scalar.specs.declared.whole.I64Part.the-variants as Part
@@ -42,15 +42,15 @@ check-from-most = leb-true check-from 20 refl
 
 -- the number that the digits in front write
 abbrev number : List ℕ → ℕ
-number t = value 0 (run t)
+number t = value 0 (digit-run t)
 
 -- bytes that are too few for the Rust's check write no number past 64 bits
 few : (t : List ℕ) (len : ℕ) → length t ≤ len → len < check-from → number t ≤ most-u64
 few t len h short = omega (arith, number-below t 19 (omega (arith, check-from-most)))
 
 -- a digit carries nothing on to its own value
-pub first-value : (b : ℕ) (s : List ℕ) → is-digit b ≡ true → value (b - 48) (run s) ≡ value 0 (run (b ∷ s))
-first-value b s e = ap (λ (n : ℕ). value n (run s)) (omega arith) ∙ sym (value-on b s 0 e)
+pub first-value : (b : ℕ) (s : List ℕ) → is-digit b ≡ true → value (b - 48) (digit-run s) ≡ value 0 (digit-run (b ∷ s))
+first-value b s e = ap (λ (n : ℕ). value n (digit-run s)) (omega arith) ∙ sym (value-on b s 0 e)
 
 pub digit-small : (b : ℕ) → is-digit b ≡ true → b - 48 < 2 ^ 64
 digit-small b e = omega (arith, digit-bounds b e)
@@ -140,7 +140,7 @@ answer-of sign n left = do
   Ok (val, left)
 
 -- after the sign: the check from a length on, the number, and what stands after it
-i64-rest : (negative : Bool) (d t : List ℕ) (sign len : ℕ) (left : List ℕ) → length t ≤ len → drop (sign + length (run t)) d ≡ left
+i64-rest : (negative : Bool) (d t : List ℕ) (sign len : ℕ) (left : List ℕ) → length t ≤ len → drop (sign + length (digit-run t)) d ≡ left
     → (from-length (check-from) len (checked (number t)) >>= λ _. answer-of (sign-of negative) (number t % 2 ^ 64) left)
     ≡ rust-i64-part d (i64-digits negative sign t)
 i64-rest negative d t sign len left h e =
@@ -176,16 +176,16 @@ unfolding i64-start
 i64-start-none b m p e = rw (i64-start, digit-same b ∙ e, m, p)
 
 -- what stands after a sign and digits, and after digits alone
-after-sign : (b : ℕ) (s : List ℕ) → drop (1 + length (run s)) (b ∷ s) ≡ rest s
+after-sign : (b : ℕ) (s : List ℕ) → drop (1 + length (digit-run s)) (b ∷ s) ≡ rest s
 after-sign b s =
-    let counted : 1 + length (run s) ≡ suc (length (run s)) = omega arith in
+    let counted : 1 + length (digit-run s) ≡ suc (length (digit-run s)) = omega arith in
     ap (λ (n : ℕ). drop n (b ∷ s)) counted
 
-after-digit : (b : ℕ) (s : List ℕ) → is-digit b ≡ true → drop (0 + length (run (b ∷ s))) (b ∷ s) ≡ rest s
-unfolding run
+after-digit : (b : ℕ) (s : List ℕ) → is-digit b ≡ true → drop (0 + length (digit-run (b ∷ s))) (b ∷ s) ≡ rest s
+unfolding digit-run
 after-digit b s e =
-    let counted : 0 + suc (length (run s)) ≡ suc (length (run s)) = omega arith in
-    rw (run, e) (ap (λ (n : ℕ). drop n (b ∷ s)) counted)
+    let counted : 0 + suc (length (digit-run s)) ≡ suc (length (digit-run s)) = omega arith in
+    rw (digit-run, e) (ap (λ (n : ℕ). drop n (b ∷ s)) counted)
 
 pub i64-part-same : (d : List ℕ) → to-i64-t d ≡ rust-i64-part d (i64-part d)
 unfolding to-i64-t

@@ -2,7 +2,7 @@
 -- Assumes nothing.
 use borrow.Author.Needs.{needs}
 use borrow.Author.Tests.{eq-eqb, ne-eqb}
-use Rattle.parse.specs.Machine.{lay-then}
+use Rattle.parse.specs.After.{lay-then}
 use Rattle.parse.specs.Parameter.{parameter-named}
 use Rattle.parse.proofs.parameter.parameter_named.Statement.{statement}
 use Rattle.parse.proofs.parameter.parameter_named.Tie as tie

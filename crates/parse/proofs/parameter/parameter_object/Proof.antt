@@ -1,7 +1,7 @@
 -- `parse::parameter::parameter_object` meets its contract, by whether there is room for the Object.
 -- Assumes nothing.
 use borrow.Author.Needs.{needs}
-use Rattle.parse.specs.Machine.{lay-then}
+use Rattle.parse.specs.After.{lay-then}
 use Rattle.parse.specs.Parameter.{parameter-object}
 use Rattle.parse.proofs.parameter.parameter_object.Statement.{statement}
 use Rattle.parse.proofs.parameter.parameter_object.Tie as tie

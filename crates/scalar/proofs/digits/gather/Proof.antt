@@ -9,7 +9,7 @@ use native.Mathlib.Nat.{mod-eq-of-lt}
 use native.Mathlib.Omega.{arith}
 use borrow.Author.Needs.{needs}
 use lib.ListN.{length, getD, drop}
-use Rattle.scalar.specs.Digits.{is-digit, run, carry, value, gathered}
+use Rattle.scalar.specs.Digits.{is-digit, digit-run, carry, value, gathered}
 use Rattle.scalar.specs.declared.digits.Gathered.{Gathered}
 use Rattle.scalar.proofs.Runs.{run-on, run-stops, run-ends, value-wraps, value-on, value-done}
 use Rattle.scalar.proofs.digits.gather.Statement.{statement}
@@ -18,17 +18,17 @@ use Rattle.scalar.proofs.digits.gather.Tie as tie
 -- what is left at i, carried on from the total, gives what was asked for
 abbrev Left : List ℕ → ℕ → ℕ → ℕ → ℕ → Type 0
 Left d at start total i =
-    (value total (run (drop i d)) % 2 ^ 64 ≡ value start (run (drop at d)) % 2 ^ 64)
-    × (i + length (run (drop i d)) ≡ at + length (run (drop at d)))
+    (value total (digit-run (drop i d)) % 2 ^ 64 ≡ value start (digit-run (drop at d)) % 2 ^ 64)
+    × (i + length (digit-run (drop i d)) ≡ at + length (digit-run (drop at d)))
     × (total < 2 ^ 64)
 
 -- nothing is left where the run ends
-done : (d : List ℕ) (at start total i : ℕ) → Left d at start total i → run (drop i d) ≡ []
+done : (d : List ℕ) (at start total i : ℕ) → Left d at start total i → digit-run (drop i d) ≡ []
     → _≡_ {A = Gathered} (record { total = total; at = i }) (gathered d at start)
 done d at start total i left stop =
-    let total-is : total ≡ value start (run (drop at d)) % 2 ^ 64 =
+    let total-is : total ≡ value start (digit-run (drop at d)) % 2 ^ 64 =
     sym (mod-eq-of-lt (left .2)) ∙ ap (λ (n : ℕ). n % 2 ^ 64) (sym (value-done (drop i d) total stop)) ∙ left .0 in
-    let at-is : i ≡ at + length (run (drop at d)) = omega (arith, ap length stop, left .1) in
+    let at-is : i ≡ at + length (digit-run (drop at d)) = omega (arith, ap length stop, left .1) in
     λ j. record { total = total-is j; at = at-is j }
 
 abbrev Inv-loop : tie.InvT-loop
@@ -72,8 +72,8 @@ loop-again c =
     let head = at-loop .loop in
     let within = at-test .loop-test .taken in
     let byte-is = digit (c .before) in (
-      ap (λ (n : ℕ). value n (run (drop (head .i + 1) d)) % 2 ^ 64) (c .carried .ensures)
-          ∙ value-wraps (run (drop (head .i + 1) d)) (carry (head .total) (getD d (head .i) 0))
+      ap (λ (n : ℕ). value n (digit-run (drop (head .i + 1) d)) % 2 ^ 64) (c .carried .ensures)
+          ∙ value-wraps (digit-run (drop (head .i + 1) d)) (carry (head .total) (getD d (head .i) 0))
           ∙ ap (λ (n : ℕ). n % 2 ^ 64) (sym (value-on d (head .i) (head .total) within byte-is))
           ∙ head .inv .0,
       omega (arith, ap length (run-on d (head .i) within byte-is), head .inv .1),

@@ -11,13 +11,13 @@ use borrow.Author.Needs.{needs}
 use borrow.Author.Tests.{lt-ltb, le-ltb, not-true, not-false}
 use lib.Dec.{ltb}
 use lib.ListN.{length, getD, drop}
-use Rattle.scalar.specs.Digits.{is-digit, run, carry, value, most-u64}
+use Rattle.scalar.specs.Digits.{is-digit, digit-run, carry, value, most-u64}
 use Rattle.scalar.proofs.Runs.{digit-bounds, run-stops, run-ends, value-grows, value-on, value-done}
 use Rattle.scalar.proofs.digits.overflows.Statement.{statement}
 use Rattle.scalar.proofs.digits.overflows.Tie as tie
 
 -- a total that fits, with nothing left to carry it on, is within 64 bits
-fits : (s : List ℕ) (total v : ℕ) → (value total (run s) ≡ v) × (total < 2 ^ 64) → run s ≡ [] → false ≡ ltb most-u64 v
+fits : (s : List ℕ) (total v : ℕ) → (value total (digit-run s) ≡ v) × (total < 2 ^ 64) → digit-run s ≡ [] → false ≡ ltb most-u64 v
 fits s total v left stop = sym (le-ltb most-u64 v (omega (arith, sym (left .0) ∙ value-done s total stop, left .1)))
 
 -- a total above a tenth of what is left of 64 bits is carried past them by a digit
@@ -29,7 +29,7 @@ stays : (total k : ℕ) → total ≤ (most-u64 - k) / 10 → k ≤ 9 → total 
 stays total k h small = omega arith
 
 abbrev Inv-loop : tie.InvT-loop
-Inv-loop d at start total₀ i₀ total i = (value total (run (drop i d)) ≡ value start (run (drop at d))) × (total < 2 ^ 64)
+Inv-loop d at start total₀ i₀ total i = (value total (digit-run (drop i d)) ≡ value start (digit-run (drop at d))) × (total < 2 ^ 64)
 
 abbrev μ-loop : tie.MeasureT-loop
 μ-loop d at start total₀ i₀ total i = length d - i
@@ -78,7 +78,7 @@ returns-2 c =
     let carried = carry (head .total) (byte (c .before)) in
     sym (lt-ltb most-u64 _
     (lt-of-lt-of-le (past (head .total) (byte (c .before) - 48) (c .if2 .taken) (omega (arith, bounds (c .before))))
-    (le-trans (value-grows (run (drop (head .i + 1) d)) carried)
+    (le-trans (value-grows (digit-run (drop (head .i + 1) d)) carried)
     (le-of-eq (sym (value-on d (head .i) (head .total) (at-test .loop-test .taken) (digit (c .before))) ∙ head .inv .0)))))
 
 mul-total : tie.Need-mul-total Inv-loop μ-loop

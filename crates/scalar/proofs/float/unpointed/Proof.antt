@@ -9,7 +9,7 @@ use lib.Ieee.{binary64, ofInt}
 use lib.ListN.{drop}
 use mir.Syntax.{w64}
 use mir.ValLaws.{toZ-ofZ}
-use Rattle.scalar.specs.Digits.{run, value, most-u64}
+use Rattle.scalar.specs.Digits.{digit-run, value, most-u64}
 use Rattle.scalar.specs.Float.{lossy}
 use Rattle.scalar.specs.Whole.{signed}
 use Rattle.scalar.specs.declared.float.F64Read.the-variants.{Is}
@@ -21,7 +21,7 @@ use Rattle.scalar.proofs.float.unpointed.Tie as tie
 abbrev written : tie.Else1 → ℕ
 written c =
     let start = c .before .before .before in
-    value 0 (run (drop (start .args .sign) (start .args .d .now)))
+    value 0 (digit-run (drop (start .args .sign) (start .args .d .now)))
 
 within : (c : tie.Else1) → written c ≤ most-u64
 within c = ltb-false _ _ (sym (c .before .exceeds .ensures) ∙ c .if1 .left)

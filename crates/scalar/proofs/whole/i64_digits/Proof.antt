@@ -9,7 +9,7 @@ use borrow.Author.Tests.{ltb-true, ltb-false}
 use lib.ListN.{drop}
 use mir.Syntax.{w64}
 use mir.ValLaws.{toZ-ofZ}
-use Rattle.scalar.specs.Digits.{run, value, most-u64}
+use Rattle.scalar.specs.Digits.{digit-run, value, most-u64}
 use Rattle.scalar.specs.Whole.{signed, most-i64}
 use Rattle.scalar.specs.declared.whole.I64Part.the-variants.{Is}
 use Rattle.scalar.proofs.Gathers.{place-is, total-is}
@@ -24,7 +24,7 @@ past-both n h = omega arith
 abbrev written : tie.Else1 → ℕ
 written c =
     let start = c .before .before .before .before in
-    value 0 (run (drop (start .args .sign) (start .args .d .now)))
+    value 0 (digit-run (drop (start .args .sign) (start .args .d .now)))
 
 -- past the test of the size, the total is that number
 number : (c : tie.Else1) → c .before .before .gather .result .total ≡ written c

@@ -1,0 +1,70 @@
+-- Each answer fits what is left of the buffer: a law for each kind, and where the next one then goes.
+-- Assumes nothing.
+use mathlib.Core.List.{List}
+use mathlib.Core.Path.{_≡_, ap, subst, _∙_}
+use Prim.Native.Nat.{ℕ, _+_, _≤_}
+use native.Mathlib.Omega.{arith}
+use lib.ListN.{length, take, drop, length-take, length-drop}
+use Rattle.sheet.specs.Views.{viewed}
+use Rattle.tape.specs.Words.{words-for}
+use Rattle.report.specs.Append.{Wrote, wrote, append}
+use Rattle.report.specs.Dump.{dump-of}
+use Rattle.report.specs.Readings.{readings-of}
+use Rattle.report.specs.Room.{most-input, most-tokens, Held}
+use Rattle.report.specs.Sheets as sheets
+use Rattle.report.proofs.Room.{put-whole}
+use Rattle.report.proofs.Lengths.{readings-short, verdict-short, view-short}
+use Rattle.answers.specs.declared.Answer.{Answer}
+use Rattle.answers.specs.declared.Answer.the-variants.{Put}
+use Rattle.answers.specs.Whole.{most-answer, Answers, dump, readings, verdict, view, All, Left, Whole}
+
+-- the place after what was put
+abbrev place-of : Wrote → ℕ
+place-of (wrote next left) = next
+
+-- the line that is put for a token of some words and a text
+abbrev view-line : List ℕ → List ℕ → ℕ → ℕ → List ℕ
+view-line text words count index = sheets.view-text text (viewed (length text) words count index)
+
+module _ (capacity : ℕ) (body out : List ℕ) (at : ℕ) {r : ℕ} {o : List ℕ} where
+  -- lines that are put where there is room for any answer
+  fits : (lines : List ℕ) → Answers capacity body lines → wrote r o ≡ append out at lines → length lines ≤ most-answer
+      → at + most-answer ≤ length out → All capacity body out at r o
+  fits lines a e few room =
+      record { lines = lines; answers = a; short = few; put = put-whole out lines at e (omega arith) }
+
+  -- a dump, on as many words as the capacity takes
+  pub dump-all : (len : ℕ) → wrote r o ≡ append out at (dump-of body len) → Held (dump-of body len) len → len ≡ words-for capacity
+      → capacity ≤ most-tokens → at + most-answer ≤ length out → All capacity body out at r o
+  dump-all len e held sized few room =
+      let same : dump-of body len ≡ dump-of body (words-for capacity) = ap (dump-of body) sized in
+      let short : length (dump-of body len) ≤ most-answer = held most-tokens (omega arith) in
+      fits (dump-of body (words-for capacity)) dump (e ∙ ap (append out at) same)
+      (subst (λ (ls : List ℕ). length ls ≤ most-answer) same short) room
+
+  -- the readings of a scalar
+  pub readings-all : wrote r o ≡ append out at (readings-of body) → at + most-answer ≤ length out → All capacity body out at r o
+  readings-all e room = fits (readings-of body) readings e (omega (arith, readings-short body)) room
+
+  -- a verdict
+  pub verdict-all : {Holds : Type 0} → sheets.Judged Holds out at (wrote r o) → at + most-answer ≤ length out
+      → All capacity body out at r o
+  verdict-all j room = fits (sheets.verdict (j .sound)) (verdict (j .sound)) (j .put) (omega (arith, verdict-short (j .sound))) room
+
+  -- a view of a part of the body; the words and numbers that it comes from are named, since antt does not read it off the equation
+  pub view-all : (from size : ℕ) (words : List ℕ) (count index : ℕ)
+      → wrote r o ≡ append out at (view-line (take size (drop from body)) words count index) → length body ≤ most-input
+      → at + most-answer ≤ length out → All capacity body out at r o
+  view-all from size words count index e within room =
+      let text = take size (drop from body) in
+      let v = viewed (length text) words count index in
+      let part : length text ≤ most-input = omega (arith, length-take size (drop from body), length-drop from body) in
+      fits (view-line text words count index) (view from size v) e (omega (arith, view-short text v)) room
+
+-- where an answer is put, the next place is past it, and no further than its most bytes
+pub next-near : (capacity : ℕ) (body out : List ℕ) (at next : ℕ) (left : List ℕ) (a : Answer) → a ≡ Put next
+    → Whole capacity body out at a left → next ≤ at + most-answer
+next-near capacity body out at next left a told w =
+    let all : All capacity body out at next left = subst (λ (x : Answer). Left capacity body out at x left) told (w .holds) in
+    let placed : next ≡ at + length (all .lines) = ap place-of (all .put) in
+    omega (arith, all .short)

@@ -1,0 +1,50 @@
+-- What the answer to a record leaves in the buffer: nothing more than stood there, or all of the answer. None is cut short.
+use Prim.Native.Nat.{ℕ, _+_, _*_, _≤_}
+use mathlib.Core.Bool.{Bool}
+use mathlib.Core.List.{List}
+use mathlib.Core.Path.{_≡_}
+use lib.ListN.{length, take, drop}
+use Rattle.sheet.specs.declared.views.Viewed.{Viewed}
+use Rattle.tape.specs.Words.{words-for}
+use Rattle.report.specs.Append.{wrote, whole}
+use Rattle.report.specs.Dump.{dump-of}
+use Rattle.report.specs.Readings.{readings-of}
+use Rattle.report.specs.Room.{most-tokens, dump-bytes}
+use Rattle.report.specs.Sheets as sheets
+use Rattle.answers.specs.declared.Answer.{Answer}
+use Rattle.answers.specs.declared.Answer.the-variants.{Put, Bad}
+
+-- the most bytes of an answer: no other is as long as the longest dump
+abbrev pub most-answer : ℕ
+most-answer = dump-bytes most-tokens
+
+-- the bytes of the line for a bad record
+abbrev pub stop-bytes : ℕ
+stop-bytes = 11
+
+-- bytes of which one half, taken up, leaves room for any answer and that line in the other
+abbrev pub block-bytes : ℕ
+block-bytes = 2 * (most-answer + stop-bytes)
+
+-- the lines that answer a record with a capacity and a body: the dump of a text, the readings of a scalar, what is said of a sheet, and
+-- a view of the text that stands from some place on
+pub data Answers (capacity : ℕ) (body : List ℕ) : List ℕ → Type 0 where
+  dump : Answers capacity body (dump-of body (words-for capacity))
+  readings : Answers capacity body (readings-of body)
+  verdict : (sound : Bool) → Answers capacity body (sheets.verdict sound)
+  view : (from size : ℕ) (v : Viewed) → Answers capacity body (sheets.view-text (take size (drop from body)) v)
+
+-- all of such lines from the place on, and the place after the last
+pub record All (capacity : ℕ) (body out : List ℕ) (at next : ℕ) (left : List ℕ) : Type 0 where
+  pub lines : List ℕ
+  pub answers : Answers capacity body lines
+  pub short : length lines ≤ most-answer
+  pub put : wrote next left ≡ whole out at lines
+
+-- a bad record, which leaves the buffer as it was, or all of the lines
+abbrev pub Left : ℕ → List ℕ → List ℕ → ℕ → Answer → List ℕ → Type 0
+Left capacity body out at Bad left = left ≡ out
+Left capacity body out at (Put next) left = All capacity body out at next left
+
+pub record Whole (capacity : ℕ) (body out : List ℕ) (at : ℕ) (a : Answer) (left : List ℕ) : Type 0 where
+  pub holds : Left capacity body out at a left
