@@ -66,7 +66,9 @@ u64-digits-short s =
     (λ tail. rw (u64-digits, tail) (omega (arith, two-short 21 (omega arith))))
     (λ none. by-bool (ltb most-u64 (value 0 (digit-run s)))
     (λ over. rw (u64-digits, none, over) (omega (arith, two-short 22 (omega arith))))
-    (λ within. rw (u64-digits, none, within) (omega (arith, number-short (value 0 (digit-run s)) (omega (arith, ltb-false most-u64 (value 0 (digit-run s)) within))))))
+    (λ within.
+    let few : value 0 (digit-run s) ≤ most-u64 = ltb-false most-u64 (value 0 (digit-run s)) within in
+    rw (u64-digits, none, within) (omega (arith, number-short (value 0 (digit-run s)) (omega arith)))))
 
 u64-short : (d : List ℕ) → length (u64-text (u64-read d)) ≤ 21
 unfolding u64-read

@@ -46,7 +46,10 @@ signed false n = pos n
 unfoldable pub i64-digits : Bool → ℕ → List ℕ → I64Part
 unfolding digit-run value
 i64-digits negative sign s =
-    elim (ltb most-i64 (value 0 (digit-run s))) [ true ↦ Part.Overflow | false ↦ Part.Is (signed negative (value 0 (digit-run s))) (sign + length (digit-run s)) ]
+    elim (ltb most-i64 (value 0 (digit-run s))) [
+      | true ↦ Part.Overflow
+      | false ↦ Part.Is (signed negative (value 0 (digit-run s))) (sign + length (digit-run s))
+    ]
 
 -- an optional sign, then digits, with whatever stands after them left over; any other first byte is refused
 unfoldable pub i64-part : List ℕ → I64Part

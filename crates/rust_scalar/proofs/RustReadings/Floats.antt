@@ -245,7 +245,8 @@ loop-is sign (b ∷ s) acc part h =
 -- at most twenty bytes with a point among them write no digits past 64 bits
 pub few-pointed : (s t : List ℕ) → length (digit-run s) + length (digit-run t) ≤ 19 → value (value 0 (digit-run s) % 2 ^ 64) (digit-run t) ≤ most-u64
 few-pointed s t h =
-    omega (arith, lt-of-lt-of-le (both-below s t (value 0 (digit-run s) % 2 ^ 64) (mod-le (value 0 (digit-run s)) (2 ^ 64))) (pow-le-pow-right {n = 10} (omega arith) h))
+    let below = both-below s t (value 0 (digit-run s) % 2 ^ 64) (mod-le (value 0 (digit-run s)) (2 ^ 64)) in
+    omega (arith, lt-of-lt-of-le below (pow-le-pow-right {n = 10} (omega arith) h))
 
 digits-same : (negative : Bool) (s : List ℕ) → Slice s → f64-loop (sign-of negative) s 0 s ≡ rust-f64 (f64-digits negative s)
 digits-same negative s sized = loop-is (sign-of negative) s 0 s (omega arith) ∙ go (tail-of (rest s)) refl
