@@ -48,7 +48,8 @@ abbrev pub Any : ℕ → List Token → Type 0
 Any n ts = Unit {0}
 
 -- behind a parameter's value the machine is past the place where the parameter was asked for
-value-past : {text : List ℕ} {at : ℕ} {kind : ScalarKind} {name start rest : ℕ} → Asked text at kind name → Valued text (run-end text name + 1) start rest
+value-past : {text : List ℕ} {at : ℕ} {kind : ScalarKind} {name start rest : ℕ} → Asked text at kind name
+    → Valued text (run-end text name + 1) start rest
     → at < rest
 value-past asked valued =
     let n = name-run asked in

@@ -80,13 +80,16 @@ flagged ts m = flag-parent (on-tape unbounded ts) m .tokens
 -- ---- what is cut
 -- the scalar that stands at a place, as a token, and where the text goes on
 pub data Taken (text : List ℕ) (at : ℕ) : Token → ℕ → Type 0 where
-  unquoted : (start end rest : ℕ) → scalar-cut text at ≡ Cuts.the-variants.Unquoted start end rest → Taken text at (scalar-of Unquoted start (end - start)) rest
-  quoted : (start end rest : ℕ) → scalar-cut text at ≡ Cuts.the-variants.Quoted start end rest → Taken text at (scalar-of Quoted start (end - start)) rest
+  unquoted : (start end rest : ℕ) → scalar-cut text at ≡ Cuts.the-variants.Unquoted start end rest
+      → Taken text at (scalar-of Unquoted start (end - start)) rest
+  quoted : (start end rest : ℕ) → scalar-cut text at ≡ Cuts.the-variants.Quoted start end rest
+      → Taken text at (scalar-of Quoted start (end - start)) rest
 
 -- `[[` or `[[!`: the kind of a parameter, and where its name starts
 pub data Named (text : List ℕ) (at : ℕ) : ScalarKind → ℕ → Type 0 where
   defined : eqb (byte-at text (at + 1)) bracket-open ≡ true → eqb (byte-at text (at + 2)) exclamation ≡ false → Named text at Parameter (at + 2)
-  undefined : eqb (byte-at text (at + 1)) bracket-open ≡ true → eqb (byte-at text (at + 2)) exclamation ≡ true → Named text at UndefinedParameter (at + 3)
+  undefined : eqb (byte-at text (at + 1)) bracket-open ≡ true → eqb (byte-at text (at + 2)) exclamation ≡ true
+      → Named text at UndefinedParameter (at + 3)
 
 -- a parameter whose name a `]` ends
 pub record Asked (text : List ℕ) (at : ℕ) (kind : ScalarKind) (start : ℕ) : Type 0 where
@@ -219,7 +222,8 @@ pub data Came (text : List ℕ) (m : Machine) (ts : List Token) : ℕ → Result
       → Came text m ts 0
       (goes record { at = m .at; state = ArrayValue; parent = m .count - 1; mixed = false; count = m .count }
       (set ts (m .count - 1) (opener-of Array (m .parent) false)))
-  begins : {x : Token} {rest at : ℕ} {kind : ContainerKind} {state : State} → m .state ≡ ParseOpen → Taken text (m .at) x rest → rest ≤ at → Settles kind state
+  begins : {x : Token} {rest at : ℕ} {kind : ContainerKind} {state : State} → m .state ≡ ParseOpen → Taken text (m .at) x rest → rest ≤ at
+      → Settles kind state
       → Came text m ts 1
       (goes record { at = at; state = state; parent = m .count + 1 - 2; mixed = false; count = m .count + 1 }
       (set (flagged (ts ++ (x ∷ [])) (to m rest ParseOpen (m .count + 1))) (m .count + 1 - 2) (opener-of kind (m .parent) false)))

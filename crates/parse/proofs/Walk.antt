@@ -54,7 +54,8 @@ use Rattle.machine.specs.Finish.{Outcome, outcome}
 use Rattle.parse.specs.Parse.{state-turn, turn, run, enough, text-limit, answer, parse-of}
 use Rattle.parse.proofs.Splits.{by-skipped, by-cut, by-sighted, by-container, by-standing, by-state, by-key-byte, by-open-byte, by-value-byte}
 use Rattle.parse.proofs.States as States
-use Rattle.parse.proofs.Moves.{Result, goes, ends, stops, on-tape, token-in, container-in, above, unsettled, closed-as, flagged, Taken, unquoted, quoted}
+use Rattle.parse.proofs.Moves.{Result, goes, ends, stops, on-tape, token-in, container-in, above, unsettled, closed-as, flagged, Taken}
+use Rattle.parse.proofs.Moves.{unquoted, quoted}
 use Rattle.parse.proofs.Moves.{Named, defined, undefined, Asked, Valued, run-token, Takes, Opens, Closes, Asks, Bracketed, lone}
 use Rattle.parse.proofs.Moves.{nameless, open-name, valueless, ScalarStands, Refuses, Came, Over, Turned, on-byte, at-end}
 use Rattle.parse.proofs.Moves as M
@@ -82,7 +83,8 @@ pub record Comes (By : ℕ → Result → Type 0) (c : ℕ) (go : Room → After
   pub on : (room : Room) → go room ≡ laying room c laid result
 
 -- it is made out by its equation, by that of another, or behind one token more
-comes : (By : ℕ → Result → Type 0) {c n : ℕ} {x : Result} {go : Room → After} → By n x → ((room : Room) → go room ≡ laying room c n x) → Comes By c go
+comes : (By : ℕ → Result → Type 0) {c n : ℕ} {x : Result} {go : Room → After} → By n x
+    → ((room : Room) → go room ≡ laying room c n x) → Comes By c go
 comes By {n = n} {x = x} by on = record { laid = n; result = x; by = by; on = on }
 
 via : {By : ℕ → Result → Type 0} {c : ℕ} {go same : Room → After} → Comes By c same → ((room : Room) → go room ≡ same room) → Comes By c go
@@ -93,7 +95,8 @@ behind : {By : ℕ → Result → Type 0} {c : ℕ} {go rest : Room → After} �
 behind {c = c} x e = record { laid = suc (x .laid); result = x .result; by = x .by; on = λ room. e room ∙ ap (if-room room c) (x .on room) }
 
 module _ (room : Room) (ts : List Token) where
-  lay-on : (c : ℕ) (x : Token) (go : ℕ → Tape → After) → or-full (lay (on-tape room ts) c x) go ≡ if-room room c (go (c + 1) (on-tape room (ts ++ (x ∷ []))))
+  lay-on : (c : ℕ) (x : Token) (go : ℕ → Tape → After)
+      → or-full (lay (on-tape room ts) c x) go ≡ if-room room c (go (c + 1) (on-tape room (ts ++ (x ∷ []))))
   unfolding lay add
   lay-on c x go = by-bool (has-room room c) (λ e. rw (lay, if-room, e)) (λ e. rw (lay, if-room, e))
 
@@ -108,7 +111,8 @@ module _ (room : Room) (ts : List Token) where
   lay-then-on x at state m = lay-on (m .count) x (λ n t. next (to m at state n) t)
 
   and-then-on : (x : Token) (at : ℕ) (state : State) (m : Machine) (go : Tape → Machine → After)
-      → and-then (lay-then x at state (on-tape room ts) m) go ≡ if-room room (m .count) (go (on-tape room (ts ++ (x ∷ []))) (to m at state (m .count + 1)))
+      → and-then (lay-then x at state (on-tape room ts) m) go
+      ≡ if-room room (m .count) (go (on-tape room (ts ++ (x ∷ []))) (to m at state (m .count + 1)))
   unfolding lay-then lay add
   and-then-on x at state m go = by-bool (has-room room (m .count)) (λ e. rw (lay-then, lay, if-room, e)) (λ e. rw (lay-then, lay, if-room, e))
 
@@ -116,7 +120,10 @@ module _ (room : Room) (ts : List Token) where
       → close-at i kind mixed (on-tape room ts) m go ≡ if-room room (m .count)
       (go (m .count + 1) (on-tape room (closed-as ts i (opener-of kind (m .count) mixed))))
   unfolding close-at replace lay add
-  close-on i kind mixed m go = by-bool (has-room room (m .count)) (λ e. rw (close-at, lay, replace, if-room, e)) (λ e. rw (close-at, lay, replace, if-room, e))
+  close-on i kind mixed m go =
+      by-bool (has-room room (m .count))
+      (λ e. rw (close-at, lay, replace, if-room, e))
+      (λ e. rw (close-at, lay, replace, if-room, e))
 
   flag-on : (m : Machine) → flag-parent (on-tape room ts) m ≡ on-tape room (flagged ts m)
   unfolding flag-parent token-at replace
@@ -153,7 +160,8 @@ module _ (text : List ℕ) (m : Machine) (ts : List Token) where
   abbrev Tail : (Room → After) → Type 0
   Tail go = Comes (λ n x. Came text m ts (suc n) x) (m .count + 1) go
 
-  moved-on : {n : ℕ} {x : Result} {go : Room → After} → Came text m ts (suc n) x → ((room : Room) → go room ≡ laying room (m .count + 1) n x) → Tail go
+  moved-on : {n : ℕ} {x : Result} {go : Room → After} → Came text m ts (suc n) x
+      → ((room : Room) → go room ≡ laying room (m .count + 1) n x) → Tail go
   moved-on by on = comes (λ n x. Came text m ts (suc n) x) by on
 
   refuse : {r : Refusal} {go : Room → After} → Refuses text m ts 0 r → number r < 11 → ((room : Room) → go room ≡ refused r) → Part go
@@ -376,7 +384,8 @@ module _ (text : List ℕ) (m : Machine) (ts : List Token) where
       unfolding operator-then
       mixed-comes on =
           by-sighted (sighted (byte-at text (m .at)) (byte-at text (m .at + 1)))
-          (λ o w e. moved (M.operates o st on (sighted-width _ _ o w e .some)) (λ room. rw (operator-then, e) (lay-then-on room ts _ (m .at + w) ArrayValue m)))
+          (λ o w e. moved (M.operates o st on (sighted-width _ _ o w e .some))
+          (λ room. rw (operator-then, e) (lay-then-on room ts _ (m .at + w) ArrayValue m)))
           (λ e. refuse (M.unknown st b on) (omega arith) (λ room. rw (operator-then, e)))
 
       -- a MixedContainer before the last token, a scalar, and then the operator

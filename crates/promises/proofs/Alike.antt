@@ -74,7 +74,8 @@ Paid text budget w (stops r) = (number r < 11) × (w ≤ budget)
 
 module _ (text : List ℕ) (budget k : ℕ) where
   -- one token more, with the room that there is
-  laid-more : (c w : ℕ) (ok : Bool) (x y z : After) → ltb c k ≡ ok → Alike text budget k (c + 1) w x y → (ok ≡ true → z ≡ x) → (ok ≡ false → z ≡ refused Full)
+  laid-more : (c w : ℕ) (ok : Bool) (x y z : After) → ltb c k ≡ ok → Alike text budget k (c + 1) w x y → (ok ≡ true → z ≡ x)
+      → (ok ≡ false → z ≡ refused Full)
       → Alike text budget k c w z y
   laid-more c w true x y z e a f g =
       let fewer : c < k = ltb-true c k e in
@@ -107,7 +108,8 @@ module _ (text : List ℕ) (budget k : ℕ) where
       record { grows = omega arith; most = omega (arith, h .1); fits = λ f. refl; full = λ f g. absurd (omega arith); told = refl; known = h .0 }
 
   -- so many tokens laid down after c others, and then the result
-  pub laying-alike : (c n w : ℕ) (x : Result) → c + n ≡ w → Paid text budget w x → Alike text budget k c w (laying (holds k) c n x) (laying unbounded c n x)
+  pub laying-alike : (c n w : ℕ) (x : Result) → c + n ≡ w → Paid text budget w x
+      → Alike text budget k c w (laying (holds k) c n x) (laying unbounded c n x)
   laying-alike c zero w x e h = let z : c ≡ w = omega arith in rw (← z) (told-alike c x (rw z h))
   laying-alike c (suc n) w x e h =
       laid-more c w (ltb c k) (laying (holds k) (c + 1) n x) (laying unbounded (c + 1) n x) (laying (holds k) c (suc n) x) refl

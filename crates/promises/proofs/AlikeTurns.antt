@@ -32,7 +32,8 @@ use Rattle.parse.proofs.Moves.{Result, goes, ends, stops, token-in, container-i
 use Rattle.parse.proofs.Moves.{Named, defined, undefined, Asked, Valued, Takes, key, value, entry, Settles, with-key, with-entry, Asks, asks-key, asks-open}
 use Rattle.parse.proofs.Moves.{Bracketed, key-bracket, open-bracket, Unasked, lone, nameless, open-name, valueless, ScalarStands, Refuses, brace-ends}
 use Rattle.parse.proofs.Moves.{no-header, key-ends, value-ends, entry-ends, first-uncut, no-value, mixed-parameter, inner-ends, first-ends, stack-empty}
-use Rattle.parse.proofs.Moves.{unknown, marked-unknown, nothing-precedes, no-parameter, Came, passes, separates, takes, separates-by, operates, mixes, mixes-by}
+use Rattle.parse.proofs.Moves.{unknown, marked-unknown, nothing-precedes, no-parameter, Came, passes, separates, takes, separates-by, operates}
+use Rattle.parse.proofs.Moves.{mixes, mixes-by}
 use Rattle.parse.proofs.Moves.{opens, heads, closes, empties, settles, begins, values, objects, refuses, Over, done-bare, done-closed, too-early, Turned}
 use Rattle.parse.proofs.Moves.{on-byte, at-end, taken-moves, name-run, value-run, value-rest}
 use Rattle.parse.proofs.Walk.{told, laying, turn-comes}
@@ -217,7 +218,8 @@ module _ (text : List ℕ) (budget : ℕ) (m : Machine) (ts : List Token) (sized
   move-pays (refuses r few) = (few, omega (arith, refused-lays text m ts r, and-one-few (m .count) (state-lays text (tape-of unbounded ts) m)))
 
 -- the text's end lays down at most the End of a container that is open
-end-pays : (text : List ℕ) (budget : ℕ) (m : Machine) (ts : List Token) → length ts ≡ m .count → m .count ≤ budget → {n : ℕ} {x : Result} → Over m ts n x
+end-pays : (text : List ℕ) (budget : ℕ) (m : Machine) (ts : List Token) → length ts ≡ m .count → m .count ≤ budget
+    → {n : ℕ} {x : Result} → Over m ts n x
     → Paid text budget (m .count + n) x
 end-pays text budget m ts sized small (done-bare e f) = (omega arith, sized, omega arith)
 end-pays text budget m ts sized small (done-closed e f g) = (refl, closed-sized (m .parent) _ ts (m .count) sized, omega arith)

@@ -31,7 +31,7 @@ use Rattle.promises.proofs.Alike.{in-room, Known}
 use Rattle.promises.proofs.Room.{laid-in-turns, turns-alike}
 use Rattle.promises.proofs.Links.Nest.{by-equal, by-below}
 use Rattle.promises.proofs.Links.Rows.{add-new, add-same}
-use Rattle.promises.proofs.Links.Flags.{codes-differ, flags-add}
+use Rattle.promises.proofs.Links.Flags.{codes-differ, coded-below, flags-add}
 use Rattle.promises.proofs.Links.Kept.{Kept}
 use Rattle.promises.proofs.Links.Held as Held
 use Rattle.promises.proofs.Links.Held.{Held, Shaped, unsettled}
@@ -98,14 +98,11 @@ open-reached ts us standing k some =
           by-equal i (length us)
           (λ z. codes-differ (λ y. omega arith) (sym (rw (z, add-new us unsettled) at e)))
           (λ d.
-          let below : i < length us = end-within us i opener (rw (add-same us unsettled i d) at e) in
+          let below : i < length us = coded-below us i (λ z. omega arith) (rw (add-same us unsettled i d) at e) in
           let o = r .opened i opener (rw (add-same us unsettled i d) at e) in
           (o .0, rw (add-same us unsettled opener (λ z. omega (arith, o .0))) (o .1)));
       top = λ end o. r .top end (rw (add-same us unsettled 0 (λ z. omega arith)) at o);
     }
-  where
-    end-within : (vs : List Token) (i opener : ℕ) → nth vs i ≡ end-of opener → i < length vs
-    end-within vs i opener e = by-below i (length vs) (λ h. h) (λ h. codes-differ (λ z. omega arith) (sym (List·getD-eq-default vs no-token {n = i} h) ∙ e))
 
 shaped-reached : (state : State) (mixed : Bool) (p : ℕ) (ts : List Token) → Shaped state mixed p ts → Reached ts
 shaped-reached Key mixed p ts s = kept-reached ts (s .kept)

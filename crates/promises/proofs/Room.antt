@@ -188,7 +188,8 @@ run-fits text k =
     rw (a .fits fit) (done-counted text (2 * length text) k (laid-run text) (run-in unbounded text) (a .known) (a .told) fit))
 
 -- what a success has counted is what was laid down, so that a tape with room for just that many is enough
-pub count-laid : (text : List ℕ) (len n : ℕ) (bom : Bool) (ws : List ℕ) → outcome (Tokens n bom) ws ≡ unbounded-parse text len → laid-down text ≡ n
+pub count-laid : (text : List ℕ) (len n : ℕ) (bom : Bool) (ws : List ℕ) → outcome (Tokens n bom) ws ≡ unbounded-parse text len
+    → laid-down text ≡ n
 count-laid text len n bom ws e =
     by-bool (ltb text-limit (length text))
     (λ f. let g : outcome (Tokens n bom) ws ≡ refuse len TooLong = e ∙ unbounded-over text len f in

@@ -56,4 +56,5 @@ abbrev pub Stored : List Token → ℕ → Type 0
 Stored ts around = (around ≡ 0) ⊎ Flagged (nth ts around)
 
 abbrev pub Flags : List Token → Type 0
-Flags ts = (i around : ℕ) (mixed : Bool) → nth ts i ≡ equal-token → nth ts (i + 1) ≡ opener-of Object around mixed → around < i + 1 → Stored ts around
+Flags ts = (i around : ℕ) (mixed : Bool) → nth ts i ≡ equal-token → nth ts (i + 1) ≡ opener-of Object around mixed → around < i + 1
+    → Stored ts around

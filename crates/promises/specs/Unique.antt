@@ -10,10 +10,12 @@ abbrev pub One-result : {K : Type 0} {A R X : K → Type 0} → ((κs : K) → A
 One-result {K} {A} {R} {X} Post = (κs : K) (args : A κs) (r s : R κs) (xs ys : X κs) → Post κs args r xs → Post κs args s ys → r ≡ s
 
 -- and leaves one tape, one buffer or one number behind, by what of the parameters is asked for
-abbrev pub One-left : {K Value : Type 0} {A R X : K → Type 0} → ((κs : K) → A κs → R κs → X κs → Type 0) → ((κs : K) → X κs → Value) → Type 0
+abbrev pub One-left : {K Value : Type 0} {A R X : K → Type 0} → ((κs : K) → A κs → R κs → X κs → Type 0)
+    → ((κs : K) → X κs → Value) → Type 0
 One-left {K} {Value} {A} {R} {X} Post left =
     (κs : K) (args : A κs) (r s : R κs) (xs ys : X κs) → Post κs args r xs → Post κs args s ys → left κs xs ≡ left κs ys
 
 -- and puts one line of bytes: the place after it, and the buffer
-abbrev pub One-line : {K : Type 0} {A R X : K → Type 0} → ((κs : K) → A κs → R κs → X κs → Type 0) → ((κs : K) → X κs → List ℕ) → Type 0
+abbrev pub One-line : {K : Type 0} {A R X : K → Type 0} → ((κs : K) → A κs → R κs → X κs → Type 0)
+    → ((κs : K) → X κs → List ℕ) → Type 0
 One-line Post out = One-result Post × One-left Post out

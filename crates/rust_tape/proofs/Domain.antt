@@ -74,7 +74,8 @@ same false true e = absurd (false≢true e)
 same false false e = refl
 
 -- two tests that agree at the 256 bytes, by one computation, and fail past them are one test
-byte-rule : (p q : ℕ → Bool) → every (λ b. Bool·beq (p b) (q b)) (numbers 256) ≡ true → ((b : ℕ) → 256 ≤ b → p b ≡ false) → ((b : ℕ) → 256 ≤ b → q b ≡ false)
+byte-rule : (p q : ℕ → Bool) → every (λ b. Bool·beq (p b) (q b)) (numbers 256) ≡ true → ((b : ℕ) → 256 ≤ b → p b ≡ false)
+    → ((b : ℕ) → 256 ≤ b → q b ≡ false)
     → (b : ℕ) → p b ≡ q b
 byte-rule p q all past-p past-q b =
     by-bool (ltb b 256)
@@ -135,7 +136,8 @@ by-look next found passed left = passed refl
 by-look leave found passed left = left refl
 
 -- a loop that has passed its end has ended
-strides-rest : (look : List ℕ → ℕ → Look) (d : List ℕ) (end-ptr turns ptr : ℕ) → end-ptr ≤ ptr → strides-from look d end-ptr turns ptr ≡ none
+strides-rest : (look : List ℕ → ℕ → Look) (d : List ℕ) (end-ptr turns ptr : ℕ) → end-ptr ≤ ptr
+    → strides-from look d end-ptr turns ptr ≡ none
 unfolding strides-from
 strides-rest look d end-ptr zero ptr h = refl
 strides-rest look d end-ptr (suc turns) ptr h = rw (strides-from, le-ltb ptr end-ptr h)
@@ -155,7 +157,8 @@ strides-enough look d end-ptr more (suc turns) ptr enough =
     (λ f. rw (strides-from, f)))
 
 -- more turns than a loop of strides is given leave its answer
-pub strides-settle : (look : List ℕ → ℕ → Look) (d : List ℕ) (end-ptr more : ℕ) → strides-from look d end-ptr (end-ptr + more) 0 ≡ strides look d end-ptr
+pub strides-settle : (look : List ℕ → ℕ → Look) (d : List ℕ) (end-ptr more : ℕ)
+    → strides-from look d end-ptr (end-ptr + more) 0 ≡ strides look d end-ptr
 unfolding strides
 strides-settle look d end-ptr more = strides-enough look d end-ptr more end-ptr 0 (omega arith)
 
@@ -193,7 +196,8 @@ length-stride d ptr = length-take loop-size (drop ptr d) ∙ rw length-drop
 pub scalar-loads : (d : List ℕ) (ptr : ℕ) → ptr < length d - min loop-size (length d) → length (stride d ptr) ≡ loop-size
 scalar-loads d ptr h = length-stride d ptr ∙ omega arith
 
-pub quote-loads : (haystack : List ℕ) (k : ℕ) → k * loop-size < length haystack / loop-size * loop-size → length (stride haystack (k * loop-size)) ≡ loop-size
+pub quote-loads : (haystack : List ℕ) (k : ℕ) → k * loop-size < length haystack / loop-size * loop-size
+    → length (stride haystack (k * loop-size)) ≡ loop-size
 quote-loads haystack k h = length-stride haystack (k * loop-size) ∙ omega arith
 
 -- a scan of some bytes and more ends where a search of the first finds a byte, and else where the scan of the others ends
@@ -252,7 +256,8 @@ found-run : (d : List ℕ) (at : ℕ) → 0 < length d → scalar-strides d ≡ 
 unfolding split-at-scalar unquoted-run
 found-run d at h e =
     rw (split-at-scalar, e)
-    (ap (λ (k : ℕ). max k 1) (sym (found-stop d at e)) ∙ scan-run stride-stops d h ∙ ap (λ (stops : ℕ → Bool). run-of stops d) (fun-ext stride-thirteen))
+    (ap (λ (k : ℕ). max k 1) (sym (found-stop d at e)) ∙ scan-run stride-stops d h
+    ∙ ap (λ (stops : ℕ → Bool). run-of stops d) (fun-ext stride-thirteen))
 
 -- and where none finds one, the cut is the run by the table
 missed-run : (d : List ℕ) → 0 < length d → scalar-strides d ≡ none → split-at-scalar d ≡ run-of has-class d
@@ -308,7 +313,8 @@ alike-undoubted d h e alike =
     (λ one. inl (eqb-true (unquoted-run d) 1 one))
     (λ more. inr (λ k l. by-bool (among (getD d k 0) doubted-bytes)
     (λ t. by-bool (eqb k 0)
-    (λ head. absurd (eqb-false (unquoted-run d) 1 more (r .alone (ap (λ (j : ℕ). has-class (getD d j 0)) (sym (eqb-true k 0 head)) ∙ doubted (getD d k 0) t))))
+    (λ head. absurd (eqb-false (unquoted-run d) 1 more
+    (r .alone (ap (λ (j : ℕ). has-class (getD d j 0)) (sym (eqb-true k 0 head)) ∙ doubted (getD d k 0) t))))
     (λ later. absurd (false≢true (sym (r .inside k (omega (arith, eqb-false k 0 later)) l) ∙ doubted (getD d k 0) t))))
     (λ f. f)))
 
@@ -389,7 +395,8 @@ unfolding parse-quote-scalar-fallback quoted-run
 fallback-quote q bytes = quote-bytewise q bytes (length (q ∷ bytes)) 0 (omega arith)
 
 -- more turns than its loop is given leave its answer
-pub quote-settles : (q : ℕ) (bytes : List ℕ) (more : ℕ) → quote-from (q ∷ bytes) (length (q ∷ bytes) + more) 1 ≡ parse-quote-scalar-fallback (q ∷ bytes)
+pub quote-settles : (q : ℕ) (bytes : List ℕ) (more : ℕ)
+    → quote-from (q ∷ bytes) (length (q ∷ bytes) + more) 1 ≡ parse-quote-scalar-fallback (q ∷ bytes)
 unfolding quoted-run
 quote-settles q bytes more = quote-bytewise q bytes (length (q ∷ bytes) + more) 0 (omega arith) ∙ sym (fallback-quote q bytes)
 

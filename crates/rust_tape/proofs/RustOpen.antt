@@ -86,7 +86,8 @@ first-same text p vs m there parent flags sized two =
     let long : length (rust-tape vs) ≡ m .count = tape-length vs (m .count) sized in
     let ind : ℕ = m .count - 2 in
     let back : Rust.minus (m .count) 2 ≡ some ind = minus-there (m .count) 2 two in
-    let written : (x : TextToken) → Rust.assign (rust-tape vs) ind x ≡ some (set (rust-tape vs) ind x) = λ x. assign-there (rust-tape vs) ind x (omega arith) in
+    let written : (x : TextToken) → Rust.assign (rust-tape vs) ind x ≡ some (set (rust-tape vs) ind x) =
+    λ x. assign-there (rust-tape vs) ind x (omega arith) in
     let skipped : Rust.skip-ws-t (p .rest) ≡ Rust.skip-ws-t (drop (m .at) text) = ap Rust.skip-ws-t there in
     by-skipped (skip-ws text (m .at))
     (λ q e.
@@ -223,7 +224,8 @@ module _ (text : List ℕ) (ts : List Token) (m : Machine) (sized : length ts �
 
   -- `[`: a parameter, unless mixed
   open-unmixed : m .mixed ≡ false
-      → open-parameter text tape m ≡ parameter text (tape-of unbounded (set ts (m .count - 1) (opener-of Object (m .parent) false))) (within m (m .count - 1))
+      → open-parameter text tape m
+      ≡ parameter text (tape-of unbounded (set ts (m .count - 1) (opener-of Object (m .parent) false))) (within m (m .count - 1))
   unfolding open-parameter replace
   open-unmixed off = cc
 

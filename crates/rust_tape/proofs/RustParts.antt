@@ -224,7 +224,8 @@ module _ (text : List ℕ) (at : ℕ) (us : List TextToken) (go : List ℕ → L
   plain-same b = rw (Rust.parse-variable, byte-next text at 1, b)
 
   -- whichever scalar stands there
-  pub any-same : Each text (scalar-runs text at) → Rust.parse-by (getD text at 0) (length text) (drop at text) us go ≡ taken-by text us go (scalar-cut text at)
+  pub any-same : Each text (scalar-runs text at)
+      → Rust.parse-by (getD text at 0) (length text) (drop at text) us go ≡ taken-by text us go (scalar-cut text at)
   unfolding Rust.parse-by scalar-runs
   any-same i =
       by-bool (eqb (getD text at 0) quote)

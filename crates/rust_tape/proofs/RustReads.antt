@@ -204,7 +204,8 @@ unnamed code a b c d e = rw (scalar-named, a, b, c, d, e)
 -- by a token's code
 by-code : {P : Type 0} (t : Token)
     → (t .code ≡ array-code → P) → (t .code ≡ object-code → P) → (t .code ≡ mixed-container-code → P) → (t .code ≡ unquoted-code → P)
-    → (t .code ≡ quoted-code → P) → (t .code ≡ parameter-code → P) → (t .code ≡ undefined-parameter-code → P) → (t .code ≡ operator-code → P)
+    → (t .code ≡ quoted-code → P) → (t .code ≡ parameter-code → P) → (t .code ≡ undefined-parameter-code → P)
+    → (t .code ≡ operator-code → P)
     → (t .code ≡ end-code → P) → (t .code ≡ header-code → P)
     → (container-of t ≡ Containers.the-variants.Nothing → standing-of t ≡ Standings.the-variants.Nothing → token-as-rust t ≡ none → P) → P
 unfolding container-of standing-of token-as-rust
@@ -223,7 +224,8 @@ by-code t f1 f2 f3 f4 f5 f6 f7 f8 f9 f10 other =
     (rw (token-as-rust, e1, e2, e3, e4, e5, e6, e7, e8, e9, e10))))))))))))
 
 -- an operator is one by whatever number
-by-number : {P : Type 0} (n : ℕ) → ((o : Rust.Operator) → operator-as-rust n ≡ some (Rust.OfOperator o) → P) → (operator-as-rust n ≡ none → P) → P
+by-number : {P : Type 0} (n : ℕ) → ((o : Rust.Operator) → operator-as-rust n ≡ some (Rust.OfOperator o) → P)
+    → (operator-as-rust n ≡ none → P) → P
 unfolding operator-as-rust
 by-number n f g =
     by-bool (eqb n 1) (λ e. f Rust.LessThan (rw (operator-as-rust, e))) (λ e1.
@@ -301,7 +303,8 @@ module _ (t : Token) {c : ℕ} (coded : t .code ≡ c) where
   unfolding standing-of
   stands-end f g h = rw (standing-of, by-unquoted f, by-scalar g, by-end h)
 
-  stands-nothing : eqb c unquoted-code ≡ false → is-scalar-code c ≡ false → eqb c end-code ≡ false → standing-of t ≡ Standings.the-variants.Nothing
+  stands-nothing : eqb c unquoted-code ≡ false → is-scalar-code c ≡ false → eqb c end-code ≡ false
+      → standing-of t ≡ Standings.the-variants.Nothing
   unfolding standing-of
   stands-nothing f g h = rw (standing-of, by-unquoted f, by-scalar g, by-end h)
 
@@ -356,7 +359,8 @@ closing-form t (container end o) e =
     let z : t .code ≡ container-code (o .0) = ap (λ (x : Token). x .code) (o .2) in absurd (omega (arith, container-few (o .0)))
 closing-form t (mixed-container q) e = let z : t .code ≡ mixed-container-code = ap (λ (x : Token). x .code) q in absurd (omega arith)
 closing-form t (scalar offset size v) e =
-    let r : Scalar t = record { kind = v .0; offset = offset; size = size; made = v .1 } in absurd (not-scalar {t = t} (ap is-scalar-code e ∙ end-uncoded 0) r)
+    let r : Scalar t = record { kind = v .0; offset = offset; size = size; made = v .1 } in
+    absurd (not-scalar {t = t} (ap is-scalar-code e ∙ end-uncoded 0) r)
 closing-form t (operator number low high q) e = let z : t .code ≡ operator-code = ap (λ (x : Token). x .code) q in absurd (omega arith)
 closing-form t (closing opener q) e = q ∙ ap end-of (sym (ap (λ (x : Token). x .a) q))
 
@@ -379,7 +383,8 @@ module _ (ts : List Token) {p : ℕ} (s : Kept ts p) where
   parent-none e = eqb-true p 0 (both (eqb p 0) (eqb (parent-of (container-of (nth ts p))) 0) e)
 
   -- the opener that an End names opens
-  pub end-opens : (j : ℕ) → j < length ts → nth ts j .code ≡ end-code → Rust.is-container (Rust.container (Rust.get (rust-tape ts) (nth ts j .a))) ≡ true
+  pub end-opens : (j : ℕ) → j < length ts → nth ts j .code ≡ end-code
+      → Rust.is-container (Rust.container (Rust.get (rust-tape ts) (nth ts j .a))) ≡ true
   end-opens j h e =
       let named : link-at ts j ≡ ToOpener (nth ts j .a) = end-link (nth ts j) (closing-form (nth ts j) (s .row .forms j h) e) in
       let o = link-container (nth ts (nth ts j .a)) (s .links .opened j (nth ts j .a) named .1) in

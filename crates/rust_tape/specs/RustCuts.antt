@@ -29,8 +29,8 @@ stride-stops b = among b stride-bytes
 -- the sixteen bytes that `create_character_class_table` gives a class, in its order
 abbrev pub table-bytes : List ℕ
 table-bytes =
-    tab ∷ line-feed ∷ vertical-tab ∷ form-feed ∷ carriage-return ∷ space ∷ exclamation ∷ hash ∷ semicolon ∷ less-than ∷ equals ∷ greater-than
-    ∷ bracket-open ∷ bracket-close ∷ brace-close ∷ brace-open ∷ []
+    tab ∷ line-feed ∷ vertical-tab ∷ form-feed ∷ carriage-return ∷ space ∷ exclamation ∷ hash
+    ∷ semicolon ∷ less-than ∷ equals ∷ greater-than ∷ bracket-open ∷ bracket-close ∷ brace-close ∷ brace-open ∷ []
 
 -- a table with a class written at each of some bytes
 abbrev pub with-classes : List ℕ → List ℕ → List ℕ

@@ -96,7 +96,8 @@ module _ (m : Machine) (ts : List Token) (r : Resting-at (m .count) (m .parent) 
   held-inside some = inside (on-tape unbounded ts) (m .parent) some (r .resting .kept .links .parent)
 
   -- the tokens with that container closed, inside its parent
-  closed-rests : (o : Inside (on-tape unbounded ts) (m .parent)) (x : Token) → Opens x (m .count) → Ready (m .count + 1) (o .up) (closed-as ts (m .parent) x)
+  closed-rests : (o : Inside (on-tape unbounded ts) (m .parent)) (x : Token) → Opens x (m .count)
+      → Ready (m .count + 1) (o .up) (closed-as ts (m .parent) x)
   closed-rests o x names =
       let l = closed-length ts (m .parent) x (end-of (m .parent)) in
       record {

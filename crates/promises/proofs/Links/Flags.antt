@@ -36,20 +36,24 @@ not-both on off = let z : _≡_ {A = ℕ} 0 1 = cc in absurd (omega arith)
 pub scalar-no-equal : {t : Token} {P : Type 0} → Scalar t → t ≡ equal-token → P
 scalar-no-equal s e = absurd (not-scalar {t = equal-token} (operator-uncoded (equal-token .a)) (rw e at s))
 
--- where an opener is read there is a token
-object-below : (ts : List Token) (i c : ℕ) (mixed : Bool) → nth ts i ≡ opener-of Object c mixed → i < length ts
-object-below ts i c mixed e = by-below i (length ts) (λ h. h) (λ h. codes-differ (λ z. omega arith) (sym (List·getD-eq-default ts no-token {n = i} h) ∙ e))
+-- where a token with a code is read, there is one
+pub coded-below : (ts : List Token) (i : ℕ) {x : Token} → (no-token .code ≡ x .code → ⊥) → nth ts i ≡ x → i < length ts
+coded-below ts i coded e =
+    by-below i (length ts)
+    (λ h. h)
+    (λ h. codes-differ coded (sym (List·getD-eq-default ts no-token {n = i} h) ∙ e))
 
 stored-kept : (ts us : List Token) (c : ℕ) → nth us c ≡ nth ts c → Stored ts c → Stored us c
 stored-kept ts us c e (inl z) = inl z
 stored-kept ts us c e (inr f) = inr (rw e f)
 
 -- ---- a token added: an Object behind an Equal only inside a container whose flag is set
-pub flags-add : (ts : List Token) (x : Token) → Flags ts → ((c : ℕ) (mixed : Bool) → x ≡ opener-of Object c mixed → last ts ≡ equal-token → Stored ts c)
+pub flags-add : (ts : List Token) (x : Token) → Flags ts
+    → ((c : ℕ) (mixed : Bool) → x ≡ opener-of Object c mixed → last ts ≡ equal-token → Stored ts c)
     → Flags (ts ++ (x ∷ []))
 flags-add ts x f suits i c mixed e o h =
     let l : length (ts ++ (x ∷ [])) ≡ length ts + 1 = add-length ts x in
-    let below : i + 1 < length (ts ++ (x ∷ [])) = object-below (ts ++ (x ∷ [])) (i + 1) c mixed o in
+    let below : i + 1 < length (ts ++ (x ∷ [])) = coded-below (ts ++ (x ∷ [])) (i + 1) (λ z. omega arith) o in
     let here : nth ts i ≡ equal-token = rw (add-same ts x i (λ z. omega arith)) at e in
     let kept : Stored ts c → Stored (ts ++ (x ∷ [])) c = λ s. stored-kept ts (ts ++ (x ∷ [])) c (add-same ts x c (λ z. omega arith)) s in
     by-equal (i + 1) (length ts)
@@ -93,5 +97,5 @@ flags-insert ts k counted f one i c mixed e o h =
     (λ z. codes-differ (λ y. omega arith) (rw (z, insert-new ts x k counted) at o))
     (λ d″.
     let old : nth ts (i + 1) ≡ opener-of Object c mixed = rw (insert-same ts x k counted (i + 1) d″ (λ z. omega arith)) at o in
-    let below : i + 1 < length ts = object-below ts (i + 1) c mixed old in
+    let below : i + 1 < length ts = coded-below ts (i + 1) (λ z. omega arith) old in
     stored-kept ts (before-last ts x) c (insert-same ts x k counted c (λ z. omega arith) (λ z. omega arith)) (f i c mixed here old h))))

@@ -110,6 +110,7 @@ rest-add ts x p r plain ArrayValue mixed d =
     (kept-plain ts x r plain, omega (arith, add-length ts x), rw (add-last ts x) d, λ e. apart-add ts x (r .kept .row))
 
 -- a machine that has laid one down
-pub added : (m : Machine) (ts : List Token) (x : Token) (at : ℕ) (state : State) → Resting-at (m .count) (m .parent) ts → Plain x → Before state (m .mixed) x
+pub added : (m : Machine) (ts : List Token) (x : Token) (at : ℕ) (state : State) → Resting-at (m .count) (m .parent) ts → Plain x
+    → Before state (m .mixed) x
     → Held (to m at state (m .count + 1)) (ts ++ (x ∷ []))
 added m ts x at state r plain d = record { counted = counted-add ts x (r .counted); shaped = rest-add ts x (m .parent) (r .resting) plain state (m .mixed) d }

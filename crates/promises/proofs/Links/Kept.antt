@@ -68,7 +68,8 @@ opener-no-scalar : {t : Token} {link : ℕ} {P : Type 0} → link-of t ≡ ToEnd
 opener-no-scalar {t} e s = absurd (unlinked-opens t (scalar-unlinked s) (link-made t e))
 
 -- a token of a form that is read as an opener names what it is read to name
-pub container-link : {t : Token} {kind : ContainerKind} {link : ℕ} {mixed : Bool} → Form t → container-of t ≡ Containers.the-variants.Opened kind link mixed
+pub container-link : {t : Token} {kind : ContainerKind} {link : ℕ} {mixed : Bool} → Form t
+    → container-of t ≡ Containers.the-variants.Opened kind link mixed
     → link-of t ≡ ToEnd link
 unfolding container-of
 container-link {t} {kind} {link} {mixed} (container end o) e =
@@ -123,11 +124,13 @@ kept-plain ts x r plain = record {
 }
 
 -- ---- an opener added, which names the parent: an Object behind an Equal only where the parent's flag is set
-object-kind : (kind : ContainerKind) (p : ℕ) (a : Bool) (c : ℕ) (b : Bool) → opener-of kind p a ≡ opener-of Object c b → (kind ≡ Object) × (p ≡ c)
+object-kind : (kind : ContainerKind) (p : ℕ) (a : Bool) (c : ℕ) (b : Bool) → opener-of kind p a ≡ opener-of Object c b
+    → (kind ≡ Object) × (p ≡ c)
 object-kind Array p a c b e = codes-differ (λ z. omega arith) e
 object-kind Object p a c b e = (refl, ap (λ (x : Token). x .a) e)
 
-pub kept-opener : (ts : List Token) (kind : ContainerKind) (p : ℕ) → Kept ts p → 1 ≤ length ts → (kind ≡ Object → last ts ≡ equal-token → Stored ts p)
+pub kept-opener : (ts : List Token) (kind : ContainerKind) (p : ℕ) → Kept ts p → 1 ≤ length ts
+    → (kind ≡ Object → last ts ≡ equal-token → Stored ts p)
     → Resting (ts ++ (opener-of kind p false ∷ [])) (length ts)
 kept-opener ts kind p k some stored =
     let x : Token = opener-of kind p false in
@@ -145,7 +148,8 @@ kept-opener ts kind p k some stored =
     }
 
 -- ---- a MixedContainer put in before the last, a scalar that has none before it
-pub kept-insert : (ts : List Token) {p : ℕ} → Resting ts p → 1 ≤ length ts → Scalar (last ts) → Apart ts → Resting (before-last ts mixed-container-token) p
+pub kept-insert : (ts : List Token) {p : ℕ} → Resting ts p → 1 ≤ length ts → Scalar (last ts) → Apart ts
+    → Resting (before-last ts mixed-container-token) p
 kept-insert ts {p} r some last-one apart = go (length ts - 1) (omega arith)
   where
     go : (k : ℕ) → length ts ≡ suc k → Resting (before-last ts mixed-container-token) p
@@ -207,7 +211,8 @@ kept-close ts p up x names r here inner =
     }
 
 -- ---- a token changed for one that names the same
-pub kept-alike : (ts : List Token) (k : ℕ) (x : Token) {p : ℕ} → k < length ts → Kept ts p → Form x → Unmarked x → (Scalar (nth ts k) → Scalar x)
+pub kept-alike : (ts : List Token) (k : ℕ) (x : Token) {p : ℕ} → k < length ts → Kept ts p → Form x → Unmarked x
+    → (Scalar (nth ts k) → Scalar x)
     → link-of x ≡ link-at ts k
     → (k + 1 < length ts → Unheaded x) → Flags (set ts k x) → Kept (set ts k x) p
 kept-alike ts k x {p} below s form bare scalars same other flags =
@@ -245,11 +250,14 @@ kept-flag ts p kind link mixed below s e =
     let here : link-at ts p ≡ ToEnd link = container-link (s .row .forms p below) e in
     let x : Token = opener-of kind link true in
     let names : Opens x link = (kind, true, refl) in
-    kept-alike ts p x below s (container link names) (opens-unmarked names) (opener-no-scalar here) (opens-link x names ∙ sym here) (λ h. opens-unheaded names)
+    kept-alike ts p x below s (container link names) (opens-unmarked names) (opener-no-scalar here) (opens-link x names ∙ sym here)
+    (λ h. opens-unheaded names)
     (flags-set ts p x below (s .flags) (opens-no-equal names)
     (λ c m f h. let o = object-kind kind link true c m f in (
       mixed,
-      container-made (s .row .forms p below) e ∙ ap (λ (k : ContainerKind). opener-of k link mixed) (o .0) ∙ ap (λ (l : ℕ). opener-of Object l mixed) (o .1),
+      container-made (s .row .forms p below) e
+          ∙ ap (λ (k : ContainerKind). opener-of k link mixed) (o .0)
+          ∙ ap (λ (l : ℕ). opener-of Object l mixed) (o .1),
     ))
     (λ j m f h g. record { kind = kind; link = link; made = refl }))
 

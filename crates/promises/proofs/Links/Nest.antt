@@ -103,7 +103,8 @@ parent-kept L M i e (inl z) = inl z
 parent-kept L M i e (inr o) = inr (o .0, e ∙ o .1, o .2)
 
 -- an opener laid down behind the others, which names the parent, is open, and the machine goes on inside it
-module _ {L M : ℕ → Link} {n p : ℕ} (s : Nest L n p) (some : 1 ≤ n) (same : (i : ℕ) → (i ≡ n → ⊥) → M i ≡ L i) (new : M n ≡ ToEnd p) where
+module _ {L M : ℕ → Link} {n p : ℕ} (s : Nest L n p) (some : 1 ≤ n) (same : (i : ℕ) → (i ≡ n → ⊥) → M i ≡ L i)
+    (new : M n ≡ ToEnd p) where
   below : p < n
   below = parent-below s some
 

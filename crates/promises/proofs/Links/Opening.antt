@@ -75,7 +75,8 @@ settle-held m ts kind at state d f =
     let opened = kept-opener us kind (m .parent) (f .kept) (f .some) (λ k. f .led) in
     record {
       counted = rw (length-set ts (m .count - 2) x) (f .counted);
-      shaped = rw (e, i) (rest-add (us ++ (x ∷ [])) (f .first) (length us) opened (f .plain) state false (settled-before state false (f .first) d (f .scalar)));
+      shaped = rw (e, i) (rest-add (us ++ (x ∷ [])) (f .first) (length us) opened (f .plain) state false
+          (settled-before state false (f .first) d (f .scalar)));
     }
 
 -- no container is read at a parent that is none
@@ -161,7 +162,8 @@ module _ (m : Machine) (ts : List Token) (c : m .count ≡ length ts) (us : List
   opener-last e = codes-differ (λ z. omega arith) (rw (settled-tokens Array, add-last us (opener-of Array (m .parent) false)) at e)
 
   -- a scalar, and what the byte behind it says
-  pub begun-held : {text : List ℕ} {at : ℕ} {x : Token} {rest : ℕ} {kind : ContainerKind} {state : State} → Taken text (m .at) x rest → Settles kind state
+  pub begun-held : {text : List ℕ} {at : ℕ} {x : Token} {rest : ℕ} {kind : ContainerKind} {state : State} → Taken text (m .at) x rest
+      → Settles kind state
       → Held (record { at = at; state = state; parent = m .count + 1 - 2; mixed = false; count = m .count + 1 })
       (set (flagged (ts ++ (x ∷ [])) (to m rest ParseOpen (m .count + 1))) (m .count + 1 - 2) (opener-of kind (m .parent) false))
   begun-held {at = at} {x = x} {rest = rest} {kind = kind} {state = state} taken s =

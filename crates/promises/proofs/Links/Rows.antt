@@ -16,7 +16,8 @@ use Rattle.tape.specs.declared.token.Token.{Token}
 use Rattle.tape.specs.declared.token.ScalarKind.{ScalarKind}
 use Rattle.tape.specs.declared.token.ScalarKind.the-variants.{Header}
 use Rattle.tape.specs.declared.shape.Link.{Link}
-use Rattle.tape.specs.Token.{no-token, least-operator, greatest-operator, is-scalar-code, is-header, mixed-container-token, scalar-of, operator-of, header-code}
+use Rattle.tape.specs.Token.{no-token, least-operator, greatest-operator, is-scalar-code, is-header, mixed-container-token, scalar-of, operator-of}
+use Rattle.tape.specs.Token.{header-code}
 use Rattle.tape.specs.Token.{mixed-container-code, scalar-code}
 use Rattle.tape.specs.Shape.{linked, link-of, Opens}
 use Rattle.tape.specs.Tape.{before-last}
@@ -184,7 +185,8 @@ apart-add ts x r j h e =
     omega arith
 
 -- a token added: behind a Header only an opener
-pub row-add : (ts : List Token) (x : Token) → Row ts → Form x → Unmarked x → ((offset size : ℕ) → last ts ≡ scalar-of Header offset size → Opener x)
+pub row-add : (ts : List Token) (x : Token) → Row ts → Form x → Unmarked x
+    → ((offset size : ℕ) → last ts ≡ scalar-of Header offset size → Opener x)
     → Row (ts ++ (x ∷ []))
 row-add ts x r form bare suits = record {
   forms = λ i h.

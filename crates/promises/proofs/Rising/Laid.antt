@@ -25,7 +25,8 @@ use Rattle.parse.proofs.Moves.{closed-as}
 use Rattle.sheet.specs.Sound.{nth}
 use Rattle.promises.proofs.Rising.Spans.{span, span-of, spans, Follows, Upto, opens-bare, end-bare, mixed-bare, scalar-span, spans-add, spans-set}
 use Rattle.promises.proofs.Rising.Spans.{spans-before-last, upto-later, upto-add}
-use Rattle.promises.proofs.Rising.Links.{Stands, Linked, link, stands-unlinked, stands-add, stands-set, linked-add, linked-set, linked-mixed, linked-in}
+use Rattle.promises.proofs.Rising.Links.{Stands, Linked, link, stands-unlinked, stands-add, stands-set, linked-add, linked-set, linked-mixed}
+use Rattle.promises.proofs.Rising.Links.{linked-in}
 use Rattle.promises.proofs.Rising.Links.{linked-close}
 
 -- ---- tokens
@@ -118,7 +119,8 @@ module _ {L end count parent : ℕ} {ts : List Token} (b : Base L end count pare
       }
 
   -- where the container's parent stands after that
-  pub stands-closed : (i : ℕ) {x : Token} → Opens x count → (other : ℕ) → span-of (nth ts i) ≡ [] → Stands ts other → Stands (closed-as ts i x) other
+  pub stands-closed : (i : ℕ) {x : Token} → Opens x count → (other : ℕ) → span-of (nth ts i) ≡ [] → Stands ts other
+      → Stands (closed-as ts i x) other
   stands-closed i {x} o other e s = stands-add (set ts i x) (end-of i) other (stands-set ts i x other (opens-bare o ∙ sym e) s)
 
   -- the opener that is closed has no view: the parent stands, or its link shows that it opens

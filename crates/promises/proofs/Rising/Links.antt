@@ -148,7 +148,8 @@ length-before-last [] x = refl
 length-before-last (t ∷ []) x = refl
 length-before-last (t ∷ u ∷ ts) x = omega (arith, length-before-last (u ∷ ts) x)
 
-nth-before-last : (ts : List Token) (x : Token) (i : ℕ) → i < length ts → span-of x ≡ [] → span-of (nth ts i) ≡ [] → span-of (nth (before-last ts x) i) ≡ []
+nth-before-last : (ts : List Token) (x : Token) (i : ℕ) → i < length ts → span-of x ≡ [] → span-of (nth ts i) ≡ []
+    → span-of (nth (before-last ts x) i) ≡ []
 nth-before-last [] x i h e f = absurd (omega arith)
 nth-before-last (t ∷ []) x zero h e f = e
 nth-before-last (t ∷ []) x (suc i) h e f = absurd (omega arith)

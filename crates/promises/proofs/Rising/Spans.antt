@@ -106,7 +106,8 @@ unfolding Upto
 upto-later floor [] end later h u = omega arith
 upto-later floor (s ∷ ss) end later h u = (u .0, u .1, upto-later (u .0) ss end later h (u .2))
 
-pub upto-add : (floor : ℕ) (ss : List Span) (end : ℕ) (s : Span) (later : ℕ) → Follows end s later → Upto floor ss end → Upto floor (ss ++ (s ∷ [])) later
+pub upto-add : (floor : ℕ) (ss : List Span) (end : ℕ) (s : Span) (later : ℕ) → Follows end s later → Upto floor ss end
+    → Upto floor (ss ++ (s ∷ [])) later
 unfolding Upto
 upto-add floor [] end s later f u =
     (later, record { from = omega (arith, f .from); starts = f .starts; ends = f .ends; full = f .full }, omega arith)
@@ -145,7 +146,8 @@ upto-first t ts floor end kind offset size u e =
     rw s at v
 
 -- any view among the tokens follows the floor
-pub upto-at : (ts : List Token) (floor end i : ℕ) (kind : ScalarKind) (offset size : ℕ) → Upto floor (spans ts) end → nth ts i ≡ scalar-of kind offset size
+pub upto-at : (ts : List Token) (floor end i : ℕ) (kind : ScalarKind) (offset size : ℕ) → Upto floor (spans ts) end
+    → nth ts i ≡ scalar-of kind offset size
     → Follows floor (span kind offset size) end
 unfolding spans
 upto-at [] floor end i kind offset size u e = absurd (view-none kind offset size e)

@@ -28,7 +28,8 @@ use Rattle.machine.specs.Machine.{to}
 use Rattle.machine.specs.Parents.{parent-of, state-in}
 use Rattle.parse.specs.ParseOpen.{flag-parent}
 use Rattle.parse.proofs.Splits.{by-container}
-use Rattle.parse.proofs.Moves.{Result, container-in, above, unsettled, closed-as, flagged, Taken, unquoted, quoted, Asked, Valued, run-token, Takes, key, value}
+use Rattle.parse.proofs.Moves.{Result, container-in, above, unsettled, closed-as, flagged, Taken, unquoted, quoted, Asked, Valued, run-token, Takes}
+use Rattle.parse.proofs.Moves.{key, value}
 use Rattle.parse.proofs.Moves.{entry, Settles, with-key, with-entry, Asks, asks-key, asks-open, Came, passes, separates, takes, separates-by, operates, mixes}
 use Rattle.parse.proofs.Moves.{mixes-by, opens, heads, closes, empties, settles, begins, values, objects, refuses, Over, done-bare, done-closed, too-early}
 use Rattle.parse.proofs.Moves.{name-run, value-run, value-rest}
@@ -241,9 +242,11 @@ module _ (text : List ℕ) (m : Machine) (ts : List Token) (k : Risen (length te
   end-keeps too-early = tt
 
 -- every turn, by its moves
-pub turn-keeps : (text : List ℕ) (m : Machine) (ts : List Token) → Risen (length text) m ts → Keeps (Risen (length text)) (Risen-whole (length text)) text m ts
+pub turn-keeps : (text : List ℕ) (m : Machine) (ts : List Token) → Risen (length text) m ts
+    → Keeps (Risen (length text)) (Risen-whole (length text)) text m ts
 turn-keeps text m ts k =
     record {
-      moves = λ {p} landed by. move-keeps text (to m p (m .state) (m .count)) ts record { base = base-later (k .base) p (landed .from); topped = k .topped } by;
+      moves = λ {p} landed by.
+          move-keeps text (to m p (m .state) (m .count)) ts record { base = base-later (k .base) p (landed .from); topped = k .topped } by;
       finishes = λ by. end-keeps text m ts k by;
     }

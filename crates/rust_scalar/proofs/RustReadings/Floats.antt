@@ -228,7 +228,8 @@ loop-is sign [] acc part h = λ j. without-point sign (sym (mod-eq-of-lt h) j) (
 loop-is sign (b ∷ s) acc part h =
     by-bool (is-digit b)
     (λ t. rw (f64-loop, digit-same b ∙ t, one-more-is acc b t, digit-run, t)
-    (loop-is sign s (carry acc b % 2 ^ 64) part (wrapped (carry acc b)) ∙ ap (λ (n : ℕ). ended-at sign s n part) (value-wraps (digit-run s) (carry acc b))))
+    (loop-is sign s (carry acc b % 2 ^ 64) part (wrapped (carry acc b))
+    ∙ ap (λ (n : ℕ). ended-at sign s n part) (value-wraps (digit-run s) (carry acc b))))
     (λ n. by-bool (eqb b point)
     (λ p. rw (f64-loop, digit-same b ∙ n, p, digit-run, n, tail-of, p) (ap (λ (k : ℕ). with-point sign k part s) (sym (mod-eq-of-lt h))))
     (λ p. by-bool (eqb b letter-f) (λ f. closing s n p f) (λ f. rw (f64-loop, digit-same b ∙ n, p, f, digit-run, n, tail-of, p, f))))

@@ -118,7 +118,8 @@ no-end b c s answer =
     (λ p. rw (tail-of, p))
     (λ p. by-bool (eqb b letter-f) (λ f. rw (tail-of, p, f)) (λ f. rw (tail-of, p, f)))
 
-pub fraction-is : (s : List ℕ) (acc : ℕ) → acc < 2 ^ 64 → fraction s acc ≡ if-end (tail-of (rest s)) (Ok (value acc (digit-run s) % 2 ^ 64, digit-run s))
+pub fraction-is : (s : List ℕ) (acc : ℕ) → acc < 2 ^ 64
+    → fraction s acc ≡ if-end (tail-of (rest s)) (Ok (value acc (digit-run s) % 2 ^ 64, digit-run s))
 unfolding fraction split-last digit-run value tail-of
 fraction-is [] acc h = λ j. Ok (sym (mod-eq-of-lt h) j, [])
 fraction-is (b ∷ []) acc h = fraction-one b acc h

@@ -23,8 +23,10 @@ use Rattle.scalar.specs.declared.whole.U64Read.the-variants as U64
 use Rattle.scalar.proofs.Runs.{digit-bounds, number-below}
 use Rattle.scalar.proofs.Wholes.{u64-plus, u64-none, u64-bare, u64-tail, u64-past, u64-is, i64-none, i64-minus, i64-plus, i64-bare, i64-other, i64-past}
 use Rattle.scalar.proofs.Wholes.{i64-is, read-tail, read-is, read-none, read-past}
-use Rattle.rust_scalar.specs.RustReadings.{Outcome, Ok, Err, AllDigits, Overflow, _>>=_, ok-or, from-length, i64-or-panic, i64-try-from, is-i64, is-empty}
-use Rattle.rust_scalar.specs.RustReadings.{is-ascii-digit, is-sign, digits-in, greatest-power, overflow-cutoff, check-from, u64-start, to-u64, i64-start}
+use Rattle.rust_scalar.specs.RustReadings.{Outcome, Ok, Err, AllDigits, Overflow, _>>=_, ok-or, from-length, i64-or-panic, i64-try-from}
+use Rattle.rust_scalar.specs.RustReadings.{is-i64, is-empty}
+use Rattle.rust_scalar.specs.RustReadings.{is-ascii-digit, is-sign, digits-in, greatest-power, overflow-cutoff, check-from, u64-start, to-u64}
+use Rattle.rust_scalar.specs.RustReadings.{i64-start}
 use Rattle.rust_scalar.specs.RustReadings.{times-sign}
 use Rattle.rust_scalar.specs.RustReadings.{to-i64-t, to-i64}
 use Rattle.rust_scalar.specs.RustReadingsAlike.{rust-u64, rust-i64-part, rust-i64}
