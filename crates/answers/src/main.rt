@@ -274,6 +274,7 @@ fn answer_input(
     run(input, words, out);
 }
 
+// Records in, answers out, with arrays of the limits' lengths.
 fn main() {
     let mut input = [0u8; BLOCK];
     let mut words = [0u32; TAPE_WORDS];

@@ -116,7 +116,7 @@ pub record Run (stops : ℕ → Bool) (text : List ℕ) (at end : ℕ) : Type 0 
   pub halted : stops (getD text at 0) ≡ false → end < length text → stops (getD text end 0) ≡ true
 
 -- the head of the text from a place on is the byte there
-head-here : (text : List ℕ) (at : ℕ) → getD (drop at text) 0 0 ≡ getD text at 0
+pub head-here : (text : List ℕ) (at : ℕ) → getD (drop at text) 0 0 ≡ getD text at 0
 head-here text at = getD-drop at text 0 0 ∙ ap (λ (k : ℕ). getD text k 0) {x = at + 0} {y = at} (omega arith)
 
 -- the place after a run: the next one, or where the scan from its second byte on ends

@@ -167,8 +167,3 @@ quoted-bounds text at start end rest e = subst (View text at) e (view is-boundar
 pub scalar-cut-past : (text : List ℕ) (at : ℕ) → length text ≤ at → scalar-cut text at ≡ End
 unfolding scalar-cut
 scalar-cut-past text at h = cut-past is-boundary text at h
-
--- the cut by the thirteen bytes is the cut that a boundary byte stops, for the laws above
-pub scalar-cut-is : (text : List ℕ) (at : ℕ) → scalar-cut text at ≡ cut-of is-boundary text at
-unfolding scalar-cut
-scalar-cut-is text at = refl

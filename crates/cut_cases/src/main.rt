@@ -41,6 +41,7 @@ fn number(line: &[u8], at: usize) -> Spelt {
     Spelt { value, next: i }
 }
 
+// The byte that two hexadecimal digits spell.
 fn byte(high: u8, low: u8) -> u8 {
     digit(high) * 16 + digit(low)
 }
@@ -60,21 +61,25 @@ fn bytes(hex: &[u8], text: &mut [u8]) -> usize
     n
 }
 
+// All that is written goes through here.
 fn say(words: &[u8]) {
     io::write_all(STDOUT_FILENO, words);
 }
 
+// A number stands behind a space, so that a line needs no other.
 fn say_number(n: usize) {
     say(b" ");
     io::print_decimal(STDOUT_FILENO, n as u64);
 }
 
+// Where a scalar's view lies, and where the text goes on.
 fn say_view(start: usize, end: usize, rest: usize) {
     say_number(start);
     say_number(end);
     say_number(rest);
 }
 
+// What stands behind blanks and comments.
 fn say_blanks(text: &[u8], place: usize) {
     match cut::skip_ws_t(text, place) {
         Skipped::At(i) => {
@@ -85,6 +90,7 @@ fn say_blanks(text: &[u8], place: usize) {
     }
 }
 
+// Where a quoted run closes.
 fn say_quoted(text: &[u8]) {
     match cut::parse_quote_scalar(text) {
         Quoted::Closed { length } => {
@@ -95,6 +101,7 @@ fn say_quoted(text: &[u8]) {
     }
 }
 
+// The scalar at a place.
 fn say_scalar(text: &[u8], place: usize, classes: &[u8; data::BYTE_COUNT]) {
     match cut::scalar_at(text, place, classes) {
         Cut::Unquoted { start, end, rest } => {
@@ -153,6 +160,7 @@ fn line_end(input: &[u8], at: usize) -> usize
     i
 }
 
+// Each line of the input in turn.
 fn lines(input: &[u8], classes: &[u8; data::BYTE_COUNT]) {
     let mut i = 0;
     while i < input.len() {
@@ -162,6 +170,7 @@ fn lines(input: &[u8], classes: &[u8; data::BYTE_COUNT]) {
     }
 }
 
+// Cases in, the same cases with their answers out.
 fn main() {
     let mut input = io::large_buffer();
     let n = io::read_full(STDIN_FILENO, &mut input);

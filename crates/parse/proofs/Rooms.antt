@@ -16,9 +16,8 @@ use Rattle.tape.specs.Tape.{Room, holds, has-room}
 use Rattle.machine.specs.declared.Machine.{Machine}
 use Rattle.machine.specs.declared.Refusal.{Refusal}
 use Rattle.machine.specs.declared.Refusal.the-variants.{Full}
-use Rattle.machine.specs.Machine.{to}
 use Rattle.parse.specs.After.{After, next, done, refused}
-use Rattle.parse.specs.Parse.{turn, run, answer}
+use Rattle.parse.specs.Parse.{run, answer}
 use Rattle.parse.proofs.Runs.{run-done, run-refused, run-turn}
 use Rattle.parse.proofs.Moves.{Result, goes, ends, stops, on-tape, Unasked, Refuses, Came, Over, Turned, on-byte, at-end}
 use Rattle.parse.proofs.Moves as M

@@ -11,7 +11,6 @@ use Rattle.operator.specs.declared.Sighted as Signs
 use Rattle.tape.specs.declared.token.ContainerKind.{ContainerKind}
 use Rattle.tape.specs.declared.token.Container as Containers
 use Rattle.tape.specs.declared.token.Standing as Standings
-use Rattle.tape.specs.Tape.{Tape, Laying, laid, full}
 use Rattle.machine.specs.declared.State.{State}
 use Rattle.machine.specs.declared.State.the-variants.{Key, KeyValueSeparator, ObjectValue, ParseOpen, ArrayValue}
 use Rattle.machine.specs.declared.bytes.KeyByte as KeyBytes
@@ -46,10 +45,6 @@ by-standing Standings.the-variants.Unquoted f g h i = f refl
 by-standing Standings.the-variants.OtherScalar f g h i = g refl
 by-standing Standings.the-variants.End f g h i = h refl
 by-standing Standings.the-variants.Nothing f g h i = i refl
-
-pub by-laying : {P : Type 0} (x : Laying) → ((n : ℕ) (t : Tape) → x ≡ laid n t → P) → (x ≡ full → P) → P
-by-laying (laid n t) f g = f n t refl
-by-laying full f g = g refl
 
 pub by-state : {P : Type 0} (s : State) → (s ≡ Key → P) → (s ≡ KeyValueSeparator → P) → (s ≡ ObjectValue → P)
     → (s ≡ ParseOpen → P) → (s ≡ ArrayValue → P) → P

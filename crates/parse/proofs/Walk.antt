@@ -1,7 +1,7 @@
 -- One walk of the turns: whatever the room of the tape, a turn comes to one of the moves or refusals of Moves, laying down its tokens
 -- one by one where there is room. So what each move keeps is kept by every turn and every run.
 -- Assumes nothing.
-use mathlib.Core.Path.{_≡_, refl, _∙_, ap}
+use mathlib.Core.Path.{_≡_, _∙_, ap}
 use mathlib.Core.Bool.{true, false}
 use mathlib.Core.List.{List, [], _∷_, _++_}
 use Prim.Native.Nat.{ℕ, zero, suc, _+_, _-_, _<_}

@@ -6,7 +6,7 @@ use Rattle.tape.specs.declared.token.ContainerKind.{ContainerKind}
 use Rattle.tape.specs.declared.token.ContainerKind.the-variants.{Array, Object}
 use Rattle.tape.specs.Token.{opener-of, end-of}
 use Rattle.tape.specs.Tape.{Tape, replace, lay}
-use Rattle.machine.specs.declared.State.the-variants.{Key, ParseOpen}
+use Rattle.machine.specs.declared.State.the-variants.{ParseOpen}
 use Rattle.machine.specs.declared.Machine.{Machine}
 use Rattle.machine.specs.declared.Refusal.the-variants.{Eof}
 use Rattle.machine.specs.Machine.{is-key}

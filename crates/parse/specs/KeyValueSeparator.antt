@@ -10,7 +10,7 @@ use Rattle.operator.specs.declared.Sighted.the-variants.{Sign, Nothing}
 use Rattle.operator.specs.Operators.{number-of, is-equal, sighted}
 use Rattle.tape.specs.Token.{operator-of}
 use Rattle.tape.specs.Tape.{Tape, lay-mixed}
-use Rattle.machine.specs.declared.State.the-variants.{ObjectValue, ArrayValue}
+use Rattle.machine.specs.declared.State.the-variants.{ObjectValue}
 use Rattle.machine.specs.declared.Machine.{Machine}
 use Rattle.machine.specs.Machine.{byte-at, to, mixed-on}
 use Rattle.parse.specs.After.{After, next, or-full, lay-then}

@@ -29,14 +29,14 @@ use Rattle.parse.specs.ParseOpen.{flag-parent}
 use Rattle.parse.specs.Parse.{turn}
 use Rattle.parse.proofs.Splits.{by-container}
 use Rattle.parse.proofs.Moves.{Result, goes, ends, stops, token-in, container-in, unsettled, run-token, above, closed-as, flagged, Taken, unquoted, quoted}
-use Rattle.parse.proofs.Moves.{Named, defined, undefined, Asked, Valued, Takes, key, value, entry, Settles, with-key, with-entry, Asks, asks-key, asks-open}
-use Rattle.parse.proofs.Moves.{Bracketed, key-bracket, open-bracket, Unasked, lone, nameless, open-name, valueless, ScalarStands, Refuses, brace-ends}
+use Rattle.parse.proofs.Moves.{Named, defined, undefined, Takes, key, value, entry, Settles, with-key, with-entry, Asks, asks-key, asks-open}
+use Rattle.parse.proofs.Moves.{key-bracket, open-bracket, Unasked, lone, nameless, open-name, valueless, ScalarStands, Refuses, brace-ends}
 use Rattle.parse.proofs.Moves.{no-header, key-ends, value-ends, entry-ends, first-uncut, no-value, mixed-parameter, inner-ends, first-ends, stack-empty}
 use Rattle.parse.proofs.Moves.{unknown, marked-unknown, nothing-precedes, no-parameter, Came, passes, separates, takes, separates-by, operates}
 use Rattle.parse.proofs.Moves.{mixes, mixes-by}
 use Rattle.parse.proofs.Moves.{opens, heads, closes, empties, settles, begins, values, objects, refuses, Over, done-bare, done-closed, too-early, Turned}
 use Rattle.parse.proofs.Moves.{on-byte, at-end, taken-moves, name-run, value-run, value-rest}
-use Rattle.parse.proofs.Walk.{told, laying, turn-comes}
+use Rattle.parse.proofs.Walk.{told, turn-comes}
 use Rattle.cut.proofs.Blanks.{skip-lands}
 use Rattle.promises.specs.Mixed.{Mixes}
 use Rattle.promises.specs.Room.{tape-of, name-ended, parameter-lays, key-lays, is-cut, open-lays, is-scalar, value-lays, state-lays, turn-lays, and-one}

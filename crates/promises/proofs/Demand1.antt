@@ -6,7 +6,7 @@ use mathlib.Core.List.{List}
 use Prim.Native.Nat.{ℕ, _-_, _≤_}
 use native.Mathlib.Omega.{arith}
 use lib.Dec.{ltb}
-use lib.ListN.{length, replicate, length-replicate}
+use lib.ListN.{length, replicate}
 use lib.Seq.{drop-at}
 use Rattle.data.proofs.Cases.{by-bool}
 use Rattle.tape.specs.declared.token.Token.{Token}
@@ -56,11 +56,7 @@ parse-left text len =
     (λ e. rw (parse-within text len e)
     (answer-left (has-bom text) len (run-in (holds (capacity len)) text) (run-fits text (capacity len))))
 
--- a refusal, whichever, leaves as many words as were lent, and each is zero
-pub refusal-zeroes : (text : List ℕ) (len : ℕ) (r : Refusal) (ws : List ℕ) → outcome (Refused r) ws ≡ parse-of text len → ws ≡ replicate len 0
-refusal-zeroes text len r ws e = rw (← e) at (parse-left text len)
-
--- and a success leaves every word past its tokens zero
+-- a success leaves every word past its tokens zero
 pub success-zeroes-past : (text : List ℕ) (len n : ℕ) (bom : Bool) (ws : List ℕ) → outcome (Tokens n bom) ws ≡ parse-of text len → Laid-out len n ws
 success-zeroes-past text len n bom ws e = rw (← e) at (parse-left text len)
 

@@ -1,17 +1,16 @@
 -- What is promised of mixed: where it is in force, where its mark stands on a finished tape, and that the flag which brings it back
 -- is stored.
 -- Assumes nothing.
-use mathlib.Core.Path.{_≡_, refl, sym, _∙_, subst}
+use mathlib.Core.Path.{_≡_, refl, sym, subst}
 use mathlib.Core.Bool.{Bool}
 use mathlib.Core.List.{List, [], _∷_, _++_}
 use Prim.Native.Nat.{ℕ, _*_, _≤_, _<_}
 use native.Mathlib.Omega.{arith}
 use borrow.Author.Tests.{ltb-true, ltb-false}
 use lib.Dec.{ltb}
-use lib.ListN.{length, List·getD-eq-default}
+use lib.ListN.{length}
 use Rattle.data.proofs.Cases.{by-bool}
 use Rattle.tape.specs.declared.token.Token.{Token}
-use Rattle.tape.specs.Token.{no-token, end-of}
 use Rattle.tape.specs.Words.{tokens-in}
 use Rattle.tape.proofs.Shapes.{opens-link, end-link, link-made}
 use Rattle.sheet.specs.Sound.{nth}
@@ -29,7 +28,7 @@ use Rattle.promises.specs.Mixed.{Mixing, Marked, Flags}
 use Rattle.promises.specs.Reached.{Reached}
 use Rattle.promises.proofs.Alike.{in-room, Known}
 use Rattle.promises.proofs.Room.{laid-in-turns, turns-alike}
-use Rattle.promises.proofs.Links.Nest.{by-equal, by-below}
+use Rattle.promises.proofs.Links.Nest.{by-equal}
 use Rattle.promises.proofs.Links.Rows.{add-new, add-same}
 use Rattle.promises.proofs.Links.Flags.{codes-differ, coded-below, flags-add}
 use Rattle.promises.proofs.Links.Kept.{Kept}

@@ -8,7 +8,7 @@ use Prim.Native.Nat.{ℕ, zero, suc, _+_, _*_, _≤_, _<_}
 use native.Mathlib.Omega.{arith}
 use borrow.Author.Tests.{ltb-true, ltb-false}
 use lib.Dec.{ltb}
-use lib.ListN.{length, replicate, length-replicate}
+use lib.ListN.{length}
 use Rattle.data.proofs.Cases.{by-bool}
 use Rattle.tape.specs.Words.{capacity}
 use Rattle.tape.specs.Tape.{Tape, holds, unbounded}
@@ -186,22 +186,6 @@ run-fits text k =
     (λ e. rw (a .full (omega arith) (ltb-true _ _ e)) tt)
     (λ e. let fit : laid-run text ≤ k = ltb-false _ _ e in
     rw (a .fits fit) (done-counted text (2 * length text) k (laid-run text) (run-in unbounded text) (a .known) (a .told) fit))
-
--- what a success has counted is what was laid down, so that a tape with room for just that many is enough
-pub count-laid : (text : List ℕ) (len n : ℕ) (bom : Bool) (ws : List ℕ) → outcome (Tokens n bom) ws ≡ unbounded-parse text len
-    → laid-down text ≡ n
-count-laid text len n bom ws e =
-    by-bool (ltb text-limit (length text))
-    (λ f. let g : outcome (Tokens n bom) ws ≡ refuse len TooLong = e ∙ unbounded-over text len f in
-    let no : _≡_ {A = ℕ} 0 1 = cc in
-    absurd (omega arith))
-    (λ f. laid-within text f ∙ sym (run-alike text 0 .told)
-    ∙ count-told (has-bom text) len n (laid-run text) bom ws (run-in unbounded text) (e ∙ unbounded-within text len f))
-  where
-    count-told : (has : Bool) (len n w : ℕ) (bom : Bool) (ws : List ℕ) (x : After) → outcome (Tokens n bom) ws ≡ answer has len x → laid-by w x ≡ n
-    count-told has len n w bom ws (next m t) e = let no : _≡_ {A = ℕ} 0 1 = cc in absurd (omega arith)
-    count-told has len n w bom ws (done j t) e = cc
-    count-told has len n w bom ws (refused r) e = let no : _≡_ {A = ℕ} 0 1 = cc in absurd (omega arith)
 
 -- what is refused, and for another reason than room
 abbrev Other-than-full : Outcome → Type 0

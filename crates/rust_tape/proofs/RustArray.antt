@@ -1,14 +1,15 @@
 -- The Rust's turn in ArrayValue is ours.
 -- Assumes nothing.
 use Prim.Native.Nat.{ℕ, _+_, _-_, _≤_, _<_}
-use mathlib.Core.Path.{_≡_, refl, sym, _∙_, ap}
-use mathlib.Core.Bool.{Bool, true, false, _&&_, false≢true}
-use mathlib.Core.List.{List, [], _∷_, _++_}
-use mathlib.Core.Option.{Option, none, some}
+use mathlib.Core.Path.{_≡_, refl}
+use mathlib.Core.Bool.{true, false, false≢true}
+use mathlib.Core.List.{List, [], _∷_}
+use mathlib.Core.Option.{some}
 use native.Mathlib.Omega.{arith}
 use borrow.Author.Tests.{eqb-true}
 use lib.Dec.{eqb}
 use lib.ListN.{length, drop, set}
+use Rattle.cut.proofs.Runs.{head-here}
 use Rattle.data.proofs.Cases.{by-bool}
 use Rattle.data.specs.Bytes.{exclamation, less-than, equals, greater-than, brace-open, brace-close}
 use Rattle.data.specs.Classes.{among}
@@ -16,11 +17,9 @@ use Rattle.operator.specs.declared.Operator as Ours
 use Rattle.operator.specs.declared.Sighted as Signs
 use Rattle.operator.specs.Operators.{number-of, sighted}
 use Rattle.tape.specs.declared.token.Token.{Token}
-use Rattle.tape.specs.declared.token.ContainerKind.{ContainerKind}
 use Rattle.tape.specs.declared.token.ContainerKind.the-variants.{Array}
 use Rattle.tape.specs.declared.token.Container as Containers
-use Rattle.tape.specs.declared.token.Standing as Standings
-use Rattle.tape.specs.Token.{mixed-container-token, opener-of, operator-of, end-of, container-of, standing-of}
+use Rattle.tape.specs.Token.{mixed-container-token, opener-of, operator-of, container-of, standing-of}
 use Rattle.tape.specs.Tape.{Tape, unbounded, token-at, replace, add, before-last, add-before-last, lay, lay-mixed}
 use Rattle.sheet.specs.Sound.{nth}
 use Rattle.machine.specs.declared.State.the-variants.{ArrayValue}
@@ -35,11 +34,11 @@ use Rattle.machine.specs.Bytes.{begins-operator, value-byte}
 use Rattle.parse.specs.ArrayValue.{array-close, operator-then, after-end, unmixed-operator, array-operator, array-value-turn}
 use Rattle.promises.specs.Room.{tape-of, is-scalar, value-lays, and-one}
 use Rattle.rust_tape.specs.RustTape as Rust
-use Rattle.rust_tape.specs.RustTape.{Parser, Flow, TextToken}
+use Rattle.rust_tape.specs.RustTape.{Parser, TextToken}
 use Rattle.rust_tape.specs.RustDomain.{array-runs, Each}
 use Rattle.promises.proofs.Alike.{mixed-sized}
 use Rattle.promises.proofs.Links.Kept.{Kept}
-use Rattle.rust_tape.proofs.RustParts.{byte-there, byte-next, minus-there, index-there, slice-there, offset-there}
+use Rattle.rust_tape.proofs.RustParts.{byte-next, minus-there, index-there, slice-there, offset-there}
 use Rattle.rust_tape.proofs.RustReads.{rust-tape, opener-as, tape-length, laid-opener}
 use Rattle.rust_tape.proofs.RustReads.{laid-end, laid-operator, changed-opener, insert-read, assign-there}
 use Rattle.rust_tape.proofs.RustReads.{container-read, mode-same, state-same, kind-same, by-stands, parent-within, end-opens}
@@ -67,7 +66,7 @@ operator-same text ts m sized here past in-array begins =
     let b : ℕ = byte-at text (m .at) in
     let c : ℕ = byte-at text (m .at + 1) in
     let one : Rust.slice-from (drop (m .at) text) 1 ≡ some (drop (m .at + 1) text) = slice-there text (m .at) 1 (omega arith) in
-    rw (byte-there text (m .at), byte-next text (m .at) 1, operator-two text (tape-of unbounded ts) m)
+    rw (head-here text (m .at), byte-next text (m .at) 1, operator-two text (tape-of unbounded ts) m)
     (by-bool (eqb c equals)
     (λ g.
     let z : c ≡ equals = eqb-true c equals g in

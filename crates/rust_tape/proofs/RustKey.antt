@@ -1,10 +1,10 @@
 -- The Rust's turn in Key is ours, and so is the text's end.
 -- Assumes nothing.
 use Prim.Native.Nat.{ℕ, _+_, _-_, _≤_, _<_}
-use mathlib.Core.Path.{_≡_, refl, sym, _∙_, ap}
-use mathlib.Core.Bool.{Bool, true, false, _&&_}
-use mathlib.Core.List.{List, [], _∷_, _++_}
-use mathlib.Core.Option.{Option, none, some}
+use mathlib.Core.Path.{_≡_, refl, _∙_, ap}
+use mathlib.Core.Bool.{Bool, false, _&&_}
+use mathlib.Core.List.{List, [], _∷_}
+use mathlib.Core.Option.{some}
 use native.Mathlib.Omega.{arith}
 use lib.Dec.{eqb}
 use lib.ListN.{length, drop, set, length-append}
@@ -14,10 +14,8 @@ use Rattle.data.specs.Bytes.{bracket-open, bracket-close, brace-open, brace-clo
 use Rattle.cut.specs.Blanks.{skip-ws}
 use Rattle.cut.proofs.Blanks.{skip-lands}
 use Rattle.tape.specs.declared.token.Token.{Token}
-use Rattle.tape.specs.declared.token.ContainerKind.{ContainerKind}
 use Rattle.tape.specs.declared.token.ContainerKind.the-variants.{Array, Object}
-use Rattle.tape.specs.declared.token.Container as Containers
-use Rattle.tape.specs.Token.{opener-of, end-of, headed, container-of}
+use Rattle.tape.specs.Token.{opener-of, headed, container-of}
 use Rattle.tape.specs.Tape.{Tape, unbounded, token-at, replace, add, lay}
 use Rattle.sheet.specs.Sound.{nth}
 use Rattle.machine.specs.declared.State.the-variants.{Key, KeyValueSeparator}
@@ -31,7 +29,7 @@ use Rattle.parse.specs.Key.{key-close, open-header, key-header, key-brace, key-
 use Rattle.parse.proofs.Splits.{by-skipped, by-state}
 use Rattle.promises.specs.Room.{tape-of, key-lays, and-one}
 use Rattle.rust_tape.specs.RustTape as Rust
-use Rattle.rust_tape.specs.RustTape.{Parser, Flow, TextToken}
+use Rattle.rust_tape.specs.RustTape.{Parser, TextToken}
 use Rattle.rust_tape.specs.RustDomain.{key-runs, Each}
 use Rattle.promises.proofs.Links.Kept.{Kept}
 use Rattle.rust_tape.proofs.RustParts.{index-there, slice-there, offset-there, skip-same}

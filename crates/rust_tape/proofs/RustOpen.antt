@@ -4,7 +4,7 @@ use Prim.Native.Nat.{ℕ, _+_, _-_, _≤_, _<_}
 use mathlib.Core.Path.{_≡_, refl, sym, _∙_, ap}
 use mathlib.Core.Bool.{Bool, true, false}
 use mathlib.Core.List.{List, [], _∷_, _++_}
-use mathlib.Core.Option.{Option, none, some}
+use mathlib.Core.Option.{some}
 use native.Mathlib.Omega.{arith}
 use lib.Dec.{eqb}
 use lib.ListN.{length, drop, set, length-set}
@@ -18,7 +18,7 @@ use Rattle.tape.specs.declared.token.Token.{Token}
 use Rattle.tape.specs.declared.token.ContainerKind.the-variants.{Array, Object}
 use Rattle.tape.specs.declared.token.ScalarKind.the-variants.{Unquoted, Quoted}
 use Rattle.tape.specs.declared.token.Container as Containers
-use Rattle.tape.specs.Token.{opener-of, end-of, scalar-of, container-of}
+use Rattle.tape.specs.Token.{opener-of, scalar-of, container-of}
 use Rattle.tape.specs.Tape.{Tape, unbounded, token-at, replace, add, lay}
 use Rattle.sheet.specs.Sound.{nth}
 use Rattle.machine.specs.declared.State.the-variants.{ParseOpen}

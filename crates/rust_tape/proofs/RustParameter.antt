@@ -2,9 +2,9 @@
 -- Assumes nothing.
 use Prim.Native.Nat.{ℕ, _+_, _-_, _≤_, _<_}
 use mathlib.Core.Path.{_≡_, refl, sym, _∙_, ap}
-use mathlib.Core.Bool.{Bool, true, false, _&&_}
+use mathlib.Core.Bool.{Bool, true, false}
 use mathlib.Core.List.{List, [], _∷_, _++_}
-use mathlib.Core.Option.{Option, none, some}
+use mathlib.Core.Option.{some}
 use native.Mathlib.Omega.{arith}
 use borrow.Author.Tests.{eqb-true, ltb-true, ltb-false, le-ltb, eq-eqb, ne-eqb}
 use lib.Dec.{eqb, ltb}
@@ -21,7 +21,7 @@ use Rattle.tape.specs.declared.token.ContainerKind.the-variants.{Object}
 use Rattle.tape.specs.declared.token.ScalarKind.{ScalarKind}
 use Rattle.tape.specs.declared.token.ScalarKind.the-variants.{Unquoted, Parameter, UndefinedParameter}
 use Rattle.tape.specs.Token.{opener-of, scalar-of}
-use Rattle.tape.specs.Tape.{Tape, unbounded, add, lay}
+use Rattle.tape.specs.Tape.{unbounded, add, lay}
 use Rattle.machine.specs.declared.State.the-variants.{Key}
 use Rattle.machine.specs.declared.Machine.{Machine}
 use Rattle.machine.specs.Machine.{byte-at, to}

@@ -3,13 +3,12 @@
 use Prim.Native.Nat.{ℕ, zero, suc, _+_, _-_, _*_, _≤_, _<_}
 use mathlib.Core.Path.{_≡_, refl, sym, _∙_, ap, subst}
 use mathlib.Core.Bool.{Bool, true, false, _&&_, false≢true}
-use mathlib.Core.List.{List, [], _∷_, _++_}
-use mathlib.Core.Option.{Option, none, some}
+use mathlib.Core.List.{List, []}
 use native.Mathlib.Nat.{zero-add, suc-add}
 use native.Mathlib.Omega.{arith}
 use borrow.Author.Tests.{eqb-true, le-ltb}
-use lib.Dec.{eqb, ltb}
-use lib.ListN.{length, drop, replicate}
+use lib.Dec.{eqb}
+use lib.ListN.{length, replicate}
 use Rattle.data.proofs.Cases.{by-bool}
 use Rattle.cut.specs.Blanks.{skip-ws}
 use Rattle.cut.proofs.Blanks.{skip-lands}
@@ -35,7 +34,7 @@ use Rattle.promises.specs.Mixed.{Mixes}
 use Rattle.promises.specs.Room.{tape-of, after-turns, run-in, unbounded-parse, state-lays, turn-lays, and-one, laid-by, laid-in, laid-down}
 use Rattle.rust_tape.specs.RustTape as Rust
 use Rattle.rust_tape.specs.RustTape.{Parser, Flow, TextToken, ErrorKind, rust-turn, rust-loop, rust-turns, rust-parse}
-use Rattle.rust_tape.specs.RustDomain.{key-runs, object-runs, open-runs, array-runs, state-runs, turn-runs, Each, Along, Domain}
+use Rattle.rust_tape.specs.RustDomain.{key-runs, object-runs, open-runs, array-runs, state-runs, turn-runs, Each, Along}
 use Rattle.rust_tape.specs.AsRust.{as-rust, answered, rust-answer}
 use Rattle.rust_tape.specs.Demand2.{Spoken-of, Returned, Never-taken, Rust-runs}
 use Rattle.promises.proofs.Alike.{Going, Known}
@@ -47,7 +46,7 @@ use Rattle.promises.proofs.Links.Held.{Held, Shaped, All, unsettled}
 use Rattle.promises.proofs.Links.Turns.{turn-held}
 use Rattle.promises.proofs.Links.Parse.{run-from-start}
 use Rattle.rust_tape.proofs.RustParts.{slice-there, skip-same}
-use Rattle.rust_tape.proofs.RustReads.{rust-tape, as-state, as-container, tape-length, container-read, forms-read, top-nothing, end-last}
+use Rattle.rust_tape.proofs.RustReads.{as-state, as-container, tape-length, container-read, forms-read, top-nothing, end-last}
 use Rattle.rust_tape.proofs.RustTurns.{parser-of, Same, byte-stands, separator-same, object-value-same}
 use Rattle.rust_tape.proofs.RustKey.{key-same, end-same}
 use Rattle.rust_tape.proofs.RustOpen.{parse-open-same}

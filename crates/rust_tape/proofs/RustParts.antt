@@ -1,18 +1,18 @@
 -- The rest of the text that the Rust goes by, and the place in it that we go by: bytes, blanks, runs and scalars are the same, and no slice of it panics.
 -- Assumes nothing.
-use Prim.Native.Nat.{ℕ, zero, suc, _+_, _-_, _≤_, _<_}
-use mathlib.Core.Path.{_≡_, refl, sym, _∙_, ap}
-use mathlib.Core.Bool.{Bool, true, false, false≢true}
-use mathlib.Core.List.{List, [], _∷_, _++_}
+use Prim.Native.Nat.{ℕ, _+_, _-_, _≤_, _<_}
+use mathlib.Core.Path.{_≡_, refl, _∙_, ap}
+use mathlib.Core.Bool.{Bool, true, false}
+use mathlib.Core.List.{List, [], _∷_}
 use mathlib.Core.Option.{Option, none, some}
-use native.Mathlib.Nat.{zero-add, add-zero}
+use native.Mathlib.Nat.{zero-add}
 use native.Mathlib.Omega.{arith}
 use borrow.Author.Tests.{eqb-true, eqb-false, ltb-true, ltb-false, lt-ltb, le-ltb}
 use lib.Dec.{eqb, ltb}
 use lib.ListN.{length, getD, drop, length-drop}
 use lib.Seq.{getD-drop, drop-drop}
 use Rattle.data.proofs.Cases.{by-bool}
-use Rattle.data.specs.Bytes.{line-feed, hash, quote, at-sign, bracket-open, bracket-close}
+use Rattle.data.specs.Bytes.{line-feed, hash, quote, at-sign, bracket-open}
 use Rattle.data.specs.Classes.{is-boundary}
 use Rattle.cut.specs.declared.Skipped.{Skipped}
 use Rattle.cut.specs.declared.Skipped.the-variants.{At, End}
@@ -23,18 +23,15 @@ use Rattle.cut.specs.Runs.{stop-from, run-end}
 use Rattle.cut.specs.Quotes.{quoted-run}
 use Rattle.cut.specs.Scalars.{closes-bracket, bracket-run, opens-variable, variable-cut, scalar-cut}
 use Rattle.cut.proofs.Quotes.{quoted-run-closes}
-use Rattle.cut.proofs.Runs.{run-end-run}
+use Rattle.cut.proofs.Runs.{head-here, run-end-run}
 use Rattle.cut.proofs.Scalars.{opens-not, opens-next, cut-quoted, cut-variable, cut-run}
-use Rattle.rust_tape.specs.RustCuts.{forward-search, split-at-scalar, parse-quote-scalar}
+use Rattle.rust_tape.specs.RustCuts.{forward-search, split-at-scalar}
 use Rattle.rust_tape.specs.RustTape as Rust
 use Rattle.rust_tape.specs.RustTape.{TextToken, Flow}
 use Rattle.rust_tape.specs.RustDomain.{In-domain, scalar-runs, Each}
 use Rattle.rust_tape.proofs.Domain.{as-found, unquoted-end-alike, quoted-end-alike}
 
 -- ---- bytes
-pub byte-there : (text : List ℕ) (at : ℕ) → getD (drop at text) 0 0 ≡ getD text at 0
-byte-there text at = getD-drop at text 0 0 ∙ ap (λ (k : ℕ). getD text k 0) (add-zero at)
-
 pub byte-next : (text : List ℕ) (at i : ℕ) → getD (drop at text) i 0 ≡ getD text (at + i) 0
 byte-next text at i = getD-drop at text i 0
 
@@ -43,7 +40,7 @@ part-next text at i = drop-drop i at text
 
 -- so a test of a part is one of the text
 pub test-there : (text : List ℕ) (at : ℕ) (b : ℕ) → Rust.has (drop at text) 0 b ≡ eqb (getD text at 0) b
-test-there text at b = ap (λ (x : ℕ). eqb x b) (byte-there text at)
+test-there text at b = ap (λ (x : ℕ). eqb x b) (head-here text at)
 
 pub test-next : (text : List ℕ) (at i : ℕ) (b : ℕ) → Rust.has (drop at text) i b ≡ eqb (getD text (at + i) 0) b
 test-next text at i b = ap (λ (x : ℕ). eqb x b) (byte-next text at i)
@@ -57,7 +54,7 @@ pub index-there : (text : List ℕ) (at : ℕ) → at < length text → Rust.ind
 unfolding Rust.index
 index-there text at h =
     let some-bytes : 0 < length (drop at text) = rw length-drop (omega arith) in
-    rw (Rust.index, lt-ltb 0 (length (drop at text)) some-bytes, byte-there text at)
+    rw (Rust.index, lt-ltb 0 (length (drop at text)) some-bytes, head-here text at)
 
 pub slice-there : (text : List ℕ) (at i : ℕ) → at + i ≤ length text → Rust.slice-from (drop at text) i ≡ some (drop (at + i) text)
 unfolding Rust.slice-from

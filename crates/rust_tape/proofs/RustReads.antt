@@ -7,7 +7,7 @@ use mathlib.Core.List.{List, [], _∷_, _++_, map}
 use mathlib.Core.Option.{Option, none, some, Option·getD}
 use native.Mathlib.Omega.{arith}
 use borrow.Author.Tests.{eqb-true, eqb-false, lt-ltb, le-ltb}
-use lib.Dec.{eqb, ltb}
+use lib.Dec.{eqb}
 use lib.ListN.{length, getD, take, drop, set, length-map, List·getD-map, List·getD-eq-default}
 use Rattle.data.proofs.Cases.{by-bool}
 use Rattle.tape.specs.declared.token.Token.{Token}
@@ -107,10 +107,6 @@ operator-read Ours.the-variants.Exists = refl
 pub end-read : (opener : ℕ) → token-as-rust (end-of opener) ≡ some (Rust.End opener)
 unfolding token-as-rust
 end-read opener = refl
-
-pub mixed-read : token-as-rust mixed-container-token ≡ some Rust.MixedContainer
-unfolding token-as-rust
-mixed-read = refl
 
 -- ---- what a list of tokens becomes
 pub tape-length : (ts : List Token) (n : ℕ) → length ts ≡ n → length (rust-tape ts) ≡ n

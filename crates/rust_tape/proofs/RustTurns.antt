@@ -1,32 +1,30 @@
 -- What it is that a turn of the Rust's loop is ours; and the turns in KeyValueSeparator and ObjectValue.
 -- Assumes nothing.
-use Prim.Native.Nat.{ℕ, zero, suc, _+_, _-_, _≤_, _<_}
-use mathlib.Core.Path.{_≡_, refl, sym, _∙_, ap}
-use mathlib.Core.Bool.{Bool, true, false, _&&_}
-use mathlib.Core.List.{List, [], _∷_, _++_}
-use mathlib.Core.Option.{Option, none, some}
+use Prim.Native.Nat.{ℕ, _+_, _-_, _≤_, _<_}
+use mathlib.Core.Path.{_≡_, refl, sym, _∙_}
+use mathlib.Core.Bool.{true, false}
+use mathlib.Core.List.{List}
+use mathlib.Core.Option.{some}
 use native.Mathlib.Omega.{arith}
-use borrow.Author.Tests.{eqb-true, eqb-false, ltb-true, ltb-false}
+use borrow.Author.Tests.{eqb-true, ltb-true, ltb-false}
 use lib.Dec.{eqb, ltb}
-use lib.ListN.{length, getD, drop, List·getD-eq-default}
+use lib.ListN.{length, drop, List·getD-eq-default}
 use Rattle.data.proofs.Cases.{by-bool}
 use Rattle.data.specs.Bytes.{exclamation, less-than, equals, greater-than, question, brace-open, brace-close}
+use Rattle.cut.proofs.Runs.{head-here}
 use Rattle.cut.specs.Scalars.{scalar-cut}
 use Rattle.operator.specs.declared.Operator as Ours
 use Rattle.operator.specs.declared.Sighted as Signs
-use Rattle.operator.specs.Operators.{number-of, sighted}
+use Rattle.operator.specs.Operators.{sighted}
 use Rattle.tape.specs.declared.token.Token.{Token}
 use Rattle.tape.specs.declared.token.ContainerKind.the-variants.{Array}
 use Rattle.tape.specs.declared.token.ScalarKind.the-variants.{Unquoted, Quoted}
-use Rattle.tape.specs.Token.{mixed-container-token}
-use Rattle.tape.specs.Tape.{Tape, unbounded, add, before-last, add-before-last, lay, lay-mixed}
+use Rattle.tape.specs.Tape.{Tape, unbounded, add, add-before-last, lay, lay-mixed}
 use Rattle.machine.specs.declared.State.{State}
-use Rattle.machine.specs.declared.State.the-variants.{Key, KeyValueSeparator, ObjectValue, ParseOpen, ArrayValue}
+use Rattle.machine.specs.declared.State.the-variants.{Key, ObjectValue}
 use Rattle.machine.specs.declared.Machine.{Machine}
-use Rattle.machine.specs.declared.Refusal.{Refusal}
-use Rattle.machine.specs.declared.Refusal.the-variants.{NoValue}
 use Rattle.machine.specs.Refusals.{number, place}
-use Rattle.machine.specs.Machine.{byte-at, to, mixed-on}
+use Rattle.machine.specs.Machine.{byte-at, to}
 use Rattle.parse.specs.After.{After, next, done, refused, lay-then}
 use Rattle.parse.specs.Scalars.{scalar-then}
 use Rattle.parse.specs.Containers.{open-then}
@@ -38,7 +36,7 @@ use Rattle.rust_tape.specs.RustTape as Rust
 use Rattle.rust_tape.specs.RustTape.{Parser, Flow, TextToken}
 use Rattle.rust_tape.specs.RustDomain.{scalar-runs, object-runs, Each}
 use Rattle.rust_tape.specs.AsRust.{error-number, error-place}
-use Rattle.rust_tape.proofs.RustParts.{byte-there, byte-next, minus-there, index-there, slice-there, offset-there, taken-by, any-same}
+use Rattle.rust_tape.proofs.RustParts.{byte-next, minus-there, index-there, slice-there, offset-there, any-same}
 use Rattle.rust_tape.proofs.RustReads.{rust-tape, as-state, tape-length, laid-scalar, laid-opener, laid-operator, insert-read}
 
 -- a machine and its tokens as the Rust has them
@@ -122,7 +120,7 @@ module _ (text : List ℕ) (ts : List Token) (m : Machine) (sized : length ts �
       let b : ℕ = byte-at text (m .at) in
       let c : ℕ = byte-at text (m .at + 1) in
       let one : Rust.slice-from there 1 ≡ some (drop (m .at + 1) text) = slice-there text (m .at) 1 (omega arith) in
-      rw (byte-there text (m .at), byte-next text (m .at) 1, separator-two text tape m)
+      rw (head-here text (m .at), byte-next text (m .at) 1, separator-two text tape m)
       (by-bool (eqb c equals)
       (λ g.
       let z : c ≡ equals = eqb-true c equals g in

@@ -10,7 +10,7 @@ use Rattle.tape.specs.Token.{unquoted-code, quoted-code, parameter-code, undefi
 use Rattle.tape.specs.Words.{tokens-in}
 use Rattle.parse.specs.Told.{ParseTold, parse-told}
 use Rattle.rust_tape.specs.RustTape as Rust
-use Rattle.rust_tape.specs.RustTape.{Operator, Variant, TextToken, ErrorKind, Message, Flow, Arm, _⇒_, arms, utf8-bom, rust-parse}
+use Rattle.rust_tape.specs.RustTape.{TextToken, ErrorKind, Message, Flow, _⇒_, arms, utf8-bom, rust-parse}
 
 -- ---- a token
 -- an operator by its number

@@ -10,7 +10,7 @@ use Rattle.tape.specs.Words.{capacity}
 use Rattle.machine.specs.declared.Refusal.the-variants.{Full}
 use Rattle.machine.specs.Refusals.{number}
 use Rattle.parse.specs.Parse.{text-limit}
-use Rattle.parse.specs.Told.{ParseTold, parse-told, tell-parse}
+use Rattle.parse.specs.Told.{ParseTold, tell-parse}
 use Rattle.promises.specs.Room.{unbounded-parse, laid-down}
 use Rattle.promises.specs.Room.{refusal-told}
 use Rattle.rust_tape.specs.RustTape as Rust

@@ -13,7 +13,7 @@ use Rattle.cut.specs.declared.Skipped.the-variants.{At, End}
 use Rattle.cut.specs.Blanks.{skip-ws}
 use Rattle.cut.specs.Runs.{unquoted-run, run-end}
 use Rattle.cut.specs.Scalars.{opens-variable}
-use Rattle.tape.specs.Tape.{Tape, unbounded}
+use Rattle.tape.specs.Tape.{unbounded}
 use Rattle.machine.specs.declared.State.the-variants.{Key, KeyValueSeparator, ObjectValue, ParseOpen, ArrayValue}
 use Rattle.machine.specs.declared.Machine.{Machine}
 use Rattle.machine.specs.declared.bytes.KeyByte as KeyByte

@@ -37,19 +37,19 @@ unfolding token-in
 read-link ws n i e f g = ap link-of (sym e) ∙ sym f ∙ g
 
 -- ---- no token names in two ways
-end-not-none : {l : Link} {end : ℕ} → l ≡ ToEnd end → l ≡ Link.Nothing → ⊥
+pub end-not-none : {l : Link} {end : ℕ} → l ≡ ToEnd end → l ≡ Link.Nothing → ⊥
 end-not-none e f = let z : _≡_ {A = ℕ} 0 1 = cc in omega arith
 
-opener-not-none : {l : Link} {opener : ℕ} → l ≡ ToOpener opener → l ≡ Link.Nothing → ⊥
+pub opener-not-none : {l : Link} {opener : ℕ} → l ≡ ToOpener opener → l ≡ Link.Nothing → ⊥
 opener-not-none e f = let z : _≡_ {A = ℕ} 0 1 = cc in omega arith
 
-end-not-opener : {l : Link} {end opener : ℕ} → l ≡ ToEnd end → l ≡ ToOpener opener → ⊥
+pub end-not-opener : {l : Link} {end opener : ℕ} → l ≡ ToEnd end → l ≡ ToOpener opener → ⊥
 end-not-opener e f = let z : _≡_ {A = ℕ} 0 1 = cc in omega arith
 
-same-end : {l : Link} {a b : ℕ} → l ≡ ToEnd a → l ≡ ToEnd b → a ≡ b
+pub same-end : {l : Link} {a b : ℕ} → l ≡ ToEnd a → l ≡ ToEnd b → a ≡ b
 same-end e f = cc
 
-same-opener : {l : Link} {a b : ℕ} → l ≡ ToOpener a → l ≡ ToOpener b → a ≡ b
+pub same-opener : {l : Link} {a b : ℕ} → l ≡ ToOpener a → l ≡ ToOpener b → a ≡ b
 same-opener e f = cc
 
 -- a container has one End

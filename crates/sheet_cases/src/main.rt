@@ -138,6 +138,7 @@ fn run_all(input: &[u8]) {
     }
 }
 
+// Cases in, a line for each out.
 fn main() {
     let mut input = io::large_buffer();
     let n = io::read_full(0, &mut input);

@@ -13,14 +13,13 @@ use Rattle.tape.specs.declared.token.ContainerKind.{ContainerKind}
 use Rattle.tape.specs.declared.token.ContainerKind.the-variants.{Array, Object}
 use Rattle.tape.specs.declared.token.ScalarKind.{ScalarKind}
 use Rattle.tape.specs.declared.token.ScalarKind.the-variants.{Unquoted, Quoted, Parameter, UndefinedParameter, Header}
-use Rattle.tape.specs.declared.token.ScalarNamed.{ScalarNamed}
 use Rattle.tape.specs.declared.token.ScalarNamed.the-variants.{Kind}
 use Rattle.tape.specs.declared.token.Container.{Container}
 use Rattle.tape.specs.declared.token.Container.the-variants.{Opened}
 use Rattle.tape.specs.declared.token.Standing as Standings
-use Rattle.tape.specs.Token.{unquoted-code, end-code, header-code, container-code}
-use Rattle.tape.specs.Token.{scalar-code, scalar-named, names-scalar, is-scalar-code, may-be-empty, is-header}
-use Rattle.tape.specs.Token.{relink, relinked, reflag, reflagged, rekind, rekinded}
+use Rattle.tape.specs.Token.{unquoted-code, end-code, header-code}
+use Rattle.tape.specs.Token.{scalar-code, scalar-named, names-scalar, is-scalar-code, is-header}
+use Rattle.tape.specs.Token.{relinked, reflagged, rekinded}
 use Rattle.tape.specs.Token.{opener-of, end-of, scalar-of, operator-of, mixed-container-token, no-token, container-of, standing-of}
 
 -- ---- the codes of scalars
@@ -38,11 +37,6 @@ pub scalar-coded : (kind : ScalarKind) → is-scalar-code (scalar-code kind) ≡
 scalar-coded kind = ap names-scalar (code-names kind)
 
 -- and no other token has such a code
-pub container-uncoded : (kind : ContainerKind) → is-scalar-code (container-code kind) ≡ false
-unfolding scalar-named
-container-uncoded Array = refl
-container-uncoded Object = refl
-
 pub mixed-container-uncoded : is-scalar-code (mixed-container-token .code) ≡ false
 unfolding scalar-named
 mixed-container-uncoded = refl
@@ -58,21 +52,6 @@ end-uncoded opener = refl
 pub none-uncoded : is-scalar-code (no-token .code) ≡ false
 unfolding scalar-named
 none-uncoded = refl
-
--- so a scalar is none of these
-pub scalar-apart : (kind : ScalarKind) (offset size : ℕ) (t : Token) → is-scalar-code (t .code) ≡ false → t ≡ scalar-of kind offset size → ⊥
-scalar-apart kind offset size t other e = false≢true (sym-coded ∙ scalar-coded kind)
-  where
-    sym-coded : false ≡ is-scalar-code (scalar-code kind)
-    sym-coded = let same : t .code ≡ scalar-code kind = ap (λ (x : Token). x .code) e in cc
-
--- what may not be empty has a byte: a kind that may, and no Header
-pub header-not-empty : (kind : ScalarKind) → is-header kind ≡ true → may-be-empty kind ≡ false
-header-not-empty Unquoted h = refl
-header-not-empty Quoted h = absurd (false≢true h)
-header-not-empty Parameter h = refl
-header-not-empty UndefinedParameter h = refl
-header-not-empty Header h = refl
 
 -- a kind is a Header where it is told to be one
 pub header-told : (kind : ScalarKind) → is-header kind ≡ true → kind ≡ Header

@@ -7,8 +7,8 @@ use native.Mathlib.Omega.{arith}
 use borrow.Author.Tests.{lt-ltb, le-ltb, ltb-true, ltb-false, le-leb, lt-leb, leb-true, leb-false}
 use native.Mathlib.Numerals.{add-one}
 use lib.Dec.{leb, ltb}
-use lib.ListN.{length, getD, set, replicate, take, length-append, length-replicate, length-set, List·getD-eq-default, getD-replicate}
-use lib.Seq.{set-out, ext-getD, getD-append-add, length-take-le}
+use lib.ListN.{length, getD, set, replicate, take, length-append, length-replicate, length-set, List·getD-eq-default}
+use lib.Seq.{set-out, ext-getD, length-take-le}
 use Rattle.data.proofs.Cases.{by-bool}
 use Rattle.tape.specs.declared.token.Token.{Token}
 use Rattle.tape.specs.Token.{no-token, nth}
@@ -189,17 +189,6 @@ tokens-whole ws n h =
     tokens-at ws n i (omega arith) (omega arith) ∙ sym (tokens-at ws (capacity (length ws)) i at (omega arith)))
 
 -- ---- tokens with zeros behind them
--- behind a list of words, zeros as far as they go and nothing after them
-zeros-behind : (us : List ℕ) (k j : ℕ) → length us ≤ j → _≡_ {A = ℕ} (getD (us ++ replicate k 0) j 0) 0
-zeros-behind us k j h =
-    let past : _≡_ {A = ℕ} (getD (replicate k 0) (j - length us) 0) 0 =
-    by-bool (ltb (j - length us) k)
-    (λ e. getD-replicate k (j - length us) 0 0 (ltb-true _ _ e))
-    (λ e. List·getD-eq-default (replicate k 0) 0 {n = j - length us} (rw length-replicate (ltb-false _ _ e)))
-    in
-    let place : j ≡ length us + (j - length us) = omega arith in
-    rw place (getD-append-add us (replicate k 0) (j - length us) 0 ∙ past)
-
 -- the words are as many as were asked for
 pub padded-length : (len : ℕ) (ts : List Token) → words-for (length ts) ≤ len → length (padded len ts) ≡ len
 unfolding padded
@@ -209,17 +198,6 @@ padded-length len ts h = simp (length-append, length-replicate) (omega (arith, w
 pub padded-tokens : (len : ℕ) (ts : List Token) → tokens-in (padded len ts) (length ts) ≡ ts
 unfolding padded
 padded-tokens len ts = tokens-back ts _
-
--- a token of the list is read at its index
-pub padded-token : (len : ℕ) (ts : List Token) (i : ℕ) → i < length ts → words-for (length ts) ≤ len → token-from (padded len ts) i ≡ nth ts i
-padded-token len ts i h fits =
-    sym (tokens-at (padded len ts) (length ts) i h (omega (arith, padded-length len ts fits)))
-    ∙ ap (λ (us : List Token). nth us i) (padded-tokens len ts)
-
--- past the tokens every word is 0
-pub padded-zero : (len : ℕ) (ts : List Token) (j : ℕ) → words-for (length ts) ≤ j → getD (padded len ts) j 0 ≡ 0
-unfolding padded
-padded-zero len ts j h = zeros-behind (words-of ts) (len - length (words-of ts)) j (omega (arith, words-length ts))
 
 -- clearing leaves the words of the first n tokens, and zeros
 pub cleared-taken : (ws : List ℕ) (n : ℕ) → words-for n ≤ length ws → cleared ws n ≡ take (words-for n) ws ++ replicate (length ws - words-for n) 0

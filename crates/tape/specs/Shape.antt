@@ -57,10 +57,6 @@ linked Shape.Nothing = Link.Nothing
 abbrev pub link-of : Token → Link
 link-of t = linked (shape-of t)
 
--- a container's opener of a kind that names its End, whatever its flag
-abbrev pub OpensAs : Token → ContainerKind → ℕ → Type 0
-OpensAs t kind end = (mixed : Bool) × (t ≡ opener-of kind end mixed)
-
 -- a container's opener that names its End
 abbrev pub Opens : Token → ℕ → Type 0
 Opens t end = (kind : ContainerKind) × (mixed : Bool) × (t ≡ opener-of kind end mixed)

@@ -16,7 +16,7 @@ use Rattle.tape.specs.declared.token.Container as Containers
 use Rattle.tape.specs.declared.token.Standing as Standings
 use Rattle.tape.specs.declared.shape.Link.{Link}
 use Rattle.tape.specs.declared.shape.Link.the-variants.{ToEnd}
-use Rattle.tape.specs.Token.{no-token, mixed-container-token, opener-of, scalar-of, end-of, headed, container-of, standing-of}
+use Rattle.tape.specs.Token.{no-token, mixed-container-token, opener-of, end-of, headed, container-of, standing-of}
 use Rattle.tape.specs.Shape.{linked, link-of, Opens}
 use Rattle.tape.specs.Tape.{before-last}
 use Rattle.tape.proofs.Makers.{opener-container, scalar-container, opener-standing, mixed-container-standing, operator-standing, end-standing}

@@ -10,6 +10,7 @@ use lib.Dec.{eqb, ltb}
 use Rattle.data.proofs.Cases.{by-bool}
 use Rattle.tape.specs.declared.shape.Link.{Link}
 use Rattle.tape.specs.declared.shape.Link.the-variants.{ToEnd, ToOpener}
+use Rattle.sheet.proofs.Links.{end-not-none, opener-not-none, end-not-opener, same-end, same-opener}
 
 -- ---- splits that hand over what they found
 pub by-equal : {P : Type 0} (i j : ℕ) → (i ≡ j → P) → ((i ≡ j → ⊥) → P) → P
@@ -17,22 +18,6 @@ by-equal i j f g = by-bool (eqb i j) (λ e. f (eqb-true i j e)) (λ e. g (eqb-fa
 
 pub by-below : {P : Type 0} (i j : ℕ) → (i < j → P) → (j ≤ i → P) → P
 by-below i j f g = by-bool (ltb i j) (λ e. f (ltb-true i j e)) (λ e. g (ltb-false i j e))
-
--- ---- no link is of two kinds
-end-not-none : {l : Link} {end : ℕ} → l ≡ ToEnd end → l ≡ Link.Nothing → ⊥
-end-not-none e f = let z : _≡_ {A = ℕ} 0 1 = cc in omega arith
-
-opener-not-none : {l : Link} {opener : ℕ} → l ≡ ToOpener opener → l ≡ Link.Nothing → ⊥
-opener-not-none e f = let z : _≡_ {A = ℕ} 0 1 = cc in omega arith
-
-end-not-opener : {l : Link} {end opener : ℕ} → l ≡ ToEnd end → l ≡ ToOpener opener → ⊥
-end-not-opener e f = let z : _≡_ {A = ℕ} 0 1 = cc in omega arith
-
-same-end : {l : Link} {a b : ℕ} → l ≡ ToEnd a → l ≡ ToEnd b → a ≡ b
-same-end e f = cc
-
-same-opener : {l : Link} {a b : ℕ} → l ≡ ToOpener a → l ≡ ToOpener b → a ≡ b
-same-opener e f = cc
 
 -- ---- the links of n tokens, the link at each index, inside a parent
 -- the opener at an index is open

@@ -1,7 +1,7 @@
 -- Every turn keeps the tokens in order.
 -- Assumes nothing.
 use mathlib.Core.Path.{_≡_, refl, sym, _∙_, ap}
-use mathlib.Core.Bool.{true, false}
+use mathlib.Core.Bool.{false}
 use mathlib.Core.List.{List, [], _∷_, _++_}
 use Prim.Native.Nat.{ℕ, _+_, _-_, _≤_, _<_}
 use native.Mathlib.Omega.{arith}
@@ -27,7 +27,7 @@ use Rattle.machine.specs.declared.State.the-variants.{Key, KeyValueSeparator, O
 use Rattle.machine.specs.declared.Machine.{Machine}
 use Rattle.machine.specs.Machine.{to, mixed-on}
 use Rattle.parse.specs.Parse.{turn}
-use Rattle.parse.proofs.Moves.{Result, Named, defined, undefined, Asked, Valued, run-token, Takes, key, value, entry, Opens, in-value, in-array, Closes}
+use Rattle.parse.proofs.Moves.{Result, Named, defined, undefined, Asked, run-token, Takes, key, value, entry, Opens, in-value, in-array, Closes}
 use Rattle.parse.proofs.Moves.{as-object, as-own, Asks, asks-key, asks-open, ScalarStands, Came, passes, separates, takes, separates-by, operates, mixes}
 use Rattle.parse.proofs.Moves.{mixes-by, opens, heads, closes, empties, settles, begins, values, objects, refuses}
 use Rattle.parse.proofs.Walk.{Meets, Keeps, turn-keeps}

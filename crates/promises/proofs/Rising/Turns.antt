@@ -1,7 +1,7 @@
 -- Every turn keeps the views rising, up to the place that it has come to.
 -- Assumes nothing.
 use mathlib.Core.Path.{_≡_, refl, sym, _∙_, ap}
-use mathlib.Core.Bool.{Bool, true, false}
+use mathlib.Core.Bool.{true, false}
 use mathlib.Core.List.{List, [], _∷_, _++_}
 use Prim.Native.Nat.{ℕ, _+_, _-_, _≤_, _<_, min}
 use native.Mathlib.Omega.{arith}
@@ -9,7 +9,6 @@ use native.Mathlib.Nat.{add-sub-cancel}
 use lib.ListN.{length, set, length-append}
 use Rattle.data.proofs.Cases.{by-bool}
 use Rattle.cut.specs.Runs.{run-end}
-use Rattle.cut.proofs.Blanks.{Landed}
 use Rattle.cut.proofs.Scalars.{unquoted-bounds, quoted-bounds}
 use Rattle.tape.specs.declared.token.Token.{Token}
 use Rattle.tape.specs.declared.token.ScalarKind.{ScalarKind}
@@ -28,7 +27,7 @@ use Rattle.machine.specs.Machine.{to}
 use Rattle.machine.specs.Parents.{parent-of, state-in}
 use Rattle.parse.specs.ParseOpen.{flag-parent}
 use Rattle.parse.proofs.Splits.{by-container}
-use Rattle.parse.proofs.Moves.{Result, container-in, above, unsettled, closed-as, flagged, Taken, unquoted, quoted, Asked, Valued, run-token, Takes}
+use Rattle.parse.proofs.Moves.{Result, container-in, above, unsettled, flagged, Taken, unquoted, quoted, Asked, run-token, Takes}
 use Rattle.parse.proofs.Moves.{key, value}
 use Rattle.parse.proofs.Moves.{entry, Settles, with-key, with-entry, Asks, asks-key, asks-open, Came, passes, separates, takes, separates-by, operates, mixes}
 use Rattle.parse.proofs.Moves.{mixes-by, opens, heads, closes, empties, settles, begins, values, objects, refuses, Over, done-bare, done-closed, too-early}

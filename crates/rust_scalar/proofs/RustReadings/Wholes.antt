@@ -19,7 +19,6 @@ use Rattle.scalar.specs.Float.{rest}
 use Rattle.scalar.specs.Whole.{has-tail, u64-digits, u64-read, most-i64, signed, i64-digits, i64-part, i64-read}
 use Rattle.scalar.specs.declared.whole.I64Part.the-variants as Part
 use Rattle.scalar.specs.declared.whole.I64Part.{I64Part}
-use Rattle.scalar.specs.declared.whole.U64Read.the-variants as U64
 use Rattle.scalar.proofs.Runs.{digit-bounds, number-below}
 use Rattle.scalar.proofs.Wholes.{u64-plus, u64-none, u64-bare, u64-tail, u64-past, u64-is, i64-none, i64-minus, i64-plus, i64-bare, i64-other, i64-past}
 use Rattle.scalar.proofs.Wholes.{i64-is, read-tail, read-is, read-none, read-past}

@@ -2,12 +2,11 @@
 -- Assumes nothing.
 use Rattle.report.specs.Digits.{decimal}
 use Rattle.report.proofs.Digits.{decimal-one, decimal-more}
-use Rattle.report.proofs.Append.{chain, same-bytes, put-empty}
-use native.Mathlib.Omega.{arith}
+use Rattle.report.proofs.Append.{chain, same-bytes}
 use mathlib.Core.List.{[], _∷_, _++_}
 use mathlib.Core.Path.{sym, ap, _∙_}
 use borrow.Author.Needs.{needs}
-use Prim.Native.Nat.{ℕ, _-_, _/_, _<_}
+use Prim.Native.Nat.{ℕ, _/_, _<_}
 use borrow.Fn.Kinds.{In}
 use borrow.Fn.PlainCycle.{Measures, is, falls, and}
 use Rattle.report.proofs.numbers.put_decimal.Reads as put-decimal

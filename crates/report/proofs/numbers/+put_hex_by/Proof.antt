@@ -3,7 +3,6 @@
 use Rattle.report.specs.Digits.{hex-by}
 use Rattle.report.proofs.Digits.{hex-by-none, hex-by-more}
 use Rattle.report.proofs.Append.{chain, same-bytes, put-empty}
-use native.Mathlib.Omega.{arith}
 use mathlib.Core.List.{[], _∷_, _++_}
 use mathlib.Core.Path.{sym, ap, _∙_}
 use borrow.Author.Needs.{needs}
