@@ -48,6 +48,31 @@ const TEXTS: [&[u8]; 37] = [
     b"a={b}={c}",
 ];
 
+/// Quoted runs with an escape: first, last, before the closing quote, two in a row, and across the
+/// edges of strides of eight and sixteen bytes.
+const ESCAPED: [&str; 9] = [
+    "\\\"bc",
+    "bc\\n",
+    "bc\\\"",
+    "b\\\\\\\"c",
+    "aaaaaaa\\\"b",
+    "aaaaaaaa\\\"b",
+    "aaaaaaaaaaaaaaa\\\"b",
+    "aaaaaaaaaaaaaaaa\\\"b",
+    "aaaaaaaaaaaaaaaaa\\\"b",
+];
+
+/// Those runs as a key, a value and an entry; and a backslash behind a run, which has none.
+fn escapes() -> Vec<Vec<u8>> {
+    let shaped = |run: &&str| {
+        [format!("\"{run}\"=b"), format!("a=\"{run}\""), format!("a={{\"{run}\" c}}")]
+    };
+    let mut texts: Vec<Vec<u8>> =
+        ESCAPED.iter().flat_map(shaped).map(String::into_bytes).collect();
+    texts.push(b"a=\"bc\"\\=d".to_vec());
+    texts
+}
+
 /// Full against every other end, in each state: which of the two comes first.
 const TIGHT: [(&[u8], u16); 39] = [
     (b"a={b c=d}\n", 8),
@@ -124,7 +149,7 @@ const SCALARS: [&str; 26] = [
 type Told = (u32, u32, u32);
 
 /// Both sides of each sentence of 'When a sheet is sound': a text length and the tokens.
-const SHEETS: [(u32, &[Told]); 33] = [
+const SHEETS: [(u32, &[Told]); 37] = [
     (0, &[]),
     // a=rgb{1}, whole, over a text just long enough and one too short
     (8, &[(UNQUOTED, 0, 1), (HEADER, 2, 3), (ARRAY, 4, 0), (UNQUOTED, 6, 1), (END, 2, 0)]),
@@ -164,6 +189,11 @@ const SHEETS: [(u32, &[Told]); 33] = [
     (4, &[(UNQUOTED, 2, 0)]),
     (4, &[(HEADER, 2, 0), (ARRAY, 2, 0), (END, 1, 0)]),
     (4, &[(UNQUOTED, u32::MAX, 1)]),
+    // code 11 as code 5: empty, touching, starting together, too long
+    (1, &[(QUOTED_ESCAPE, 0, 0)]),
+    (4, &[(QUOTED_ESCAPE, 0, 2), (QUOTED_ESCAPE, 2, 0), (QUOTED, 3, 0)]),
+    (4, &[(QUOTED_ESCAPE, 2, 0), (UNQUOTED, 2, 2)]),
+    (4, &[(QUOTED_ESCAPE, 2, 3)]),
 ];
 
 /// Views over the two bytes `ab`: an index and a count beside two tokens.
@@ -173,6 +203,7 @@ const VIEWS: [(u32, u32); 8] =
 pub fn records() -> Vec<Record> {
     let mut records: Vec<Record> = Vec::new();
     records.extend(TEXTS.map(|text| Record::text(text.to_vec(), MOST_TOKENS)));
+    records.extend(escapes().into_iter().map(|text| Record::text(text, MOST_TOKENS)));
     records.extend(TIGHT.map(|(text, capacity)| Record::text(text.to_vec(), capacity)));
     records.extend(SCALARS.map(|scalar| Record::scalar(scalar.as_bytes().to_vec())));
     for (length, tokens) in SHEETS {
@@ -183,6 +214,7 @@ pub fn records() -> Vec<Record> {
         for tokens in [
             [token(QUOTED, 1, 1), token(END, 0, 0)],
             [token(UNQUOTED, 2, 0), token(UNQUOTED, 0, 3)],
+            [token(QUOTED_ESCAPE, 0, 2), token(QUOTED_ESCAPE, 2, 0)],
         ] {
             records.push(Record::view(index, count, &tokens.concat(), b"ab"));
         }

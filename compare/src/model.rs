@@ -37,13 +37,18 @@ fn skip_blanks(text: &[u8], mut at: usize) -> Option<usize> {
     None
 }
 
-/// The place of the closing quote of the run whose opening quote stands at `at`.
-fn closing_quote(text: &[u8], at: usize) -> Option<usize> {
+/// The place of the closing quote of the run whose opening quote stands at `at`, and whether a
+/// backslash took part in the run.
+fn closing_quote(text: &[u8], at: usize) -> Option<(usize, bool)> {
     let mut at = at + 1;
+    let mut escape = false;
     while at < text.len() {
         match text[at] {
-            b'\\' => at += 2,
-            b'"' => return Some(at),
+            b'\\' => {
+                escape = true;
+                at += 2;
+            }
+            b'"' => return Some((at, escape)),
             _ => at += 1,
         }
     }
@@ -171,9 +176,10 @@ impl Parser<'_> {
     fn scalar(&mut self) -> Result<(), Refusal> {
         let start = self.at;
         if self.byte() == b'"' {
-            let end = closing_quote(self.text, start).ok_or(Refusal(EOF, 0))?;
+            let (end, escape) = closing_quote(self.text, start).ok_or(Refusal(EOF, 0))?;
             self.at = end + 1;
-            self.add(QUOTED, start + 1, end - start - 1)
+            let code = if escape { QUOTED_ESCAPE } else { QUOTED };
+            self.add(code, start + 1, end - start - 1)
         } else if self.byte() == b'@' && self.next_is(b'[') {
             let length = self.text[start..].iter().position(|&b| b == b']');
             let length = length.ok_or(Refusal(EOF, 0))? + 1;
@@ -588,7 +594,7 @@ pub fn check(length: u32, words: &[u32], count: u32) -> bool {
             let (start, end) = (u64::from(a), u64::from(a) + u64::from(b));
             let rises = before.is_none_or(|(first, past)| first < start && past <= start);
             before = Some((start, end));
-            rises && end <= u64::from(length) && (b > 0 || code == QUOTED)
+            rises && end <= u64::from(length) && (b > 0 || is_quoted(code))
         } else if code == OPERATOR {
             (LESS_THAN..=EXISTS).contains(&a) && b == 0
         } else {

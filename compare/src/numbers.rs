@@ -1,4 +1,4 @@
-//! Document 01's numbers, typed from its tables, each once: whoever makes, reads or judges an answer
+//! Document 01's numbers, and those of the requests, typed from their tables, each once: whoever makes, reads or judges an answer
 //! here names them, and a request that changes one changes it in this file. Nothing is taken from our
 //! programs.
 
@@ -38,9 +38,10 @@ pub const UNDEFINED_PARAMETER: u32 = 7;
 pub const OPERATOR: u32 = 8;
 pub const END: u32 = 9;
 pub const HEADER: u32 = 10;
+pub const QUOTED_ESCAPE: u32 = 11;
 
 /// Every code with its name in the dump; the last one has the largest number.
-pub const NAMES: [(u32, &str); 10] = [
+pub const NAMES: [(u32, &str); 11] = [
     (ARRAY, "Array"),
     (OBJECT, "Object"),
     (MIXED_CONTAINER, "MixedContainer"),
@@ -51,19 +52,28 @@ pub const NAMES: [(u32, &str); 10] = [
     (OPERATOR, "Operator"),
     (END, "End"),
     (HEADER, "Header"),
+    (QUOTED_ESCAPE, "QuotedEscape"),
 ];
 
 /// The largest code.
 pub const LAST_CODE: u32 = NAMES[NAMES.len() - 1].0;
 
 /// The codes whose a and b are an offset and a length.
-pub const SCALAR_CODES: [u32; 5] = [UNQUOTED, QUOTED, PARAMETER, UNDEFINED_PARAMETER, HEADER];
+pub const SCALAR_CODES: [u32; 6] =
+    [UNQUOTED, QUOTED, PARAMETER, UNDEFINED_PARAMETER, HEADER, QUOTED_ESCAPE];
+
+/// The codes of what stands in quotes: the scalars whose length may be 0.
+pub const QUOTED_CODES: [u32; 2] = [QUOTED, QUOTED_ESCAPE];
 
 /// The codes of the openers.
 pub const OPENER_CODES: [u32; 2] = [ARRAY, OBJECT];
 
 pub fn is_scalar(code: u32) -> bool {
     SCALAR_CODES.contains(&code)
+}
+
+pub fn is_quoted(code: u32) -> bool {
+    QUOTED_CODES.contains(&code)
 }
 
 pub fn is_opener(code: u32) -> bool {

@@ -49,13 +49,18 @@ fn token_words(text: &[u8], laid: &TextToken<'_>) -> [u32; WORDS] {
         TextToken::Object { end, mixed } => token(OBJECT, *end as u32, u32::from(*mixed)),
         TextToken::MixedContainer => token(MIXED_CONTAINER, 0, 0),
         TextToken::Unquoted(s) => scalar(UNQUOTED, s),
-        TextToken::Quoted(s) => scalar(QUOTED, s),
+        TextToken::Quoted(s) => scalar(quoted_code(s.as_bytes()), s),
         TextToken::Parameter(s) => scalar(PARAMETER, s),
         TextToken::UndefinedParameter(s) => scalar(UNDEFINED_PARAMETER, s),
         TextToken::Operator(operator) => token(OPERATOR, operator_number(*operator), 0),
         TextToken::End(opener) => token(END, *opener as u32, 0),
         TextToken::Header(s) => scalar(HEADER, s),
     }
+}
+
+/// The Rust has one Quoted and no flag: a backslash took part exactly when the view holds one.
+fn quoted_code(view: &[u8]) -> u32 {
+    if view.contains(&b'\\') { QUOTED_ESCAPE } else { QUOTED }
 }
 
 fn operator_number(operator: Operator) -> u32 {

@@ -140,9 +140,9 @@ pub fn fails(fault: Fault, length: u32, words: &[u32], count: u32) -> bool {
             !sheet[i].is_scalar() || next.is_none_or(|next| sheet[i].a + sheet[i].b <= next.a)
         }),
 
-        // only Quoted may have length 0
+        // only Quoted may have length 0, and code 11, which is treated as code 5
         Fault::EmptyScalar => {
-            all(&|i| !sheet[i].is_scalar() || sheet[i].b > 0 || sheet[i].code == QUOTED)
+            all(&|i| !sheet[i].is_scalar() || sheet[i].b > 0 || is_quoted(sheet[i].code))
         }
 
         // token 0 opens nothing

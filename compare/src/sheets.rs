@@ -218,11 +218,12 @@ fn behead(sheet: &mut Sheet) {
 }
 
 /// Mostly scalars, and among them most that may be empty.
-const CLOSE_TOGETHER: [u32; 10] = [
+const CLOSE_TOGETHER: [u32; 11] = [
     UNQUOTED,
     QUOTED,
     QUOTED,
-    QUOTED,
+    QUOTED_ESCAPE,
+    QUOTED_ESCAPE,
     PARAMETER,
     UNDEFINED_PARAMETER,
     MIXED_CONTAINER,
@@ -237,7 +238,7 @@ fn scalars_only(rng: &mut Rng, sheet: &mut Sheet) {
     let mut at = 0;
     for _ in 0..rng.between(1, 6) {
         let code = *rng.pick(&CLOSE_TOGETHER);
-        let length = if code == QUOTED && rng.chance(50) { 0 } else { rng.below(3) as u32 };
+        let length = if is_quoted(code) && rng.chance(50) { 0 } else { rng.below(3) as u32 };
         match code {
             MIXED_CONTAINER => sheet.words.extend(token(code, 0, 0)),
             OPERATOR => sheet.words.extend(token(code, rng.below(EXISTS as usize + 2) as u32, 0)),

@@ -37,7 +37,7 @@ pub fn answer(question: Question<'_>, out: &mut String) {
 /// A wrong program, by its name and what it makes of a right answer.
 pub type Fault = (&'static str, fn(&str) -> String);
 
-pub const FAULTS: [Fault; 9] = [
+pub const FAULTS: [Fault; 11] = [
     ("exists_is_equal", |right| right.replace(&operator(EXISTS), &operator(EQUAL))),
     ("not_equal_is_exact", |right| right.replace(&operator(NOT_EQUAL), &operator(EXACT))),
     ("place_of_7_at_it", |right| shift_place(right, NOTHING_BEFORE_OPERATOR)),
@@ -46,8 +46,15 @@ pub const FAULTS: [Fault; 9] = [
     ("minus_zero_lost", |right| right.replace("=8000000000000000", "=0000000000000000")),
     ("ties_away", |right| right.replace(&loss(SAFE), &loss(SAFE + 1))),
     ("bom_forgotten", |right| right.replace(" bom 1\n", " bom 0\n")),
+    ("escape_lost", |right| right.replace(&named(QUOTED_ESCAPE), &named(QUOTED))),
+    ("escape_everywhere", |right| right.replace(&named(QUOTED), &named(QUOTED_ESCAPE))),
     ("empty_view_refused", |right| right.replace("view \n", &format!("refused {NO_SCALAR}\n"))),
 ];
+
+/// A name as it stands in a line of the dump.
+fn named(code: u32) -> String {
+    format!(" {} ", name(code))
+}
 
 /// An operator's words as the dump writes them.
 fn operator(kind: u32) -> String {

@@ -1,4 +1,5 @@
-//! What a run reached: cases by kind, refusals, token codes, operators, readings, faults of sheets.
+//! What a run reached: cases by kind, refusals, token codes, operators, escapes, readings, faults of
+//! sheets.
 
 use crate::numbers::*;
 use crate::record::{Question, Record};
@@ -70,6 +71,9 @@ fn expected() -> Vec<Feature> {
     all.extend((EOF..=FULL).map(|number| ("refusals", number.to_string())));
     all.extend(NAMES.map(|(_, name)| ("tokens", name.to_string())));
     all.extend((LESS_THAN..=EXISTS).map(|kind| ("operators", kind.to_string())));
+    all.extend(ESCAPE_PLACES.map(|at| ("escapes", format!("at {at}"))));
+    let others = ["last", "two in a row", "in a key", "in a value", "in an entry"];
+    all.extend(others.map(|name| ("escapes", name.to_string())));
     for opener in OPENER_CODES.map(name) {
         all.extend([0, 1].map(|flag| ("flags", format!("{opener} {flag}"))));
     }
@@ -90,7 +94,7 @@ pub fn features(record: &Record, answer: &str) -> Vec<Feature> {
     let mut found: Vec<Feature> = vec![("cases", char::from(record.kind).to_string())];
     match record.question() {
         None => {}
-        Some(Question::Text { .. }) => text_features(answer, &mut found),
+        Some(Question::Text { text, .. }) => text_features(text, answer, &mut found),
         Some(Question::Scalar { .. }) => {
             for (answer, (reading, ..)) in answer.split_whitespace().zip(READINGS) {
                 found.push((reading, reading_name(reading, answer).to_string()));
@@ -113,7 +117,7 @@ pub fn features(record: &Record, answer: &str) -> Vec<Feature> {
     found
 }
 
-fn text_features(answer: &str, found: &mut Vec<Feature>) {
+fn text_features(text: &[u8], answer: &str, found: &mut Vec<Feature>) {
     let mut lines = answer.lines().map(|line| line.split(' ').collect::<Vec<_>>());
     let head = lines.next().unwrap_or_default();
     match head[..] {
@@ -128,7 +132,43 @@ fn text_features(answer: &str, found: &mut Vec<Feature>) {
             found.push(("flags", format!("{token} {b}")));
         } else if token == name(OPERATOR) {
             found.push(("operators", a.to_string()));
+        } else if token == name(QUOTED_ESCAPE) {
+            let view = a.parse().ok().zip(b.parse().ok());
+            found.extend(view.into_iter().flat_map(|(a, b)| escapes(text, a, b)));
         }
+    }
+}
+
+/// The places of a run's first escape that are looked for: its first byte, and the edges of strides.
+const ESCAPE_PLACES: [usize; 6] = [0, 7, 8, 15, 16, 17];
+
+/// Where a quoted run has its escapes, and what it stands for.
+fn escapes(text: &[u8], offset: usize, length: usize) -> Vec<Feature> {
+    let (before, view, after) =
+        (&text[..offset - 1], &text[offset..offset + length], &text[offset + length + 1..]);
+    let mut places = Vec::new();
+    let mut at = 0;
+    while at < view.len() {
+        if view[at] == b'\\' {
+            places.push(at);
+            at += 1;
+        }
+        at += 1;
+    }
+    let mut found: Vec<String> = Vec::new();
+    found.extend(places.first().filter(|at| ESCAPE_PLACES.contains(at)).map(|at| format!("at {at}")));
+    found.extend(places.last().filter(|&&at| at + 2 == view.len()).map(|_| "last".to_string()));
+    found.extend(places.windows(2).any(|two| two[0] + 2 == two[1]).then(|| "two in a row".to_string()));
+    found.push(format!("in {}", role(before.trim_ascii_end(), after.trim_ascii_start())));
+    found.into_iter().map(|name| ("escapes", name)).collect()
+}
+
+/// What a scalar stands for, by the bytes before and behind it.
+fn role(before: &[u8], after: &[u8]) -> &'static str {
+    match (before.last(), after.first()) {
+        (_, Some(b'=' | b'<' | b'>' | b'!' | b'?')) => "a key",
+        (Some(b'=' | b'<' | b'>'), _) => "a value",
+        _ => "an entry",
     }
 }
 

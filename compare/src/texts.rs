@@ -254,15 +254,28 @@ fn name(rng: &mut Rng, text: &mut Vec<u8>) {
 }
 
 fn scalar(rng: &mut Rng, text: &mut Vec<u8>) {
-    match rng.weighted(&[60, 10, 6, 4, 4, 3]) {
+    match rng.weighted(&[60, 10, 6, 4, 4, 3, 5]) {
         0 => name(rng, text),
         1 => text.extend(rng.pick(&["\"\"", "\"a b\"", "\"{=}\"", "\"a#b\""]).bytes()),
         2 => text
             .extend(rng.pick(&["\"a\\\"b\"", "\"\\\\\"", "\"\\a\"", "\"wide\\\\open!\""]).bytes()),
         3 => text.extend(rng.pick(&["@[a + b]", "@[]", "@[1!=2]", "@[[x]"]).bytes()),
         4 => text.extend(rng.pick(&["@v", "@", "@a@b"]).bytes()),
-        _ => text.extend(b"\"a quoted text over sixteen bytes\""),
+        5 => text.extend(b"\"a quoted text over sixteen bytes\""),
+        _ => escaped(rng, text),
     }
+}
+
+/// A quoted run with an escape, most often at an edge of a stride of eight or sixteen bytes.
+fn escaped(rng: &mut Rng, text: &mut Vec<u8>) {
+    let before = *rng.pick(&[0, 1, 6, 7, 8, 9, 14, 15, 16, 17, 24, 31, 32]);
+    let escape = *rng.pick(&["\\\"", "\\\\", "\\n", "\\\\\\\"", "\\\\\\\\"]);
+    let after = *rng.pick(&[0, 0, 0, 1, 7, 20]);
+    text.push(b'"');
+    text.extend(std::iter::repeat_n(b'a', before));
+    text.extend(escape.bytes());
+    text.extend(std::iter::repeat_n(b'b', after));
+    text.push(b'"');
 }
 
 fn operator(rng: &mut Rng, text: &mut Vec<u8>) {

@@ -6,7 +6,7 @@
 //! number and place, the BOM, and all words that stand on the Rust's tape, at a refusal too.
 
 use compare::generate::Generator;
-use compare::numbers::WORDS;
+use compare::numbers::{QUOTED, WORDS, is_quoted};
 use compare::oracle::{Parsed, parse};
 use compare::record::Question;
 use compare::{domain, edges};
@@ -80,7 +80,11 @@ fn row(text: &[u8], parsed: &Parsed) -> String {
     let (number, place) = parsed.refusal.unwrap_or((0, 0));
     let bom = parsed.refusal.is_none() && parsed.bom;
     let mut answer = vec![usize::from(number), place, usize::from(bom)];
-    answer.extend(parsed.words.iter().map(|word| *word as usize));
+    // the Rust has one Quoted, with an escape or without
+    let code = |code: u32| if is_quoted(code) { QUOTED } else { code };
+    let tokens = parsed.words.chunks(WORDS);
+    let told = tokens.flat_map(|token| std::iter::once(code(token[0])).chain(token[1..].to_vec()));
+    answer.extend(told.map(|word| word as usize));
     format!("row {}\n    {}", written(text), list(&answer))
 }
 

@@ -1,8 +1,9 @@
--- Reading a quoted run, a byte at a time, and where it ends.
+-- Reading a quoted run, a byte at a time, where it ends, and whether a backslash took part in it.
 -- Assumes nothing.
 use mathlib.Core.Path.{_≡_, refl, sym, _∙_, ap}
-use mathlib.Core.Bool.{true, false}
+use mathlib.Core.Bool.{Bool, true, false, false≢true}
 use mathlib.Core.List.{List, _∷_}
+use mathlib.Core.Logic.{_⊎_, inl, inr, _↔_}
 use Prim.Native.Nat.{ℕ, zero, suc, _+_, _≤_, _<_}
 use native.Mathlib.Omega.{arith}
 use borrow.Author.Tests.{eq-eqb, ne-eqb, eqb-true, eqb-false, ltb-true, ltb-false}
@@ -10,71 +11,131 @@ use lib.Dec.{eqb, ltb}
 use lib.ListN.{length, getD, drop, drop-of-length-le}
 use Rattle.data.proofs.Cases.{by-bool}
 use Rattle.data.specs.Bytes.{quote, backslash}
-use Rattle.cut.specs.Quotes.{quoted-from, skipped-from, quoted-run}
+use Rattle.cut.specs.Quotes.{quoted-from, skipped-from, quoted-run, Backslash, Tells}
 use Rattle.cut.specs.declared.Quoted.the-variants.{Closed, Unclosed}
 use Rattle.cut.proofs.Places.{drop-here, by-place}
 
 -- a byte of the run
-quoted-at : (b : ℕ) (bs : List ℕ) (n : ℕ)
-    → quoted-from (b ∷ bs) n
-    ≡ elim (eqb b quote) [ true ↦ Closed n | false ↦ elim (eqb b backslash) [ true ↦ skipped-from bs (n + 1) | false ↦ quoted-from bs (n + 1) ] ]
+quoted-at : (b : ℕ) (bs : List ℕ) (n : ℕ) (e : Bool)
+    → quoted-from (b ∷ bs) n e
+    ≡ elim (eqb b quote) [
+      | true ↦ Closed n e
+      | false ↦ elim (eqb b backslash) [ true ↦ skipped-from bs (n + 1) | false ↦ quoted-from bs (n + 1) e ]
+    ]
 unfolding quoted-from
-quoted-at b bs n = refl
-
--- past the last byte nothing closes it
-pub quoted-past : (d : List ℕ) (n : ℕ) → length d ≤ n → quoted-from (drop n d) n ≡ Unclosed
-unfolding quoted-from
-quoted-past d n h = rw (drop-of-length-le d h)
-
--- a quote closes it
-pub quoted-closes : (d : List ℕ) (n : ℕ) → n < length d → getD d n 0 ≡ quote → quoted-from (drop n d) n ≡ Closed n
-quoted-closes d n h e = rw (drop-here d n h, quoted-at, eq-eqb (getD d n 0) quote e)
+quoted-at b bs n e = refl
 
 -- the byte that a backslash skips, or the end where there is none
-skipped : (d : List ℕ) (n : ℕ) → skipped-from (drop n d) n ≡ quoted-from (drop (n + 1) d) (n + 1)
+skipped : (d : List ℕ) (n : ℕ) → skipped-from (drop n d) n ≡ quoted-from (drop (n + 1) d) (n + 1) true
 unfolding quoted-from
 skipped d n =
     by-bool (ltb n (length d))
     (λ t. rw (drop-here d n (ltb-true n (length d) t)))
     (λ f. rw (drop-of-length-le d {i = n} (ltb-false n (length d) f), drop-of-length-le d {i = n + 1} (omega (arith, ltb-false n (length d) f))))
 
--- a backslash passes itself and one byte more
-pub quoted-escapes : (d : List ℕ) (n : ℕ) → n < length d → getD d n 0 ≡ backslash
-    → quoted-from (drop n d) n ≡ quoted-from (drop (n + 2) d) (n + 2)
-quoted-escapes d n h e =
-    rw (drop-here d n h, quoted-at, ap (λ (b : ℕ). eqb b quote) e, eq-eqb (getD d n 0) backslash e)
-    (skipped d (n + 1) ∙ ap (λ (k : ℕ). quoted-from (drop k d) k) {x = n + 1 + 1} {y = n + 2} (omega arith))
+module _ (d : List ℕ) (n : ℕ) (e : Bool) where
+  -- past the last byte nothing closes it
+  pub quoted-past : length d ≤ n → quoted-from (drop n d) n e ≡ Unclosed
+  unfolding quoted-from
+  quoted-past h = rw (drop-of-length-le d h)
 
--- any other byte is passed
-pub quoted-goes-on : (d : List ℕ) (n : ℕ) → n < length d → (getD d n 0 ≡ quote → ⊥) → (getD d n 0 ≡ backslash → ⊥)
-    → quoted-from (drop n d) n ≡ quoted-from (drop (n + 1) d) (n + 1)
-quoted-goes-on d n h q s = rw (drop-here d n h, quoted-at, ne-eqb (getD d n 0) quote q, ne-eqb (getD d n 0) backslash s)
+  -- a quote closes it
+  pub quoted-closes : n < length d → getD d n 0 ≡ quote → quoted-from (drop n d) n e ≡ Closed n e
+  quoted-closes h q = rw (drop-here d n h, quoted-at, eq-eqb (getD d n 0) quote q)
 
--- where a run whose first n bytes are passed is closed: at a quote of the part
-pub record Closing (d : List ℕ) (n end : ℕ) : Type 0 where
+  -- a backslash takes part, and passes itself and one byte more
+  pub quoted-escapes : n < length d → getD d n 0 ≡ backslash → quoted-from (drop n d) n e ≡ quoted-from (drop (n + 2) d) (n + 2) true
+  quoted-escapes h s =
+      rw (drop-here d n h, quoted-at, ap (λ (b : ℕ). eqb b quote) s, eq-eqb (getD d n 0) backslash s)
+      (skipped d (n + 1) ∙ ap (λ (k : ℕ). quoted-from (drop k d) k true) {x = n + 1 + 1} {y = n + 2} (omega arith))
+
+  -- any other byte is passed
+  pub quoted-goes-on : n < length d → (getD d n 0 ≡ quote → ⊥) → (getD d n 0 ≡ backslash → ⊥)
+      → quoted-from (drop n d) n e ≡ quoted-from (drop (n + 1) d) (n + 1) e
+  quoted-goes-on h q s = rw (drop-here d n h, quoted-at, ne-eqb (getD d n 0) quote q, ne-eqb (getD d n 0) backslash s)
+
+-- where a run whose first n bytes are passed, with a backslash among them or none, is closed: at a quote of the part. Its flag is set
+-- exactly when it was, or a backslash stands from n on
+pub record Closing (d : List ℕ) (n : ℕ) (e : Bool) (end : ℕ) (escaped : Bool) : Type 0 where
   pub from : n ≤ end
   pub within : end < length d
   pub closes : getD d end 0 ≡ quote
+  pub took-part : (escaped ≡ true) ↔ ((e ≡ true) ⊎ Backslash d n end)
 
-closing-later : (d : List ℕ) (n m end : ℕ) → n ≤ m → Closing d m end → Closing d n end
-closing-later d n m end h c = record { from = omega (arith, c .from); within = c .within; closes = c .closes }
+-- behind a byte that is no backslash
+closing-later : (d : List ℕ) (n : ℕ) (e : Bool) (end : ℕ) (escaped : Bool) → (getD d n 0 ≡ backslash → ⊥)
+    → Closing d (n + 1) e end escaped → Closing d n e end escaped
+closing-later d n e end escaped other c =
+    record {
+      from = omega (arith, c .from);
+      within = c .within;
+      closes = c .closes;
+      took-part = (λ t. earlier (c .took-part .0 t), λ w. c .took-part .1 (later w));
+    }
+  where
+    earlier : (e ≡ true) ⊎ Backslash d (n + 1) end → (e ≡ true) ⊎ Backslash d n end
+    earlier (inl t) = inl t
+    earlier (inr s) = inr (record { place = s .place; from = omega (arith, s .from); before = s .before; stands = s .stands })
+
+    later : (e ≡ true) ⊎ Backslash d n end → (e ≡ true) ⊎ Backslash d (n + 1) end
+    later (inl t) = inl t
+    later (inr s) =
+        by-bool (eqb (s .place) n)
+        (λ t. absurd (other (ap (λ (k : ℕ). getD d k 0) (sym (eqb-true (s .place) n t)) ∙ s .stands)))
+        (λ f. inr (record { place = s .place; from = past f; before = s .before; stands = s .stands }))
+      where
+        past : eqb (s .place) n ≡ false → n + 1 ≤ s .place
+        past f = let no = eqb-false (s .place) n f in omega (arith, s .from)
+
+-- behind a backslash and the byte that it skips
+closing-escaped : (d : List ℕ) (n : ℕ) (e : Bool) (end : ℕ) (escaped : Bool) → getD d n 0 ≡ backslash
+    → Closing d (n + 2) true end escaped → Closing d n e end escaped
+closing-escaped d n e end escaped s c =
+    record {
+      from = omega (arith, c .from);
+      within = c .within;
+      closes = c .closes;
+      took-part = (λ t. inr (record { place = n; from = omega arith; before = omega (arith, c .from); stands = s }), λ w. c .took-part .1 (inl refl));
+    }
+
+-- at the quote itself no byte is left
+closing-here : (d : List ℕ) (n : ℕ) (e : Bool) → n < length d → getD d n 0 ≡ quote → Closing d n e n e
+closing-here d n e within q =
+    record { from = omega arith; within = within; closes = q; took-part = (λ t. inl t, λ w. before w) }
+  where
+    before : (e ≡ true) ⊎ Backslash d n n → e ≡ true
+    before (inl t) = t
+    before (inr s) = absurd (omega (arith, s .from, s .before))
 
 -- by as many turns as there are bytes left
-closing : (d : List ℕ) (turns n end : ℕ) → length d ≤ n + turns → quoted-from (drop n d) n ≡ Closed end → Closing d n end
-closing d zero n end enough e = let past = quoted-past d n (omega arith) in let no : _≡_ {A = ℕ} 0 1 = cc in absurd (omega arith)
-closing d (suc turns) n end enough e =
+closing : (d : List ℕ) (turns n : ℕ) (e : Bool) (end : ℕ) (escaped : Bool) → length d ≤ n + turns
+    → quoted-from (drop n d) n e ≡ Closed end escaped → Closing d n e end escaped
+closing d zero n e end escaped enough q =
+    let past = quoted-past d n e (omega arith) in let no : _≡_ {A = ℕ} 0 1 = cc in absurd (omega arith)
+closing d (suc turns) n e end escaped enough q =
     by-place d n
     (λ within. by-bool (eqb (getD d n 0) quote)
-    (λ q. let here = quoted-closes d n within (eqb-true _ _ q) in let same : n ≡ end = cc in
-    record { from = omega arith; within = rw (← same) within; closes = rw (← same) (eqb-true _ _ q) })
+    (λ t. let here = quoted-closes d n e within (eqb-true _ _ t) in let same : n ≡ end = cc in let told : e ≡ escaped = cc in
+    rw (← same, ← told) (closing-here d n e within (eqb-true _ _ t)))
     (λ not-quote. by-bool (eqb (getD d n 0) backslash)
-    (λ b. closing-later d n (n + 2) end (omega arith)
-    (closing d turns (n + 2) end (omega arith) (sym (quoted-escapes d n within (eqb-true _ _ b)) ∙ e)))
-    (λ other. closing-later d n (n + 1) end (omega arith)
-    (closing d turns (n + 1) end (omega arith) (sym (quoted-goes-on d n within (eqb-false _ _ not-quote) (eqb-false _ _ other)) ∙ e)))))
-    (λ past. let gone = quoted-past d n past in let no : _≡_ {A = ℕ} 0 1 = cc in absurd (omega arith))
+    (λ b. closing-escaped d n e end escaped (eqb-true _ _ b)
+    (closing d turns (n + 2) true end escaped (omega arith) (sym (quoted-escapes d n e within (eqb-true _ _ b)) ∙ q)))
+    (λ other. closing-later d n e end escaped (eqb-false _ _ other)
+    (closing d turns (n + 1) e end escaped (omega arith)
+    (sym (quoted-goes-on d n e within (eqb-false _ _ not-quote) (eqb-false _ _ other)) ∙ q)))))
+    (λ past. let gone = quoted-past d n e past in let no : _≡_ {A = ℕ} 0 1 = cc in absurd (omega arith))
 
 -- a closed run ends within the part, at a quote
-pub quoted-run-closes : (d : List ℕ) (end : ℕ) → quoted-run d ≡ Closed end → Closing d 0 end
+pub quoted-run-closes : (d : List ℕ) (end : ℕ) (escaped : Bool) → quoted-run d ≡ Closed end escaped → Closing d 0 false end escaped
 unfolding quoted-run
-quoted-run-closes d end e = closing d (length d) 0 end (omega arith) e
+quoted-run-closes d end escaped q = closing d (length d) 0 false end escaped (omega arith) q
+
+-- and its flag is set exactly when a backslash stands before that quote
+pub quoted-run-tells : (d : List ℕ) (end : ℕ) (escaped : Bool) → quoted-run d ≡ Closed end escaped → Tells d 0 end escaped
+quoted-run-tells d end escaped q =
+    let c = quoted-run-closes d end escaped q in
+    (λ t. only (c .took-part .0 t), λ s. c .took-part .1 (inr s))
+  where
+    only : (false ≡ true) ⊎ Backslash d 0 end → Backslash d 0 end
+    only (inl t) = absurd (false≢true t)
+    only (inr s) = s

@@ -17,9 +17,10 @@ use Rattle.cut.specs.declared.Quoted.the-variants.{Closed, Unclosed}
 abbrev pub unquoted : ℕ → ℕ → Cut
 unquoted start end = Unquoted start end end
 
--- Quoted views leave out the quotes and keep escapes; no closing quote is the text's end: none is Eof (2)
+-- Quoted views leave out the quotes and keep escapes; no closing quote is the text's end: none is Eof (2). What is said of a
+-- backslash is passed on
 abbrev pub quoted : ℕ → Quotes.Quoted → Cut
-quoted start (Closed n) = Quoted start (start + n) (start + n + 1)
+quoted start (Closed n escaped) = Quoted start (start + n) (start + n + 1) escaped
 quoted start Unclosed = End
 
 -- whether a byte ends an interpolated variable

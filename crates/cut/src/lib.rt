@@ -18,8 +18,8 @@ pub enum Skipped {
 
 // What reading a quoted run finds.
 pub enum Quoted {
-    // How many bytes stand before the closing quote.
-    Closed { length: usize },
+    // How many bytes stand before the closing quote, and whether a backslash is among them.
+    Closed { length: usize, escaped: bool },
     // No quote closes it.
     Unclosed,
 }
@@ -31,10 +31,12 @@ pub enum Cut {
         end: usize,
         rest: usize,
     },
+    // Whether a backslash took part in it is said too.
     Quoted {
         start: usize,
         end: usize,
         rest: usize,
+        escaped: bool,
     },
     // The text ends before the scalar does.
     End,
@@ -95,17 +97,19 @@ pub fn split_at_scalar(d: &[u8], classes: &[u8; data::BYTE_COUNT]) -> usize
     i
 }
 
-// How long the quoted run after an opening quote is.
+// How long the quoted run after an opening quote is, and whether a backslash takes part in it.
 pub fn parse_quote_scalar(d: &[u8]) -> Quoted
     ensures { λ r. ⌜ r ≡ quoted-run (now (d .entry)) ⌝ }
 {
     let mut i = 0;
+    let mut escaped = false;
     while i < d.len() {
         let b = d[i];
         if b == b'"' {
-            return Quoted::Closed { length: i };
+            return Quoted::Closed { length: i, escaped };
         }
         if b == b'\\' {
+            escaped = true;
             i += 2;
         } else {
             i += 1;
@@ -145,12 +149,14 @@ fn quoted_at(text: &[u8], start: usize) -> Cut
     ensures { λ r. ⌜ r ≡ quoted start (quoted-run (drop start (now (text .entry)))) ⌝ }
 {
     match parse_quote_scalar(&text[start..]) {
-        Quoted::Closed { length } => {
+        Quoted::Closed { length, escaped } => {
             let end = start + length;
+            let rest = end + 1;
             Cut::Quoted {
                 start,
                 end,
-                rest: end + 1,
+                rest,
+                escaped,
             }
         }
         Quoted::Unclosed => Cut::End,

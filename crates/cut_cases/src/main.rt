@@ -90,12 +90,20 @@ fn say_blanks(text: &[u8], place: usize) {
     }
 }
 
+// Whether a backslash took part in a quoted run.
+fn say_escaped(escaped: bool) {
+    if escaped {
+        say(b" escaped");
+    }
+}
+
 // Where a quoted run closes.
 fn say_quoted(text: &[u8]) {
     match cut::parse_quote_scalar(text) {
-        Quoted::Closed { length } => {
+        Quoted::Closed { length, escaped } => {
             say(b" closed");
             say_number(length);
+            say_escaped(escaped);
         }
         Quoted::Unclosed => say(b" unclosed"),
     }
@@ -108,9 +116,15 @@ fn say_scalar(text: &[u8], place: usize, classes: &[u8; data::BYTE_COUNT]) {
             say(b" unquoted");
             say_view(start, end, rest);
         }
-        Cut::Quoted { start, end, rest } => {
+        Cut::Quoted {
+            start,
+            end,
+            rest,
+            escaped,
+        } => {
             say(b" quoted");
             say_view(start, end, rest);
+            say_escaped(escaped);
         }
         Cut::End => say(b" end"),
     }

@@ -2,7 +2,7 @@
 -- every refusal. A property of machines and tokens that each move keeps is kept by every turn (Walk).
 -- Assumes nothing.
 use mathlib.Core.Path.{_≡_}
-use mathlib.Core.Bool.{true, false}
+use mathlib.Core.Bool.{Bool, true, false}
 use mathlib.Core.List.{List, [], _∷_, _++_}
 use Prim.Native.Nat.{ℕ, _+_, _-_, _≤_, _<_}
 use native.Mathlib.Omega.{arith}
@@ -22,12 +22,13 @@ use Rattle.operator.specs.declared.Operator.{Operator}
 use Rattle.operator.specs.Operators.{number-of, is-equal}
 use Rattle.tape.specs.declared.token.Token.{Token}
 use Rattle.tape.specs.declared.token.ScalarKind.{ScalarKind}
-use Rattle.tape.specs.declared.token.ScalarKind.the-variants.{Unquoted, Quoted, Parameter, UndefinedParameter}
+use Rattle.tape.specs.declared.token.ScalarKind.the-variants.{Unquoted, Parameter, UndefinedParameter}
 use Rattle.tape.specs.declared.token.ContainerKind.{ContainerKind}
 use Rattle.tape.specs.declared.token.ContainerKind.the-variants.{Array, Object}
 use Rattle.tape.specs.declared.token.Container.{Container}
 use Rattle.tape.specs.declared.token.Standing as Standings
 use Rattle.tape.specs.Token.{no-token, mixed-container-token, opener-of, end-of, scalar-of, operator-of, headed, container-of, standing-of}
+use Rattle.tape.specs.Token.{quoted-kind}
 use Rattle.tape.specs.Tape.{Tape, Room, unbounded, before-last}
 use Rattle.machine.specs.declared.State.{State}
 use Rattle.machine.specs.declared.State.the-variants.{Key, KeyValueSeparator, ObjectValue, ParseOpen, ArrayValue}
@@ -82,8 +83,8 @@ flagged ts m = flag-parent (on-tape unbounded ts) m .tokens
 pub data Taken (text : List ℕ) (at : ℕ) : Token → ℕ → Type 0 where
   unquoted : (start end rest : ℕ) → scalar-cut text at ≡ Cuts.the-variants.Unquoted start end rest
       → Taken text at (scalar-of Unquoted start (end - start)) rest
-  quoted : (start end rest : ℕ) → scalar-cut text at ≡ Cuts.the-variants.Quoted start end rest
-      → Taken text at (scalar-of Quoted start (end - start)) rest
+  quoted : (start end rest : ℕ) (escaped : Bool) → scalar-cut text at ≡ Cuts.the-variants.Quoted start end rest escaped
+      → Taken text at (scalar-of (quoted-kind escaped) start (end - start)) rest
 
 -- `[[` or `[[!`: the kind of a parameter, and where its name starts
 pub data Named (text : List ℕ) (at : ℕ) : ScalarKind → ℕ → Type 0 where
@@ -256,7 +257,7 @@ pub data Turned (text : List ℕ) (m : Machine) (ts : List Token) : ℕ → Resu
 -- ---- where what is cut stands, and where the text goes on
 pub taken-moves : {text : List ℕ} {at : ℕ} {x : Token} {rest : ℕ} → Taken text at x rest → at < rest
 taken-moves {text} {at} (unquoted start end rest q) = let b = unquoted-bounds text at start end rest q in omega (arith, b .moves, b .goes-on)
-taken-moves {text} {at} (quoted start end rest q) = let b = quoted-bounds text at start end rest q in omega (arith, b .starts, b .from, b .goes-on)
+taken-moves {text} {at} (quoted start end rest escaped q) = let b = quoted-bounds text at start end rest escaped q in omega (arith, b .starts, b .from, b .goes-on)
 
 -- a run that starts at or after a place, with a byte or more in it
 pub record Run-from (text : List ℕ) (at start : ℕ) : Type 0 where

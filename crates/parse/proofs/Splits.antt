@@ -22,9 +22,9 @@ by-skipped (At p) f g = f p refl
 by-skipped End f g = g refl
 
 pub by-cut : {P : Type 0} (x : Cuts.Cut) → ((s e r : ℕ) → x ≡ Cuts.the-variants.Unquoted s e r → P)
-    → ((s e r : ℕ) → x ≡ Cuts.the-variants.Quoted s e r → P) → (x ≡ Cuts.the-variants.End → P) → P
+    → ((s e r : ℕ) (escaped : Bool) → x ≡ Cuts.the-variants.Quoted s e r escaped → P) → (x ≡ Cuts.the-variants.End → P) → P
 by-cut (Cuts.the-variants.Unquoted s e r) f g h = f s e r refl
-by-cut (Cuts.the-variants.Quoted s e r) f g h = g s e r refl
+by-cut (Cuts.the-variants.Quoted s e r escaped) f g h = g s e r escaped refl
 by-cut Cuts.the-variants.End f g h = h refl
 
 pub by-sighted : {P : Type 0} (x : Signs.Sighted) → ((o : Operator) (w : ℕ) → x ≡ Signs.the-variants.Sign o w → P)

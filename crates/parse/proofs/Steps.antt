@@ -43,13 +43,13 @@ module _ (text : List ℕ) (m : Machine) where
       → and-then (cut-then x ParseOpen t m) (λ t′ m′. open-as text (flag-parent t′ m′) m′) ≡ taken (scalar-found x) ParseOpen t
   unfolding lay-then
   open-taken (Cuts.Unquoted start end rest) t = open-past (lay t (m .count) _) rest
-  open-taken (Cuts.Quoted start end rest) t = open-past (lay t (m .count) _) rest
+  open-taken (Cuts.Quoted start end rest escaped) t = open-past (lay t (m .count) _) rest
   open-taken Cuts.End t = refl
 
   plain-taken : (x : Cut) (state : State) (t : Tape) → is-parse-open state ≡ false → cut-then x state t m ≡ taken (scalar-found x) state t
   unfolding lay-then
   plain-taken (Cuts.Unquoted start end rest) state t e = plain-past (lay t (m .count) _) rest state e
-  plain-taken (Cuts.Quoted start end rest) state t e = plain-past (lay t (m .count) _) rest state e
+  plain-taken (Cuts.Quoted start end rest escaped) state t e = plain-past (lay t (m .count) _) rest state e
   plain-taken Cuts.End state t e = refl
 
   pub entry-taken : (state : State) (t : Tape) → entry text state t m ≡ taken (scalar-found (scalar-cut text (m .at))) state t

@@ -173,7 +173,7 @@ module _ (text : List ℕ) (m : Machine) (ts : List Token) where
   scalar-comes state s ended =
       by-cut (scalar-cut text (m .at))
       (λ start end rest q. moved (M.takes s (unquoted start end rest q)) (λ room. rw (scalar-then, q) (lay-then-on room ts _ rest state m)))
-      (λ start end rest q. moved (M.takes s (quoted start end rest q)) (λ room. rw (scalar-then, q) (lay-then-on room ts _ rest state m)))
+      (λ start end rest escaped q. moved (M.takes s (quoted start end rest escaped q)) (λ room. rw (scalar-then, q) (lay-then-on room ts _ rest state m)))
       (λ q. refuse ended (omega arith) (λ room. rw (scalar-then, q)))
 
   open-comes : Opens (m .state) → Part (λ room. open-then (on-tape room ts) m)
@@ -358,7 +358,7 @@ module _ (text : List ℕ) (m : Machine) (ts : List Token) where
       open-scalar-comes =
           by-cut (scalar-cut text (m .at))
           (λ start end rest q. via (first-comes (unquoted start end rest q)) (λ room. rw (open-scalar, scalar-then, q)))
-          (λ start end rest q. via (first-comes (quoted start end rest q)) (λ room. rw (open-scalar, scalar-then, q)))
+          (λ start end rest escaped q. via (first-comes (quoted start end rest escaped q)) (λ room. rw (open-scalar, scalar-then, q)))
           (λ q. refuse (M.first-uncut st b q) (omega arith) (λ room. rw (open-scalar, scalar-then, q)))
 
     parse-open-comes : Part (λ room. parse-open-turn text (on-tape room ts) m)

@@ -34,8 +34,13 @@ pub(crate) fn scalar_at(text: &[u8], table: &[u8; data::BYTE_COUNT], at: usize) 
             token: viewed(ScalarKind::Unquoted, start, end),
             rest,
         },
-        Cut::Quoted { start, end, rest } => Scalar::Cut {
-            token: viewed(ScalarKind::Quoted, start, end),
+        Cut::Quoted {
+            start,
+            end,
+            rest,
+            escaped,
+        } => Scalar::Cut {
+            token: viewed(token::quoted_kind(escaped), start, end),
             rest,
         },
         Cut::End => Scalar::End,

@@ -82,7 +82,7 @@ unasked-lays (valueless asked) c = rw (named-lays (asked .named), name-ended, as
 -- a first scalar that is cut, and a scalar that stands last
 taken-cut : {text : List ℕ} {at : ℕ} {x : Token} {rest : ℕ} → Taken text at x rest → is-cut (scalar-cut text at) ≡ true
 taken-cut (unquoted start end rest q) = ap is-cut q
-taken-cut (quoted start end rest q) = ap is-cut q
+taken-cut (quoted start end rest escaped q) = ap is-cut q
 
 stands-scalar : (x : Standing.Standing) → ScalarStands x → is-scalar x ≡ true
 stands-scalar Standing.the-variants.Unquoted s = refl

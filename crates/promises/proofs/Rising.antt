@@ -1,5 +1,5 @@
 -- Every tape that a successful parse leaves has views as a sheet owes them: within the text, later ones later, none reaching into
--- the next, and none empty but a Quoted.
+-- the next, and none empty but what stands in quotes.
 -- Assumes nothing.
 pub mod Spans
 pub mod Sheets
@@ -25,7 +25,7 @@ use Rattle.promises.proofs.Rising.Laid.{Base}
 use Rattle.promises.proofs.Rising.Turns.{Risen, Risen-whole, turn-keeps}
 
 -- a run begins with no token
-start-kept : (text-length : ℕ) (bom : Bool) → Risen text-length (start bom) []
+pub start-kept : (text-length : ℕ) (bom : Bool) → Risen text-length (start bom) []
 unfolding start Upto spans
 start-kept L bom =
     let none : Base L (start bom .at) 0 0 [] = record { linked = record { counted = refl; inside = stands-zero []; links = tt }; rising = omega arith } in

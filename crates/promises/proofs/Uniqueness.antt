@@ -40,6 +40,7 @@ use Rattle.cut.proofs.scalar_at.Reads as scalar-at
 use Rattle.tape.proofs.token.scalar_named.Reads as scalar-named
 use Rattle.tape.proofs.token.may_be_empty.Reads as may-be-empty
 use Rattle.tape.proofs.token.is_header.Reads as is-header
+use Rattle.tape.proofs.token.quoted_kind.Reads as quoted-kind
 use Rattle.tape.proofs.token.opener.Reads as opener
 use Rattle.tape.proofs.token.end.Reads as end
 use Rattle.tape.proofs.token.scalar.Reads as scalar
@@ -251,6 +252,7 @@ pub record Tape : Type 0 where
   pub scalar-named : One-result scalar-named.Post
   pub may-be-empty : One-result may-be-empty.Post
   pub is-header : One-result is-header.Post
+  pub quoted-kind : One-result quoted-kind.Post
   pub shape-of : One-result shape-of.Post
   pub link-of : One-result link-of.Post
 
@@ -279,6 +281,7 @@ tape-calls =
       scalar-named = by-definition _ _;
       may-be-empty = by-definition _ _;
       is-header = by-definition _ _;
+      quoted-kind = by-definition _ _;
       shape-of = by-definition _ _;
       link-of = by-definition _ _;
     }

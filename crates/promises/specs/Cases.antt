@@ -1,4 +1,5 @@
--- The cases marked P in document 01, 'Both sides of each edge': a text, how many tokens the tape has room for, and what the parse answers.
+-- The cases marked P in document 01, 'Both sides of each edge', and two for a quoted run with an escape and without: a text, how many
+-- tokens the tape has room for, and what the parse answers.
 use Prim.Native.Nat.{ℕ}
 use Prim.Native.Char.{code}
 use Prim.Native.String.{String}
@@ -7,7 +8,7 @@ use mathlib.Core.Bool.{Bool, true, false}
 use mathlib.Core.List.{List, [], _∷_}
 use Rattle.tape.specs.declared.token.Token.{Token}
 use Rattle.tape.specs.declared.token.ContainerKind.the-variants.{Array}
-use Rattle.tape.specs.declared.token.ScalarKind.the-variants.{Unquoted, Header}
+use Rattle.tape.specs.declared.token.ScalarKind.the-variants.{Unquoted, Quoted, Header, QuotedEscape}
 use Rattle.tape.specs.Token.{opener-of, end-of, scalar-of, operator-of, mixed-container-token}
 use Rattle.tape.specs.Words.{words-for, token-in, tokens-in}
 use Rattle.machine.specs.declared.Parsed.the-variants.{Tokens, Refused}
@@ -97,4 +98,6 @@ cases =
     ∷ case "a=rgb{1}" 16 (tokens-with 5 1 (scalar-of Header 2 3) false)
     ∷ case "[[!a]b=c]" 16 (tokens 5 false)
     ∷ case "a={b c=d {}}" 16 (these forgotten false)
+    ∷ case "a=\"b\\\"c\"" 16 (tokens-with 2 1 (scalar-of QuotedEscape 3 4) false)
+    ∷ case "a=\"bc\"" 16 (tokens-with 2 1 (scalar-of Quoted 3 2) false)
     ∷ []

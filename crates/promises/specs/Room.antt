@@ -77,7 +77,7 @@ key-lays text m =
 -- a scalar, unless the text ends in it
 abbrev pub is-cut : Cut.Cut → Bool
 is-cut (Cut.the-variants.Unquoted start end rest) = true
-is-cut (Cut.the-variants.Quoted start end rest) = true
+is-cut (Cut.the-variants.Quoted start end rest escaped) = true
 is-cut Cut.the-variants.End = false
 
 -- ParseOpen: a parameter's name unless mixed, and the first scalar, which stands on the tape before the blanks in which the text may end

@@ -1,4 +1,4 @@
--- The dump of a text: document 01, 'The dump'.
+-- The dump of a text: document 01, 'The dump'; `QuotedEscape` in it is code 11.
 use Prim.Native.Nat.{ℕ, _+_}
 use mathlib.Core.Bool.{true, false}
 use mathlib.Core.List.{List, [], _∷_, _++_}
@@ -7,7 +7,7 @@ use lib.ListN.{length}
 use Rattle.data.specs.Bytes.{space, line-feed}
 use Rattle.tape.specs.declared.token.Token.{Token}
 use Rattle.tape.specs.Token.{array-code, object-code, mixed-container-code, operator-code, end-code}
-use Rattle.tape.specs.Token.{unquoted-code, quoted-code, parameter-code, undefined-parameter-code, header-code}
+use Rattle.tape.specs.Token.{unquoted-code, quoted-code, parameter-code, undefined-parameter-code, header-code, quoted-escape-code}
 use Rattle.tape.specs.Words.{tokens-in}
 use Rattle.machine.specs.Finish.{Outcome, outcome}
 use Rattle.parse.specs.Parse.{parse-of}
@@ -33,6 +33,7 @@ names =
     ∷ record { code = operator-code; name = words.operator }
     ∷ record { code = end-code; name = words.end }
     ∷ record { code = header-code; name = words.header }
+    ∷ record { code = quoted-escape-code; name = words.quoted-escape }
     ∷ []
 
 -- the name that a list of names has for a code; a code that it does not have has none

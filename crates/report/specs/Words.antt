@@ -35,6 +35,9 @@ end = E ∷ n ∷ d ∷ []
 abbrev pub header : List ℕ
 header = H ∷ e ∷ a ∷ d ∷ e ∷ r ∷ []
 
+abbrev pub quoted-escape : List ℕ
+quoted-escape = Q ∷ u ∷ o ∷ t ∷ e ∷ d ∷ E ∷ s ∷ c ∷ a ∷ p ∷ e ∷ []
+
 -- ---- what lines begin with, and the verdicts
 abbrev pub tokens : List ℕ
 tokens = t ∷ o ∷ k ∷ e ∷ n ∷ s ∷ space ∷ []

@@ -3,14 +3,32 @@ use crate::numbers::put_decimal;
 use crate::put::put_byte;
 use crate::put::put_bytes;
 use tape::codes;
+use tape::token;
+use tape::token::ScalarKind;
+use tape::token::ScalarNamed;
 use tape::token::Token;
 use tape::words;
 ghost use mathlib.Core.Path.{_≡_};
 ghost use lib.ListN.{length};
+ghost use Rattle.tape.specs.Token.{scalar-code};
 ghost use Rattle.tape.specs.Words.{tokens-in};
 ghost use Rattle.report.specs.Append.{wrote, append};
 ghost use Rattle.parse.specs.Told.{bit};
 ghost use Rattle.report.specs.Dump.{name-of, field, line-of, lines-from, header-of, refused-of};
+
+// Puts the name of the scalars of a kind.
+pub fn put_scalar_name(out: &mut [u8], at: usize, kind: ScalarKind) -> usize
+    ensures { λ r. ⌜ wrote r (now (out .exit)) ≡ append (now (out .entry)) at (name-of (scalar-code kind)) ⌝ }
+{
+    match kind {
+        ScalarKind::Unquoted => put_bytes(out, at, b"Unquoted"),
+        ScalarKind::Quoted => put_bytes(out, at, b"Quoted"),
+        ScalarKind::Parameter => put_bytes(out, at, b"Parameter"),
+        ScalarKind::UndefinedParameter => put_bytes(out, at, b"UndefinedParameter"),
+        ScalarKind::Header => put_bytes(out, at, b"Header"),
+        ScalarKind::QuotedEscape => put_bytes(out, at, b"QuotedEscape"),
+    }
+}
 
 // Puts the name of the tokens that have a code, nothing for a code that none has.
 pub fn put_name(out: &mut [u8], at: usize, code: u32) -> usize
@@ -25,28 +43,16 @@ pub fn put_name(out: &mut [u8], at: usize, code: u32) -> usize
     if code == codes::MIXED_CONTAINER {
         return put_bytes(out, at, b"MixedContainer");
     }
-    if code == codes::UNQUOTED {
-        return put_bytes(out, at, b"Unquoted");
-    }
-    if code == codes::QUOTED {
-        return put_bytes(out, at, b"Quoted");
-    }
-    if code == codes::PARAMETER {
-        return put_bytes(out, at, b"Parameter");
-    }
-    if code == codes::UNDEFINED_PARAMETER {
-        return put_bytes(out, at, b"UndefinedParameter");
-    }
     if code == codes::OPERATOR {
         return put_bytes(out, at, b"Operator");
     }
     if code == codes::END {
         return put_bytes(out, at, b"End");
     }
-    if code == codes::HEADER {
-        return put_bytes(out, at, b"Header");
+    match token::scalar_named(code) {
+        ScalarNamed::Kind(kind) => put_scalar_name(out, at, kind),
+        ScalarNamed::Nothing => at,
     }
-    at
 }
 
 // Puts a space and a number.

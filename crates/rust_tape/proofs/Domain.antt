@@ -322,40 +322,40 @@ alike-undoubted d h e alike =
 
 -- how many bytes our cut finds between the quotes, if one closes: what the Rust answers
 abbrev pub as-found : Quoted → Option ℕ
-as-found (Closed n) = some n
+as-found (Closed n escaped) = some n
 as-found Unclosed = none
 
 -- the fallback's loop, at a position one past a place of the part after the quote, goes by bytes as our cut does
-quote-bytewise : (q : ℕ) (bytes : List ℕ) (turns n : ℕ) → length bytes ≤ n + turns
-    → quote-from (q ∷ bytes) turns (n + 1) ≡ as-found (quoted-from (drop n bytes) n)
+quote-bytewise : (q : ℕ) (bytes : List ℕ) (turns n : ℕ) (e : Bool) → length bytes ≤ n + turns
+    → quote-from (q ∷ bytes) turns (n + 1) ≡ as-found (quoted-from (drop n bytes) n e)
 unfolding quote-from
-quote-bytewise q bytes zero n enough = sym (ap as-found (quoted-past bytes n (omega arith)))
-quote-bytewise q bytes (suc turns) n enough =
+quote-bytewise q bytes zero n e enough = sym (ap as-found (quoted-past bytes n e (omega arith)))
+quote-bytewise q bytes (suc turns) n e enough =
     let test : (b : ℕ) → eqb (getD (q ∷ bytes) (n + 1) 0) b ≡ eqb (getD bytes n 0) b = λ b. rw add-one in
     by-place bytes n
     (λ inside. let more = lt-ltb (n + 1) (length (q ∷ bytes)) (omega arith) in
     by-bool (eqb (getD bytes n 0) backslash)
     (λ b. rw (quote-from, more, test backslash ∙ b)
     (ap (quote-from (q ∷ bytes) turns) {x = n + 1 + 2} {y = n + 2 + 1} (omega arith)
-    ∙ quote-bytewise q bytes turns (n + 2) (omega arith)
-    ∙ sym (ap as-found (quoted-escapes bytes n inside (eqb-true _ _ b)))))
+    ∙ quote-bytewise q bytes turns (n + 2) true (omega arith)
+    ∙ sym (ap as-found (quoted-escapes bytes n e inside (eqb-true _ _ b)))))
     (λ other. by-bool (eqb (getD bytes n 0) quote)
     (λ t. rw (quote-from, more, test backslash ∙ other, test quote ∙ t)
-    (ap some {x = n + 1 - 1} {y = n} (omega arith) ∙ sym (ap as-found (quoted-closes bytes n inside (eqb-true _ _ t)))))
+    (ap some {x = n + 1 - 1} {y = n} (omega arith) ∙ sym (ap as-found (quoted-closes bytes n e inside (eqb-true _ _ t)))))
     (λ f. rw (quote-from, more, test backslash ∙ other, test quote ∙ f)
-    (quote-bytewise q bytes turns (n + 1) (omega arith)
-    ∙ sym (ap as-found (quoted-goes-on bytes n inside (eqb-false _ _ f) (eqb-false _ _ other)))))))
-    (λ past. rw (quote-from, le-ltb (n + 1) (length (q ∷ bytes)) (omega arith)) (sym (ap as-found (quoted-past bytes n past))))
+    (quote-bytewise q bytes turns (n + 1) e (omega arith)
+    ∙ sym (ap as-found (quoted-goes-on bytes n e inside (eqb-false _ _ f) (eqb-false _ _ other)))))))
+    (λ past. rw (quote-from, le-ltb (n + 1) (length (q ∷ bytes)) (omega arith)) (sym (ap as-found (quoted-past bytes n e past))))
 
 -- a quoted run over some bytes with no backslash, and more: closed where a search of the first finds a quote, and else on through the others
 abbrev closed-or : Option ℕ → Quoted → Quoted
-closed-or (some at) later = Closed at
+closed-or (some at) later = Closed at false
 closed-or none later = later
 
 quote-search : (xs ys : List ℕ) (n : ℕ) → forward-search (λ b. eqb b backslash) xs n ≡ none
-    → quoted-from (xs ++ ys) n ≡ closed-or (forward-search (λ b. eqb b quote) xs n) (quoted-from ys (n + length xs))
+    → quoted-from (xs ++ ys) n false ≡ closed-or (forward-search (λ b. eqb b quote) xs n) (quoted-from ys (n + length xs) false)
 unfolding quoted-from forward-search
-quote-search [] ys n e = ap (quoted-from ys) (sym (add-zero n))
+quote-search [] ys n e = ap (λ (k : ℕ). quoted-from ys k false) (sym (add-zero n))
 quote-search (x ∷ xs) ys n e =
     by-bool (eqb x backslash)
     (λ b. let it = rw (forward-search, b) at e in cc)
@@ -363,26 +363,27 @@ quote-search (x ∷ xs) ys n e =
     (λ t. rw (quoted-from, forward-search, t))
     (λ f. rw (quoted-from, forward-search, f, other)
     (quote-search xs ys (n + 1) (rw (forward-search, other) at e)
-    ∙ ap (λ (k : ℕ). closed-or (forward-search (λ b. eqb b quote) xs (n + 1)) (quoted-from ys k)) (omega arith))))
+    ∙ ap (λ (k : ℕ). closed-or (forward-search (λ b. eqb b quote) xs (n + 1)) (quoted-from ys k false)) (omega arith))))
 
 quote-stride : (d : List ℕ) (ptr : ℕ) → forward-search (λ b. eqb b backslash) (stride d ptr) ptr ≡ none
-    → quoted-from (drop ptr d) ptr
-    ≡ closed-or (forward-search (λ b. eqb b quote) (stride d ptr) ptr) (quoted-from (drop (ptr + loop-size) d) (ptr + length (stride d ptr)))
-quote-stride d ptr e = ap (λ (bs : List ℕ). quoted-from bs ptr) (part-stride d ptr) ∙ quote-search (stride d ptr) (drop (ptr + loop-size) d) ptr e
+    → quoted-from (drop ptr d) ptr false
+    ≡ closed-or (forward-search (λ b. eqb b quote) (stride d ptr) ptr) (quoted-from (drop (ptr + loop-size) d) (ptr + length (stride d ptr)) false)
+quote-stride d ptr e = ap (λ (bs : List ℕ). quoted-from bs ptr false) (part-stride d ptr) ∙ quote-search (stride d ptr) (drop (ptr + loop-size) d) ptr e
 
 -- a stride that reaches past the end leaves nothing, wherever the count goes on
 stride-past : (d : List ℕ) (ptr : ℕ)
-    → quoted-from (drop (ptr + loop-size) d) (ptr + length (stride d ptr)) ≡ quoted-from (drop (ptr + loop-size) d) (ptr + loop-size)
+    → quoted-from (drop (ptr + loop-size) d) (ptr + length (stride d ptr)) false ≡ quoted-from (drop (ptr + loop-size) d) (ptr + loop-size) false
 unfolding quoted-from
 stride-past d ptr =
     by-place d (ptr + loop-size)
-    (λ inside. rw (length-stride d ptr) (ap (λ (k : ℕ). quoted-from (drop (ptr + loop-size) d) (ptr + k)) (omega arith)))
+    (λ inside. rw (length-stride d ptr) (ap (λ (k : ℕ). quoted-from (drop (ptr + loop-size) d) (ptr + k) false) (omega arith)))
     (λ past. rw (drop-of-length-le d past))
 
-found-quote : (haystack : List ℕ) (at : ℕ) → quote-strides haystack ≡ some at → quoted-run haystack ≡ Closed at
+-- strides that find a quote have passed no backslash
+found-quote : (haystack : List ℕ) (at : ℕ) → quote-strides haystack ≡ some at → quoted-run haystack ≡ Closed at false
 unfolding quote-strides strides quote-look quoted-run
 found-quote d at e =
-    strides-right (λ (ptr : ℕ). quoted-from (drop ptr d) ptr) Closed quote-look d (length d / loop-size * loop-size)
+    strides-right (λ (ptr : ℕ). quoted-from (drop ptr d) ptr false) (λ (k : ℕ). Closed k false) quote-look d (length d / loop-size * loop-size)
     (λ ptr h. by-option (forward-search (λ b. eqb b backslash) (stride d ptr) ptr)
     (λ k b. rw (quote-look, b) tt)
     (λ b. by-option (forward-search (λ b. eqb b quote) (stride d ptr) ptr)
@@ -392,13 +393,13 @@ found-quote d at e =
 
 fallback-quote : (q : ℕ) (bytes : List ℕ) → parse-quote-scalar-fallback (q ∷ bytes) ≡ as-found (quoted-run bytes)
 unfolding parse-quote-scalar-fallback quoted-run
-fallback-quote q bytes = quote-bytewise q bytes (length (q ∷ bytes)) 0 (omega arith)
+fallback-quote q bytes = quote-bytewise q bytes (length (q ∷ bytes)) 0 false (omega arith)
 
 -- more turns than its loop is given leave its answer
 pub quote-settles : (q : ℕ) (bytes : List ℕ) (more : ℕ)
     → quote-from (q ∷ bytes) (length (q ∷ bytes) + more) 1 ≡ parse-quote-scalar-fallback (q ∷ bytes)
 unfolding quoted-run
-quote-settles q bytes more = quote-bytewise q bytes (length (q ∷ bytes) + more) 0 (omega arith) ∙ sym (fallback-quote q bytes)
+quote-settles q bytes more = quote-bytewise q bytes (length (q ∷ bytes) + more) 0 false (omega arith) ∙ sym (fallback-quote q bytes)
 
 -- the Rust cuts a quoted run as we do, whatever its bytes
 pub quoted-alike : (q : ℕ) (bytes : List ℕ) → parse-quote-scalar (q ∷ bytes) ≡ as-found (quoted-run bytes)

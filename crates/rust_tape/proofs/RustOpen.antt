@@ -16,9 +16,9 @@ use Rattle.cut.specs.Scalars.{scalar-cut}
 use Rattle.cut.proofs.Blanks.{skip-lands}
 use Rattle.tape.specs.declared.token.Token.{Token}
 use Rattle.tape.specs.declared.token.ContainerKind.the-variants.{Array, Object}
-use Rattle.tape.specs.declared.token.ScalarKind.the-variants.{Unquoted, Quoted}
+use Rattle.tape.specs.declared.token.ScalarKind.the-variants.{Unquoted}
 use Rattle.tape.specs.declared.token.Container as Containers
-use Rattle.tape.specs.Token.{opener-of, scalar-of, container-of}
+use Rattle.tape.specs.Token.{opener-of, scalar-of, quoted-kind, container-of}
 use Rattle.tape.specs.Tape.{Tape, unbounded, token-at, replace, add, lay}
 use Rattle.sheet.specs.Sound.{nth}
 use Rattle.machine.specs.declared.State.the-variants.{ParseOpen}
@@ -38,7 +38,7 @@ use Rattle.rust_tape.specs.RustTape.{Parser, ParseState, Flow, TextToken
 use Rattle.rust_tape.specs.RustDomain.{scalar-runs, parameter-runs, open-runs, Each}
 use Rattle.promises.proofs.Alike.{added-sized}
 use Rattle.rust_tape.proofs.RustParts.{minus-there, index-there, slice-there, offset-there, skip-same, any-same}
-use Rattle.rust_tape.proofs.RustReads.{rust-tape, tape-length, laid-scalar, laid-end, changed-opener, assign-there}
+use Rattle.rust_tape.proofs.RustReads.{rust-tape, tape-length, laid-scalar, laid-quoted, laid-end, changed-opener, assign-there}
 use Rattle.rust_tape.proofs.RustReads.{container-read, mode-same, state-same}
 use Rattle.rust_tape.proofs.RustTurns.{parser-of, Same}
 use Rattle.rust_tape.proofs.RustParameter.{located, parameter-same}
@@ -216,9 +216,9 @@ module _ (text : List ℕ) (ts : List Token) (m : Machine) (sized : length ts �
       let x : Token = scalar-of Unquoted start (end - start) in
       rw (q, open-scalar, scalar-then, sym (laid-scalar ts Unquoted start (end - start)))
       (open-as-same text (ts ++ (x ∷ [])) (to m rest ParseOpen (m .count + 1)) (parser .state) (added-sized ts (m .count) x sized) (omega arith)))
-      (λ start end rest q.
-      let x : Token = scalar-of Quoted start (end - start) in
-      rw (q, open-scalar, scalar-then, sym (laid-scalar ts Quoted start (end - start)))
+      (λ start end rest escaped q.
+      let x : Token = scalar-of (quoted-kind escaped) start (end - start) in
+      rw (q, open-scalar, scalar-then, sym (laid-quoted ts escaped start (end - start)))
       (open-as-same text (ts ++ (x ∷ [])) (to m rest ParseOpen (m .count + 1)) (parser .state) (added-sized ts (m .count) x sized) (omega arith)))
       (λ q. rw (q, open-scalar, scalar-then) (refl, refl, long)))
 

@@ -119,11 +119,12 @@ split-same text at go h i =
 -- ---- scalars
 abbrev pub taken-by : List ℕ → List TextToken → (List ℕ → List TextToken → Flow) → Cuts.Cut → Flow
 taken-by text us go (Cuts.the-variants.Unquoted start end rest) = go (drop rest text) (Rust.push us (Rust.OfScalar Rust.Unquoted start (end - start)))
-taken-by text us go (Cuts.the-variants.Quoted start end rest) = go (drop rest text) (Rust.push us (Rust.OfScalar Rust.Quoted start (end - start)))
+taken-by text us go (Cuts.the-variants.Quoted start end rest escaped) = go (drop rest text) (Rust.push us (Rust.OfScalar Rust.Quoted start (end - start)))
 taken-by text us go Cuts.the-variants.End = Rust.err Rust.Eof us
 
-by-quoted : {P : Type 0} (q : Quotes.Quoted) → ((k : ℕ) → q ≡ Quotes.the-variants.Closed k → P) → (q ≡ Quotes.the-variants.Unclosed → P) → P
-by-quoted (Quotes.the-variants.Closed k) f g = f k refl
+by-quoted : {P : Type 0} (q : Quotes.Quoted) → ((k : ℕ) (escaped : Bool) → q ≡ Quotes.the-variants.Closed k escaped → P)
+    → (q ≡ Quotes.the-variants.Unclosed → P) → P
+by-quoted (Quotes.the-variants.Closed k escaped) f g = f k escaped refl
 by-quoted Quotes.the-variants.Unclosed f g = g refl
 
 -- a search that starts at a place, as a scan from 0
@@ -150,8 +151,8 @@ module _ (text : List ℕ) (at : ℕ) (us : List TextToken) (go : List ℕ → L
   quote-same q =
       let haystack : Rust.slice-from (drop at text) 1 ≡ some (drop (at + 1) text) = slice-there text at 1 (omega arith) in
       by-quoted (quoted-run (drop (at + 1) text))
-      (λ k e.
-      let closing = quoted-run-closes (drop (at + 1) text) k e in
+      (λ k escaped e.
+      let closing = quoted-run-closes (drop (at + 1) text) k escaped e in
       let long : length (drop (at + 1) text) ≡ length text - (at + 1) = length-drop (at + 1) text in
       let fits : at + 1 + (k + 1) ≤ length text = omega (arith, closing .within) in
       let rest : at + 1 + (k + 1) ≡ at + 1 + k + 1 = omega arith in

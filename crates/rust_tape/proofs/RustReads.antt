@@ -14,14 +14,15 @@ use Rattle.tape.specs.declared.token.Token.{Token}
 use Rattle.tape.specs.declared.token.ContainerKind.{ContainerKind}
 use Rattle.tape.specs.declared.token.ContainerKind.the-variants.{Array, Object}
 use Rattle.tape.specs.declared.token.ScalarKind.{ScalarKind}
-use Rattle.tape.specs.declared.token.ScalarKind.the-variants.{Unquoted, Quoted, Parameter, UndefinedParameter, Header}
+use Rattle.tape.specs.declared.token.ScalarKind.the-variants.{Unquoted, Quoted, Parameter, UndefinedParameter, Header, QuotedEscape}
 use Rattle.tape.specs.declared.token.ScalarNamed.{ScalarNamed}
 use Rattle.tape.specs.declared.token.Container as Containers
 use Rattle.tape.specs.declared.token.Standing as Standings
 use Rattle.tape.specs.declared.shape.Link.the-variants.{ToOpener}
 use Rattle.tape.specs.Token.{array-code, object-code, mixed-container-code, unquoted-code, quoted-code, parameter-code}
-use Rattle.tape.specs.Token.{undefined-parameter-code, operator-code, end-code, header-code, container-code, scalar-named, is-scalar-code}
-use Rattle.tape.specs.Token.{no-token, mixed-container-token, opener-of, end-of, scalar-of, operator-of, headed, container-of, standing-of}
+use Rattle.tape.specs.Token.{undefined-parameter-code, operator-code, end-code, header-code, quoted-escape-code, container-code, scalar-named}
+use Rattle.tape.specs.Token.{is-scalar-code, quoted-kind, no-token, mixed-container-token, opener-of, end-of, scalar-of, operator-of, headed}
+use Rattle.tape.specs.Token.{container-of, standing-of}
 use Rattle.tape.specs.Tape.{unbounded, token-at, before-last}
 use Rattle.tape.proofs.Shapes.{end-link}
 use Rattle.tape.proofs.Makers.{end-uncoded}
@@ -66,6 +67,7 @@ as-variant Quoted = Rust.Quoted
 as-variant Parameter = Rust.Parameter
 as-variant UndefinedParameter = Rust.UndefinedParameter
 as-variant Header = Rust.Header
+as-variant QuotedEscape = Rust.Quoted
 
 abbrev pub as-operator : Ours.Operator → Rust.Operator
 as-operator Ours.the-variants.LessThan = Rust.LessThan
@@ -92,6 +94,7 @@ scalar-read Quoted start size = refl
 scalar-read Parameter start size = refl
 scalar-read UndefinedParameter start size = refl
 scalar-read Header start size = refl
+scalar-read QuotedEscape start size = refl
 
 pub operator-read : (o : Ours.Operator) → token-as-rust (operator-of (number-of o)) ≡ some (Rust.OfOperator (as-operator o))
 unfolding token-as-rust operator-as-rust
@@ -133,6 +136,12 @@ module _ (ts : List Token) where
   pub laid-scalar : (kind : ScalarKind) (start size : ℕ)
       → rust-tape (ts ++ (scalar-of kind start size ∷ [])) ≡ Rust.push (rust-tape ts) (Rust.OfScalar (as-variant kind) start size)
   laid-scalar kind start size = laid (scalar-of kind start size) (Rust.OfScalar (as-variant kind) start size) (scalar-read kind start size)
+
+  -- a quoted run is one with an escape or without
+  pub laid-quoted : (escaped : Bool) (start size : ℕ)
+      → rust-tape (ts ++ (scalar-of (quoted-kind escaped) start size ∷ [])) ≡ Rust.push (rust-tape ts) (Rust.OfScalar Rust.Quoted start size)
+  laid-quoted true start size = laid-scalar QuotedEscape start size
+  laid-quoted false start size = laid-scalar Quoted start size
 
   pub laid-opener : (kind : ContainerKind) (link : ℕ) (mixed : Bool)
       → rust-tape (ts ++ (opener-of kind link mixed ∷ [])) ≡ Rust.push (rust-tape ts) (opener-as kind link mixed)
@@ -193,19 +202,20 @@ get-read match missing ts i =
 
 -- a code that is none of the scalars' names none
 unnamed : (code : ℕ) → eqb code unquoted-code ≡ false → eqb code quoted-code ≡ false → eqb code parameter-code ≡ false
-    → eqb code undefined-parameter-code ≡ false → eqb code header-code ≡ false → scalar-named code ≡ ScalarNamed.Nothing
+    → eqb code undefined-parameter-code ≡ false → eqb code header-code ≡ false → eqb code quoted-escape-code ≡ false
+    → scalar-named code ≡ ScalarNamed.Nothing
 unfolding scalar-named
-unnamed code a b c d e = rw (scalar-named, a, b, c, d, e)
+unnamed code a b c d e f = rw (scalar-named, a, b, c, d, e, f)
 
 -- by a token's code
 by-code : {P : Type 0} (t : Token)
     → (t .code ≡ array-code → P) → (t .code ≡ object-code → P) → (t .code ≡ mixed-container-code → P) → (t .code ≡ unquoted-code → P)
     → (t .code ≡ quoted-code → P) → (t .code ≡ parameter-code → P) → (t .code ≡ undefined-parameter-code → P)
     → (t .code ≡ operator-code → P)
-    → (t .code ≡ end-code → P) → (t .code ≡ header-code → P)
+    → (t .code ≡ end-code → P) → (t .code ≡ header-code → P) → (t .code ≡ quoted-escape-code → P)
     → (container-of t ≡ Containers.the-variants.Nothing → standing-of t ≡ Standings.the-variants.Nothing → token-as-rust t ≡ none → P) → P
 unfolding container-of standing-of token-as-rust
-by-code t f1 f2 f3 f4 f5 f6 f7 f8 f9 f10 other =
+by-code t f1 f2 f3 f4 f5 f6 f7 f8 f9 f10 f11 other =
     by-bool (eqb (t .code) array-code) (λ e. f1 (eqb-true _ _ e)) (λ e1.
     by-bool (eqb (t .code) object-code) (λ e. f2 (eqb-true _ _ e)) (λ e2.
     by-bool (eqb (t .code) mixed-container-code) (λ e. f3 (eqb-true _ _ e)) (λ e3.
@@ -216,8 +226,9 @@ by-code t f1 f2 f3 f4 f5 f6 f7 f8 f9 f10 other =
     by-bool (eqb (t .code) operator-code) (λ e. f8 (eqb-true _ _ e)) (λ e8.
     by-bool (eqb (t .code) end-code) (λ e. f9 (eqb-true _ _ e)) (λ e9.
     by-bool (eqb (t .code) header-code) (λ e. f10 (eqb-true _ _ e)) (λ e10.
-    other (rw (container-of, e1, e2)) (rw (standing-of, e4, unnamed (t .code) e4 e5 e6 e7 e10, e9))
-    (rw (token-as-rust, e1, e2, e3, e4, e5, e6, e7, e8, e9, e10))))))))))))
+    by-bool (eqb (t .code) quoted-escape-code) (λ e. f11 (eqb-true _ _ e)) (λ e11.
+    other (rw (container-of, e1, e2)) (rw (standing-of, e4, unnamed (t .code) e4 e5 e6 e7 e10 e11, e9))
+    (rw (token-as-rust, e1, e2, e3, e4, e5, e6, e7, e8, e9, e10, e11)))))))))))))
 
 -- an operator is one by whatever number
 by-number : {P : Type 0} (n : ℕ) → ((o : Rust.Operator) → operator-as-rust n ≡ some (Rust.OfOperator o) → P)
@@ -246,7 +257,7 @@ token-container t =
     by-code t
     (λ e. rw e) (λ e. rw e) (λ e. rw e) (λ e. rw e) (λ e. rw e) (λ e. rw e) (λ e. rw e)
     (λ e. rw e (by-number (t .a) (λ o q. rw q) (λ q. rw q)))
-    (λ e. rw e) (λ e. rw e)
+    (λ e. rw e) (λ e. rw e) (λ e. rw e)
     (λ c s q. rw (read, q, c))
 
 pub container-read : (ts : List Token) (i : ℕ) → Rust.container (Rust.get (rust-tape ts) i) ≡ as-container (container-of (nth ts i))
@@ -322,6 +333,7 @@ token-stands t unquoted other ended nothing =
     (λ e. other (stands-other t e refl refl) (rw e))
     (λ e. nothing (stands-nothing t e refl refl refl) (rw e (by-number (t .a) (λ o q. rw q) (λ q. rw q))))
     (λ e. ended (stands-end t e refl refl refl) (rw e) e)
+    (λ e. other (stands-other t e refl refl) (rw e))
     (λ e. other (stands-other t e refl refl) (rw e))
     (λ c s q. nothing s (rw (read, q)))
 

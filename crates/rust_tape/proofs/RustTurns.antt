@@ -18,7 +18,7 @@ use Rattle.operator.specs.declared.Sighted as Signs
 use Rattle.operator.specs.Operators.{sighted}
 use Rattle.tape.specs.declared.token.Token.{Token}
 use Rattle.tape.specs.declared.token.ContainerKind.the-variants.{Array}
-use Rattle.tape.specs.declared.token.ScalarKind.the-variants.{Unquoted, Quoted}
+use Rattle.tape.specs.declared.token.ScalarKind.the-variants.{Unquoted}
 use Rattle.tape.specs.Tape.{Tape, unbounded, add, add-before-last, lay, lay-mixed}
 use Rattle.machine.specs.declared.State.{State}
 use Rattle.machine.specs.declared.State.the-variants.{Key, ObjectValue}
@@ -37,7 +37,7 @@ use Rattle.rust_tape.specs.RustTape.{Parser, Flow, TextToken}
 use Rattle.rust_tape.specs.RustDomain.{scalar-runs, object-runs, Each}
 use Rattle.rust_tape.specs.AsRust.{error-number, error-place}
 use Rattle.rust_tape.proofs.RustParts.{byte-next, minus-there, index-there, slice-there, offset-there, any-same}
-use Rattle.rust_tape.proofs.RustReads.{rust-tape, as-state, tape-length, laid-scalar, laid-opener, laid-operator, insert-read}
+use Rattle.rust_tape.proofs.RustReads.{rust-tape, as-state, tape-length, laid-scalar, laid-quoted, laid-opener, laid-operator, insert-read}
 
 -- a machine and its tokens as the Rust has them
 abbrev pub parser-of : List ℕ → Machine → List Token → Parser
@@ -104,7 +104,7 @@ module _ (text : List ℕ) (ts : List Token) (m : Machine) (sized : length ts �
       rw (any-same text (m .at) us (λ rest vs. Rust.loop (Rust.with-data parser rest (as-state state) vs)) here i)
       (by-cut (scalar-cut text (m .at))
       (λ start end rest q. rw (q, scalar-then, laid-scalar ts Unquoted start (end - start)))
-      (λ start end rest q. rw (q, scalar-then, laid-scalar ts Quoted start (end - start)))
+      (λ start end rest escaped q. rw (q, scalar-then, laid-quoted ts escaped start (end - start)))
       (λ q. rw (q, scalar-then) (refl, refl, tape-length ts (m .count) sized)))
 
   -- ---- KeyValueSeparator

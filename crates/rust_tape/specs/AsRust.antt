@@ -6,7 +6,7 @@ use mathlib.Core.Option.{Option, none, some}
 use lib.Dec.{eqb}
 use Rattle.tape.specs.declared.token.Token.{Token}
 use Rattle.tape.specs.Token.{array-code, object-code, mixed-container-code, operator-code, end-code, flag-of}
-use Rattle.tape.specs.Token.{unquoted-code, quoted-code, parameter-code, undefined-parameter-code, header-code}
+use Rattle.tape.specs.Token.{unquoted-code, quoted-code, parameter-code, undefined-parameter-code, header-code, quoted-escape-code}
 use Rattle.tape.specs.Words.{tokens-in}
 use Rattle.parse.specs.Told.{ParseTold, parse-told}
 use Rattle.rust_tape.specs.RustTape as Rust
@@ -28,7 +28,7 @@ operator-as-rust number =
     ∷ [])
     none
 
--- a token of ours is one of the Rust's, or none
+-- a token of ours is one of the Rust's, or none; codes 5 and 11 are both read as its Quoted
 unfoldable pub token-as-rust : Token → Option TextToken
 token-as-rust t =
     arms (
@@ -42,6 +42,7 @@ token-as-rust t =
     ∷ (eqb (t .code) operator-code ⇒ operator-as-rust (t .a))
     ∷ (eqb (t .code) end-code ⇒ some (Rust.End (t .a)))
     ∷ (eqb (t .code) header-code ⇒ some (Rust.OfScalar Rust.Header (t .a) (t .b)))
+    ∷ (eqb (t .code) quoted-escape-code ⇒ some (Rust.OfScalar Rust.Quoted (t .a) (t .b)))
     ∷ [])
     none
 

@@ -1,24 +1,24 @@
 -- What each maker makes is read back as what it was made of: its code, as a container, as what stands before another token; and
 -- a token that was changed.
 -- Assumes nothing.
-use mathlib.Core.Path.{_≡_, refl, _∙_, ap}
+use mathlib.Core.Path.{_≡_, refl, sym, _∙_, ap}
 use mathlib.Core.Bool.{Bool, true, false, false≢true}
 use Prim.Native.Nat.{ℕ}
-use native.Mathlib.Omega.{arith}
-use borrow.Author.Tests.{eqb-true}
+use borrow.Author.Tests.{eq-eqb, eqb-true}
 use lib.Dec.{eqb}
 use Rattle.data.proofs.Cases.{by-bool}
 use Rattle.tape.specs.declared.token.Token.{Token}
 use Rattle.tape.specs.declared.token.ContainerKind.{ContainerKind}
 use Rattle.tape.specs.declared.token.ContainerKind.the-variants.{Array, Object}
 use Rattle.tape.specs.declared.token.ScalarKind.{ScalarKind}
-use Rattle.tape.specs.declared.token.ScalarKind.the-variants.{Unquoted, Quoted, Parameter, UndefinedParameter, Header}
+use Rattle.tape.specs.declared.token.ScalarKind.the-variants.{Unquoted, Quoted, Parameter, UndefinedParameter, Header, QuotedEscape}
+use Rattle.tape.specs.declared.token.ScalarNamed.{ScalarNamed}
 use Rattle.tape.specs.declared.token.ScalarNamed.the-variants.{Kind}
 use Rattle.tape.specs.declared.token.Container.{Container}
 use Rattle.tape.specs.declared.token.Container.the-variants.{Opened}
 use Rattle.tape.specs.declared.token.Standing as Standings
-use Rattle.tape.specs.Token.{unquoted-code, end-code, header-code}
-use Rattle.tape.specs.Token.{scalar-code, scalar-named, names-scalar, is-scalar-code, is-header}
+use Rattle.tape.specs.Token.{array-code, object-code, unquoted-code, end-code, header-code}
+use Rattle.tape.specs.Token.{scalar-code, scalar-named, names-scalar, is-scalar-code, is-header, may-be-empty, quoted-kind}
 use Rattle.tape.specs.Token.{relinked, reflagged, rekinded}
 use Rattle.tape.specs.Token.{opener-of, end-of, scalar-of, operator-of, mixed-container-token, no-token, container-of, standing-of}
 
@@ -31,6 +31,7 @@ code-names Quoted = refl
 code-names Parameter = refl
 code-names UndefinedParameter = refl
 code-names Header = refl
+code-names QuotedEscape = refl
 
 -- so it is a scalar's
 pub scalar-coded : (kind : ScalarKind) → is-scalar-code (scalar-code kind) ≡ true
@@ -53,21 +54,32 @@ pub none-uncoded : is-scalar-code (no-token .code) ≡ false
 unfolding scalar-named
 none-uncoded = refl
 
+-- a code that names no kind is none of theirs
+pub unnamed : (code : ℕ) (kind : ScalarKind) → scalar-named code ≡ ScalarNamed.Nothing → eqb code (scalar-code kind) ≡ false
+unnamed code kind n =
+    by-bool (eqb code (scalar-code kind))
+    (λ e.
+    let named : scalar-named code ≡ Kind kind = ap scalar-named (eqb-true code (scalar-code kind) e) ∙ code-names kind in
+    let no : ScalarNamed.Nothing ≡ Kind kind = sym n ∙ named in cc)
+    (λ e. e)
+
+-- a quoted run may be empty, with an escape or without, and is no Header
+pub quoted-empty : (escaped : Bool) → may-be-empty (quoted-kind escaped) ≡ true
+quoted-empty true = refl
+quoted-empty false = refl
+
+pub quoted-headless : (escaped : Bool) → is-header (quoted-kind escaped) ≡ false
+quoted-headless true = refl
+quoted-headless false = refl
+
 -- a kind is a Header where it is told to be one
 pub header-told : (kind : ScalarKind) → is-header kind ≡ true → kind ≡ Header
-header-told Unquoted h = absurd (false≢true h)
-header-told Quoted h = absurd (false≢true h)
-header-told Parameter h = absurd (false≢true h)
-header-told UndefinedParameter h = absurd (false≢true h)
-header-told Header h = refl
+header-told kind h =
+    let same : Kind kind ≡ Kind Header = sym (code-names kind) ∙ ap scalar-named (eqb-true (scalar-code kind) header-code h) ∙ code-names Header in cc
 
 -- and its code is a Header's only then
 pub header-coded : (kind : ScalarKind) → scalar-code kind ≡ header-code → is-header kind ≡ true
-header-coded Unquoted e = absurd (omega arith)
-header-coded Quoted e = absurd (omega arith)
-header-coded Parameter e = absurd (omega arith)
-header-coded UndefinedParameter e = absurd (omega arith)
-header-coded Header e = refl
+header-coded kind e = eq-eqb (scalar-code kind) header-code e
 
 -- ---- as a container
 pub opener-container : (kind : ContainerKind) (link : ℕ) (mixed : Bool) → container-of (opener-of kind link mixed) ≡ Opened kind link mixed
@@ -77,13 +89,18 @@ opener-container Array link false = refl
 opener-container Object link true = refl
 opener-container Object link false = refl
 
+-- a code of scalars is no container's
+coded-container : (t : Token) → is-scalar-code (t .code) ≡ true → container-of t ≡ Container.Nothing
+unfolding container-of scalar-named
+coded-container t s =
+    by-bool (eqb (t .code) array-code)
+    (λ e. absurd (false≢true (sym (ap is-scalar-code (eqb-true _ _ e)) ∙ s)))
+    (λ e. by-bool (eqb (t .code) object-code)
+    (λ f. absurd (false≢true (sym (ap is-scalar-code (eqb-true _ _ f)) ∙ s)))
+    (λ f. rw (container-of, e, f)))
+
 pub scalar-container : (kind : ScalarKind) (offset size : ℕ) → container-of (scalar-of kind offset size) ≡ Container.Nothing
-unfolding container-of
-scalar-container Unquoted offset size = refl
-scalar-container Quoted offset size = refl
-scalar-container Parameter offset size = refl
-scalar-container UndefinedParameter offset size = refl
-scalar-container Header offset size = refl
+scalar-container kind offset size = coded-container (scalar-of kind offset size) (scalar-coded kind)
 
 -- ---- as what stands before another token
 pub opener-standing : (kind : ContainerKind) (link : ℕ) (mixed : Bool) → standing-of (opener-of kind link mixed) ≡ Standings.the-variants.Nothing

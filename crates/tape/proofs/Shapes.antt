@@ -1,6 +1,7 @@
 -- A token's shape is its form: what each maker makes has its shape, and what has a shape was made so.
 -- Assumes nothing.
-use mathlib.Core.Path.{_≡_, refl, _∙_, ap, subst}
+use mathlib.Core.Path.{_≡_, refl, sym, _∙_, ap, subst}
+use mathlib.Core.List.{List, [], _∷_}
 use mathlib.Core.Bool.{Bool, true, false}
 use mathlib.Core.Logic.{_⊎_, inl, inr}
 use Prim.Native.Nat.{ℕ, _≤_}
@@ -12,7 +13,6 @@ use Rattle.tape.specs.declared.token.Token.{Token}
 use Rattle.tape.specs.declared.token.ContainerKind.{ContainerKind}
 use Rattle.tape.specs.declared.token.ContainerKind.the-variants.{Array, Object}
 use Rattle.tape.specs.declared.token.ScalarKind.{ScalarKind}
-use Rattle.tape.specs.declared.token.ScalarKind.the-variants.{Unquoted, Quoted, Parameter, UndefinedParameter, Header}
 use Rattle.tape.specs.declared.token.Container.{Container}
 use Rattle.tape.specs.declared.token.Container.the-variants.{Opened}
 use Rattle.tape.specs.declared.shape.Shape.{Shape}
@@ -21,11 +21,11 @@ use Rattle.tape.specs.declared.shape.Link.{Link}
 use Rattle.tape.specs.declared.shape.Link.the-variants.{ToEnd, ToOpener}
 use Rattle.tape.specs.declared.token.ScalarNamed.{ScalarNamed}
 use Rattle.tape.specs.declared.token.ScalarNamed.the-variants.{Kind}
-use Rattle.tape.specs.Token.{array-code, object-code, mixed-container-code, unquoted-code, quoted-code, parameter-code}
-use Rattle.tape.specs.Token.{undefined-parameter-code, operator-code, end-code, header-code, least-operator, greatest-operator}
-use Rattle.tape.specs.Token.{container-code, scalar-code, scalar-named, flag-of, stores-flag}
+use Rattle.tape.specs.Token.{array-code, object-code, mixed-container-code, operator-code, end-code, least-operator, greatest-operator}
+use Rattle.tape.specs.Token.{container-code, scalar-code, scalar-kinds, named-among, scalar-named, flag-of, stores-flag}
 use Rattle.tape.specs.Token.{opener-of, end-of, scalar-of, operator-of, mixed-container-token, no-token, container-of}
 use Rattle.tape.specs.Shape.{bare-shape, shape-of, linked, link-of, Opens}
+use Rattle.tape.proofs.Makers.{code-names, scalar-container}
 
 -- ---- the shape, by the tests that lead to it
 pub shape-opened : (t : Token) {kind : ContainerKind} {link : ℕ} {mixed : Bool} → container-of t ≡ Opened kind link mixed → stores-flag (t .b) ≡ true
@@ -66,12 +66,7 @@ unfolding shape-of container-of scalar-named bare-shape
 mixed-container-shape = refl
 
 pub scalar-shape : (kind : ScalarKind) (offset size : ℕ) → shape-of (scalar-of kind offset size) ≡ Scalar kind offset size
-unfolding shape-of container-of scalar-named
-scalar-shape Unquoted offset size = refl
-scalar-shape Quoted offset size = refl
-scalar-shape Parameter offset size = refl
-scalar-shape UndefinedParameter offset size = refl
-scalar-shape Header offset size = refl
+scalar-shape kind offset size = sym (shape-named (scalar-of kind offset size) (scalar-container kind offset size) (code-names kind))
 
 pub operator-shape : (number : ℕ) → least-operator ≤ number → number ≤ greatest-operator → shape-of (operator-of number) ≡ Operator number
 unfolding shape-of container-of scalar-named bare-shape
@@ -135,25 +130,19 @@ container-told t =
     (λ f. inr (rw (container-of, e, f))))
 
 -- a code names a kind of scalar, or none
-abbrev ScalarTold : ℕ → Type 0
-ScalarTold code =
-    ((kind : ScalarKind) × (code ≡ scalar-code kind) × (scalar-named code ≡ Kind kind))
-    ⊎ (scalar-named code ≡ ScalarNamed.Nothing)
+abbrev ScalarTold : ℕ → ScalarNamed → Type 0
+ScalarTold code named = ((kind : ScalarKind) × (code ≡ scalar-code kind) × (named ≡ Kind kind)) ⊎ (named ≡ ScalarNamed.Nothing)
 
-scalar-told : (code : ℕ) → ScalarTold code
+told-among : (kinds : List ScalarKind) (code : ℕ) → ScalarTold code (named-among kinds code)
+told-among [] code = inr refl
+told-among (kind ∷ kinds) code =
+    by-bool (eqb code (scalar-code kind))
+    (λ e. rw (named-among, e) (inl (kind, eqb-true _ _ e, refl)))
+    (λ e. rw (named-among, e) (told-among kinds code))
+
+scalar-told : (code : ℕ) → ScalarTold code (scalar-named code)
 unfolding scalar-named
-scalar-told code =
-    by-bool (eqb code unquoted-code)
-    (λ e. inl (Unquoted, eqb-true _ _ e, rw (scalar-named, e)))
-    (λ e. by-bool (eqb code quoted-code)
-    (λ f. inl (Quoted, eqb-true _ _ f, rw (scalar-named, e, f)))
-    (λ f. by-bool (eqb code parameter-code)
-    (λ g. inl (Parameter, eqb-true _ _ g, rw (scalar-named, e, f, g)))
-    (λ g. by-bool (eqb code undefined-parameter-code)
-    (λ h. inl (UndefinedParameter, eqb-true _ _ h, rw (scalar-named, e, f, g, h)))
-    (λ h. by-bool (eqb code header-code)
-    (λ k. inl (Header, eqb-true _ _ k, rw (scalar-named, e, f, g, h, k)))
-    (λ k. inr (rw (scalar-named, e, f, g, h, k)))))))
+scalar-told code = told-among scalar-kinds code
 
 -- a token was made as its shape says
 pub made : (t : Token) → Made t (shape-of t)
@@ -165,7 +154,7 @@ made t = by-container (container-told t)
         (λ f. rw (← shape-opened t e f) (kind, flag-of (t .b), same-token t c refl (eqb-true _ _ f)))
         (λ f. rw (← shape-misflagged t e f) tt)
 
-    by-scalar : container-of t ≡ Container.Nothing → ScalarTold (t .code) → Made t (shape-of t)
+    by-scalar : container-of t ≡ Container.Nothing → ScalarTold (t .code) (scalar-named (t .code)) → Made t (shape-of t)
     by-scalar e (inl s) = rw (← shape-named t e (s .2)) (same-token t (s .1) refl refl)
     by-scalar e (inr f) =
         by-bool (eqb (t .b) 0)

@@ -1,14 +1,14 @@
--- A token's code and two words: document 01, 'Three words to a token'.
+-- A token's code and two words: document 01, 'Three words to a token', and code 11, quoted with an escape, whose words are as Quoted's.
 use Prim.Native.Nat.{ℕ}
-use mathlib.Core.Bool.{Bool, true, false}
-use mathlib.Core.List.{List}
+use mathlib.Core.Bool.{Bool, true, false, _||_}
+use mathlib.Core.List.{List, [], _∷_}
 use lib.Dec.{eqb}
 use lib.ListN.{getD}
 use Rattle.tape.specs.declared.token.Token.{Token}
 use Rattle.tape.specs.declared.token.ContainerKind.{ContainerKind}
 use Rattle.tape.specs.declared.token.ContainerKind.the-variants.{Array, Object}
 use Rattle.tape.specs.declared.token.ScalarKind.{ScalarKind}
-use Rattle.tape.specs.declared.token.ScalarKind.the-variants.{Unquoted, Quoted, Parameter, UndefinedParameter, Header}
+use Rattle.tape.specs.declared.token.ScalarKind.the-variants.{Unquoted, Quoted, Parameter, UndefinedParameter, Header, QuotedEscape}
 use Rattle.tape.specs.declared.token.ScalarNamed.{ScalarNamed}
 use Rattle.tape.specs.declared.token.ScalarNamed.the-variants.{Kind}
 use Rattle.tape.specs.declared.token.Container.{Container}
@@ -47,6 +47,9 @@ end-code = 9
 abbrev pub header-code : ℕ
 header-code = 10
 
+abbrev pub quoted-escape-code : ℕ
+quoted-escape-code = 11
+
 -- the numbers of operators go from 1 to 8
 abbrev pub least-operator : ℕ
 least-operator = 1
@@ -64,26 +67,19 @@ scalar-code Quoted = quoted-code
 scalar-code Parameter = parameter-code
 scalar-code UndefinedParameter = undefined-parameter-code
 scalar-code Header = header-code
+scalar-code QuotedEscape = quoted-escape-code
+
+-- the kinds of scalar, listed once: whatever asks whether a code is a scalar's goes through this list
+abbrev pub scalar-kinds : List ScalarKind
+scalar-kinds = Unquoted ∷ Quoted ∷ Parameter ∷ UndefinedParameter ∷ Header ∷ QuotedEscape ∷ []
 
 -- the kind of scalar that a code names, or none
+abbrev pub named-among : List ScalarKind → ℕ → ScalarNamed
+named-among [] code = ScalarNamed.Nothing
+named-among (kind ∷ kinds) code = elim (eqb code (scalar-code kind)) [ true ↦ Kind kind | false ↦ named-among kinds code ]
+
 unfoldable pub scalar-named : ℕ → ScalarNamed
-scalar-named code =
-    elim (eqb code unquoted-code) [
-      | true ↦ Kind Unquoted
-      | false ↦ elim (eqb code quoted-code) [
-        | true ↦ Kind Quoted
-        | false ↦ elim (eqb code parameter-code) [
-          | true ↦ Kind Parameter
-          | false ↦ elim (eqb code undefined-parameter-code) [
-            | true ↦ Kind UndefinedParameter
-            | false ↦ elim (eqb code header-code) [
-              | true ↦ Kind Header
-              | false ↦ ScalarNamed.Nothing
-            ]
-          ]
-        ]
-      ]
-    ]
+scalar-named code = named-among scalar-kinds code
 
 -- whether a code names a kind of scalar
 abbrev pub names-scalar : ScalarNamed → Bool
@@ -93,21 +89,18 @@ names-scalar ScalarNamed.Nothing = false
 abbrev pub is-scalar-code : ℕ → Bool
 is-scalar-code code = names-scalar (scalar-named code)
 
--- only Quoted may have length 0
+-- the tape gets code 11, quoted with an escape
+abbrev pub quoted-kind : Bool → ScalarKind
+quoted-kind true = QuotedEscape
+quoted-kind false = Quoted
+
+-- only Quoted may have length 0, and code 11, which is treated as code 5
 abbrev pub may-be-empty : ScalarKind → Bool
-may-be-empty Unquoted = false
-may-be-empty Quoted = true
-may-be-empty Parameter = false
-may-be-empty UndefinedParameter = false
-may-be-empty Header = false
+may-be-empty kind = eqb (scalar-code kind) quoted-code || eqb (scalar-code kind) quoted-escape-code
 
 -- a Header has a container next
 abbrev pub is-header : ScalarKind → Bool
-is-header Unquoted = false
-is-header Quoted = false
-is-header Parameter = false
-is-header UndefinedParameter = false
-is-header Header = true
+is-header kind = eqb (scalar-code kind) header-code
 
 -- ---- an opener's b word: mixed, 0 or 1
 abbrev pub flag-word : Bool → ℕ

@@ -19,6 +19,8 @@ pub const END: u32 = 9;
 
 pub const HEADER: u32 = 10;
 
+pub const QUOTED_ESCAPE: u32 = 11;
+
 // The operators are numbered from the first of these to the second.
 pub const LEAST_OPERATOR: u32 = 1;
 

@@ -1,7 +1,8 @@
 // A token by value: a code and two words. Whoever lays one down makes it by name, and whoever reads one asks what it is.
 use crate::codes;
 ghost use mathlib.Core.Path.{_≡_};
-ghost use Rattle.tape.specs.Token.{container-code, scalar-code, scalar-named, is-scalar-code, may-be-empty, is-header, flag-word, flag-of, stores-flag};
+ghost use Rattle.tape.specs.Token.{container-code, scalar-code, scalar-named, is-scalar-code, may-be-empty, is-header, quoted-kind};
+ghost use Rattle.tape.specs.Token.{flag-word, flag-of, stores-flag};
 ghost use Rattle.tape.specs.Token.{opener-of, end-of, scalar-of, operator-of, mixed-container-token, container-of, standing-of, headed};
 
 pub struct Token {
@@ -16,13 +17,14 @@ pub enum ContainerKind {
     Object,
 }
 
-// The five kinds of scalar.
+// The six kinds of scalar. A QuotedEscape is a quoted run in which a backslash took part.
 pub enum ScalarKind {
     Unquoted,
     Quoted,
     Parameter,
     UndefinedParameter,
     Header,
+    QuotedEscape,
 }
 
 // The kind of scalar that a code names, or none.
@@ -75,6 +77,7 @@ fn scalar_number(kind: ScalarKind) -> u32
         ScalarKind::Parameter => codes::PARAMETER,
         ScalarKind::UndefinedParameter => codes::UNDEFINED_PARAMETER,
         ScalarKind::Header => codes::HEADER,
+        ScalarKind::QuotedEscape => codes::QUOTED_ESCAPE,
     }
 }
 
@@ -97,6 +100,9 @@ pub fn scalar_named(code: u32) -> ScalarNamed
     if code == codes::HEADER {
         return ScalarNamed::Kind(ScalarKind::Header);
     }
+    if code == codes::QUOTED_ESCAPE {
+        return ScalarNamed::Kind(ScalarKind::QuotedEscape);
+    }
     ScalarNamed::Nothing
 }
 
@@ -110,30 +116,29 @@ fn is_scalar_code(code: u32) -> bool
     }
 }
 
-// Whether a scalar of a kind may have a view of no byte.
+// The kind of a quoted run, by whether a backslash took part in it.
+pub fn quoted_kind(escaped: bool) -> ScalarKind
+    ensures { λ r. ⌜ r ≡ quoted-kind escaped ⌝ }
+{
+    if escaped {
+        return ScalarKind::QuotedEscape;
+    }
+    ScalarKind::Quoted
+}
+
+// Whether a scalar of a kind may have a view of no byte, as what stands in quotes may.
 pub fn may_be_empty(kind: ScalarKind) -> bool
     ensures { λ r. ⌜ r ≡ may-be-empty kind ⌝ }
 {
-    match kind {
-        ScalarKind::Unquoted => false,
-        ScalarKind::Quoted => true,
-        ScalarKind::Parameter => false,
-        ScalarKind::UndefinedParameter => false,
-        ScalarKind::Header => false,
-    }
+    let code = scalar_number(kind);
+    (code == codes::QUOTED) | (code == codes::QUOTED_ESCAPE)
 }
 
 // Whether a kind of scalar is a Header, which has a container next.
 pub fn is_header(kind: ScalarKind) -> bool
     ensures { λ r. ⌜ r ≡ is-header kind ⌝ }
 {
-    match kind {
-        ScalarKind::Unquoted => false,
-        ScalarKind::Quoted => false,
-        ScalarKind::Parameter => false,
-        ScalarKind::UndefinedParameter => false,
-        ScalarKind::Header => true,
-    }
+    scalar_number(kind) == codes::HEADER
 }
 
 // An opener's second word, which stores its mixed flag.

@@ -1,4 +1,5 @@
--- `cut::parse_quote_scalar` meets its contract: the invariant says what is left, that the run of the whole part is the run from `i` on.
+-- `cut::parse_quote_scalar` meets its contract: the invariant says what is left, that the run of the whole part is the run from `i` on, with
+-- the flag as it stands.
 -- Assumes nothing.
 use mathlib.Core.Path.{_≡_, refl, sym, _∙_}
 use Prim.Native.Nat.{_-_}
@@ -10,10 +11,10 @@ use Rattle.cut.proofs.parse_quote_scalar.Statement.{statement}
 use Rattle.cut.proofs.parse_quote_scalar.Tie as tie
 
 abbrev Inv-loop : tie.InvT-loop
-Inv-loop d i₀ i = quoted-run d ≡ quoted-from (drop i d) i
+Inv-loop d i₀ escaped₀ i escaped = quoted-run d ≡ quoted-from (drop i d) i escaped
 
 abbrev μ-loop : tie.MeasureT-loop
-μ-loop d i₀ i = length d - i
+μ-loop d i₀ escaped₀ i escaped = length d - i
 
 loop-holds : tie.Need-loop-holds Inv-loop μ-loop
 unfolding quoted-run
@@ -23,7 +24,7 @@ shared-slice-read-b : tie.Need-shared-slice-read-b Inv-loop μ-loop
 shared-slice-read-b c = search needs
 
 returns : tie.Need-returns Inv-loop μ-loop
-returns c = sym (c .before .before .before .loop .inv ∙ quoted-closes _ _ (c .before .before .loop-test .taken) (c .if1 .taken))
+returns c = sym (c .before .before .before .loop .inv ∙ quoted-closes _ _ _ (c .before .before .loop-test .taken) (c .if1 .taken))
 
 add-i : tie.Need-add-i Inv-loop μ-loop
 add-i c = search needs
@@ -32,7 +33,7 @@ loop-less : tie.Need-loop-less Inv-loop μ-loop
 loop-less c = search needs
 
 loop-again : tie.Need-loop-again Inv-loop μ-loop
-loop-again c = c .before .before .before .before .loop .inv ∙ quoted-escapes _ _ (c .before .before .before .loop-test .taken) (c .if2 .taken)
+loop-again c = c .before .before .before .before .loop .inv ∙ quoted-escapes _ _ _ (c .before .before .before .loop-test .taken) (c .if2 .taken)
 
 add-i-2 : tie.Need-add-i-2 Inv-loop μ-loop
 add-i-2 c = search needs
@@ -45,10 +46,10 @@ loop-again-2 c =
     let at-if1 = c .before in
     let at-loop-test = at-if1 .before .before in
     let at-loop = at-loop-test .before in
-    at-loop .loop .inv ∙ quoted-goes-on _ _ (at-loop-test .loop-test .taken) (at-if1 .if1 .left) (c .if2 .left)
+    at-loop .loop .inv ∙ quoted-goes-on _ _ _ (at-loop-test .loop-test .taken) (at-if1 .if1 .left) (c .if2 .left)
 
 returns-2 : tie.Need-returns-2 Inv-loop μ-loop
-returns-2 c = sym (c .before .loop .inv ∙ quoted-past _ _ (c .loop-test .left))
+returns-2 c = sym (c .before .loop .inv ∙ quoted-past _ _ _ (c .loop-test .left))
 
 pub parse-quote-scalar-spec : {M : Type 1} → statement M
 parse-quote-scalar-spec =

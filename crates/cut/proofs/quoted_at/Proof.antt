@@ -29,7 +29,7 @@ enum-known-length c = search needs
 
 closed : (c : tie.After-known-told)
     → let a = c .before .before .before .before .before .before .args in
-    quoted-run (drop (a .start) (now (a .text))) ≡ Closed (c .before .length .given .0 .0)
+    quoted-run (drop (a .start) (now (a .text))) ≡ Closed (c .before .length .given .0 .0) (c .before .length .given .0 .1 .0)
 closed c =
     let a = c .before .before .before .before .before .before .args in
     sym (quoted-part (now (a .text)) (a .start) _ (c .before .before .before .parse-quote-scalar .ensures)) ∙ c .before .length .given .1
@@ -38,13 +38,13 @@ add-end : tie.Need-add-end
 add-end c =
     let at-length = c .before in
     let at-start = at-length .before .before .before .before .before in
-    omega (arith, quoted-part-closes (now (at-start .args .text)) (at-start .args .start) (at-length .length .given .0 .0) (at-start .pre) (closed c))
+    omega (arith, quoted-part-closes (now (at-start .args .text)) (at-start .args .start) (at-length .length .given .0 .0) _ (at-start .pre) (closed c))
 
-add-t11 : tie.Need-add-t11
-add-t11 c =
+add-rest : tie.Need-add-rest
+add-rest c =
     let at-length = c .before in
     let at-start = at-length .before .before .before .before .before in
-    omega (arith, quoted-part-closes (now (at-start .args .text)) (at-start .args .start) (at-length .length .given .0 .0) (at-start .pre) (closed c))
+    omega (arith, quoted-part-closes (now (at-start .args .text)) (at-start .args .start) (at-length .length .given .0 .0) _ (at-start .pre) (closed c))
 
 enum-told : tie.Need-enum-told
 enum-told c = search needs
@@ -67,7 +67,7 @@ quoted-at-spec =
     parse-quote-scalar-requires
     enum-known-length
     add-end
-    add-t11
+    add-rest
     enum-told
     returns
     returns-2)

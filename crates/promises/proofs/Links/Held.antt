@@ -7,9 +7,10 @@ use Prim.Native.Nat.{ℕ, _+_, _-_, _≤_}
 use native.Mathlib.Omega.{arith}
 use lib.ListN.{length}
 use Rattle.tape.specs.declared.token.Token.{Token}
-use Rattle.tape.specs.declared.token.ScalarKind.the-variants.{Unquoted, Quoted}
+use Rattle.tape.specs.declared.token.ScalarKind.the-variants.{Unquoted}
 use Rattle.tape.specs.declared.token.ContainerKind.the-variants.{Array}
-use Rattle.tape.specs.Token.{opener-of}
+use Rattle.tape.specs.Token.{opener-of, quoted-kind}
+use Rattle.tape.proofs.Makers.{quoted-headless}
 use Rattle.machine.specs.declared.State.{State}
 use Rattle.machine.specs.declared.State.the-variants.{Key, KeyValueSeparator, ObjectValue, ParseOpen, ArrayValue}
 use Rattle.machine.specs.declared.Machine.{Machine}
@@ -67,7 +68,8 @@ All P x = Walk.All P Finished x
 -- a scalar that is cut is a plain token
 pub taken-plain : {text : List ℕ} {at : ℕ} {x : Token} {rest : ℕ} → Taken text at x rest → Plain x × Scalar x
 taken-plain (unquoted start end rest q) = (plain-scalar Unquoted start (end - start) tt, scalar-made Unquoted start (end - start))
-taken-plain (quoted start end rest q) = (plain-scalar Quoted start (end - start) tt, scalar-made Quoted start (end - start))
+taken-plain (quoted start end rest escaped q) =
+    (plain-scalar (quoted-kind escaped) start (end - start) (rw (quoted-headless escaped) tt), scalar-made (quoted-kind escaped) start (end - start))
 
 -- ---- a plain token laid down
 -- one more token, counted

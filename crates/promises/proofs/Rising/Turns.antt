@@ -1,7 +1,7 @@
 -- Every turn keeps the views rising, up to the place that it has come to.
 -- Assumes nothing.
 use mathlib.Core.Path.{_≡_, refl, sym, _∙_, ap}
-use mathlib.Core.Bool.{true, false}
+use mathlib.Core.Bool.{true, false, false≢true}
 use mathlib.Core.List.{List, [], _∷_, _++_}
 use Prim.Native.Nat.{ℕ, _+_, _-_, _≤_, _<_, min}
 use native.Mathlib.Omega.{arith}
@@ -12,12 +12,13 @@ use Rattle.cut.specs.Runs.{run-end}
 use Rattle.cut.proofs.Scalars.{unquoted-bounds, quoted-bounds}
 use Rattle.tape.specs.declared.token.Token.{Token}
 use Rattle.tape.specs.declared.token.ScalarKind.{ScalarKind}
-use Rattle.tape.specs.declared.token.ScalarKind.the-variants.{Unquoted, Quoted}
+use Rattle.tape.specs.declared.token.ScalarKind.the-variants.{Unquoted}
 use Rattle.tape.specs.declared.token.ContainerKind.{ContainerKind}
 use Rattle.tape.specs.declared.token.ContainerKind.the-variants.{Array, Object}
 use Rattle.tape.specs.declared.token.Container.{Container}
 use Rattle.tape.specs.declared.token.Container.the-variants.{Opened, Nothing}
-use Rattle.tape.specs.Token.{opener-of, operator-of, headed}
+use Rattle.tape.specs.Token.{opener-of, operator-of, headed, quoted-kind}
+use Rattle.tape.proofs.Makers.{quoted-empty}
 use Rattle.tape.specs.Tape.{token-at, replace}
 use Rattle.operator.specs.Operators.{number-of}
 use Rattle.machine.specs.declared.State.{State}
@@ -113,14 +114,14 @@ taken-base : {text : List ℕ} {at : ℕ} {x : Token} {rest : ℕ} → Taken tex
 taken-base {text} {at} (unquoted start end rest q) b =
     let v = unquoted-bounds text at start end rest q in
     base-run b Unquoted start end rest (omega (arith, v .starts)) (omega (arith, v .starts, v .moves)) (v .within) (omega (arith, v .goes-on))
-taken-base {text} {at} (quoted start end rest q) b =
-    let v = quoted-bounds text at start end rest q in
-    base-scalar b Quoted start (end - start) rest
+taken-base {text} {at} (quoted start end rest escaped q) b =
+    let v = quoted-bounds text at start end rest escaped q in
+    base-scalar b (quoted-kind escaped) start (end - start) rest
     record {
       from = omega (arith, v .starts);
       starts = omega (arith, v .from, v .within, v .goes-on);
       ends = omega (arith, v .from, v .within, v .goes-on);
-      full = λ z. let no : _≡_ {A = ℕ} 0 1 = cc in omega arith;
+      full = λ z. absurd (false≢true (sym z ∙ quoted-empty escaped));
     }
 
 -- the parent's stored flag is set: no view changes

@@ -48,7 +48,8 @@ returns-5 c =
 returns-6 : tie.Need-returns-6
 unfolding scalar-named
 returns-6 c =
-    let fourth = c .before in
+    let fifth = c .before in
+    let fourth = fifth .before in
     let third = fourth .before in
     let second = third .before in
     rw (
@@ -57,8 +58,26 @@ returns-6 c =
       ne-eqb _ _ (second .if2 .left),
       ne-eqb _ _ (third .if3 .left),
       ne-eqb _ _ (fourth .if4 .left),
-      ne-eqb _ _ (c .if5 .left),
+      ne-eqb _ _ (fifth .if5 .left),
+      eq-eqb _ _ (c .if6 .taken),
+    )
+
+returns-7 : tie.Need-returns-7
+unfolding scalar-named
+returns-7 c =
+    let fifth = c .before in
+    let fourth = fifth .before in
+    let third = fourth .before in
+    let second = third .before in
+    rw (
+      scalar-named,
+      ne-eqb _ _ (second .before .if1 .left),
+      ne-eqb _ _ (second .if2 .left),
+      ne-eqb _ _ (third .if3 .left),
+      ne-eqb _ _ (fourth .if4 .left),
+      ne-eqb _ _ (fifth .if5 .left),
+      ne-eqb _ _ (c .if6 .left),
     )
 
 pub scalar-named-spec : {M : Type 1} → statement M
-scalar-named-spec = tie.close (tie.spec returns returns-2 returns-3 returns-4 returns-5 returns-6)
+scalar-named-spec = tie.close (tie.spec returns returns-2 returns-3 returns-4 returns-5 returns-6 returns-7)
