@@ -33,6 +33,9 @@ code-names UndefinedParameter = refl
 code-names Header = refl
 code-names QuotedEscape = refl
 
+pub code-named : (code : ℕ) (kind : ScalarKind) → code ≡ scalar-code kind → Kind kind ≡ scalar-named code
+code-named code kind e = sym (ap scalar-named e ∙ code-names kind)
+
 -- so it is a scalar's
 pub scalar-coded : (kind : ScalarKind) → is-scalar-code (scalar-code kind) ≡ true
 scalar-coded kind = ap names-scalar (code-names kind)
@@ -58,9 +61,7 @@ none-uncoded = refl
 pub unnamed : (code : ℕ) (kind : ScalarKind) → scalar-named code ≡ ScalarNamed.Nothing → eqb code (scalar-code kind) ≡ false
 unnamed code kind n =
     by-bool (eqb code (scalar-code kind))
-    (λ e.
-    let named : scalar-named code ≡ Kind kind = ap scalar-named (eqb-true code (scalar-code kind) e) ∙ code-names kind in
-    let no : ScalarNamed.Nothing ≡ Kind kind = sym n ∙ named in cc)
+    (λ e. let no : Kind kind ≡ ScalarNamed.Nothing = code-named code kind (eqb-true code (scalar-code kind) e) ∙ n in cc)
     (λ e. e)
 
 -- a quoted run may be empty, with an escape or without, and is no Header
@@ -75,7 +76,7 @@ quoted-headless false = refl
 -- a kind is a Header where it is told to be one
 pub header-told : (kind : ScalarKind) → is-header kind ≡ true → kind ≡ Header
 header-told kind h =
-    let same : Kind kind ≡ Kind Header = sym (code-names kind) ∙ ap scalar-named (eqb-true (scalar-code kind) header-code h) ∙ code-names Header in cc
+    let same : Kind Header ≡ Kind kind = code-named (scalar-code kind) Header (eqb-true (scalar-code kind) header-code h) ∙ code-names kind in cc
 
 -- and its code is a Header's only then
 pub header-coded : (kind : ScalarKind) → scalar-code kind ≡ header-code → is-header kind ≡ true
@@ -94,9 +95,9 @@ coded-container : (t : Token) → is-scalar-code (t .code) ≡ true → containe
 unfolding container-of scalar-named
 coded-container t s =
     by-bool (eqb (t .code) array-code)
-    (λ e. absurd (false≢true (sym (ap is-scalar-code (eqb-true _ _ e)) ∙ s)))
+    (λ e. absurd (false≢true (sym (ap is-scalar-code (eqb-true (t .code) array-code e)) ∙ s)))
     (λ e. by-bool (eqb (t .code) object-code)
-    (λ f. absurd (false≢true (sym (ap is-scalar-code (eqb-true _ _ f)) ∙ s)))
+    (λ f. absurd (false≢true (sym (ap is-scalar-code (eqb-true (t .code) object-code f)) ∙ s)))
     (λ f. rw (container-of, e, f)))
 
 pub scalar-container : (kind : ScalarKind) (offset size : ℕ) → container-of (scalar-of kind offset size) ≡ Container.Nothing
