@@ -25,12 +25,15 @@ viewed-requires c κs =
 enum-known-start-2 : tie.Need-enum-known-start-2
 enum-known-start-2 c = search needs
 
+quoted-kind-requires : tie.Need-quoted-kind-requires
+quoted-kind-requires c κs = search needs
+
 viewed-requires-2 : tie.Need-viewed-requires-2
 viewed-requires-2 c κs =
-    let at-start = c .before in
+    let at-start = c .before .before in
     let at-cut = at-start .before .before in
     let e = sym (at-cut .scalar-at .ensures ∙ scalar-cut-lent _ _ _ (at-cut .before .before .pre .1)) ∙ at-start .start2 .given .1 in
-    let b = quoted-bounds _ _ _ _ _ e in
+    let b = quoted-bounds _ _ _ _ _ _ e in
     omega (arith, b .starts, b .from, b .within)
 
 enum-told : tie.Need-enum-told
@@ -44,9 +47,15 @@ returns c =
 
 returns-2 : tie.Need-returns-2
 returns-2 c =
-    let at-start = c .before .before in
+    let at-kind = c .before in
+    let at-start = at-kind .before .before in
     let at-cut = at-start .before .before in
-    rw (← (at-cut .scalar-at .ensures ∙ scalar-cut-lent _ _ _ (at-cut .before .before .pre .1)), at-start .start2 .given .1, c .viewed2 .ensures)
+    rw (
+      ← (at-cut .scalar-at .ensures ∙ scalar-cut-lent _ _ _ (at-cut .before .before .pre .1)),
+      at-start .start2 .given .1,
+      c .viewed2 .ensures,
+      at-kind .quoted-kind .ensures,
+    )
 
 returns-3 : tie.Need-returns-3
 returns-3 c =
@@ -61,6 +70,7 @@ scalar-at-spec =
     enum-known-start
     viewed-requires
     enum-known-start-2
+    quoted-kind-requires
     viewed-requires-2
     enum-told
     returns
