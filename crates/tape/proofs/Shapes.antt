@@ -144,6 +144,14 @@ scalar-told : (code : ℕ) → ScalarTold code (scalar-named code)
 unfolding scalar-named
 scalar-told code = told-among scalar-kinds code
 
+-- a code that names a kind is that kind's
+pub named-code : (code : ℕ) (kind : ScalarKind) → scalar-named code ≡ Kind kind → code ≡ scalar-code kind
+named-code code kind e = by-told (scalar-told code)
+  where
+    by-told : ScalarTold code (scalar-named code) → code ≡ scalar-code kind
+    by-told (inl s) = let same : s .0 ≡ kind = cc in s .1 ∙ ap scalar-code same
+    by-told (inr n) = let no : ScalarNamed.Nothing ≡ Kind kind = sym n ∙ e in cc
+
 -- a token was made as its shape says
 pub made : (t : Token) → Made t (shape-of t)
 made t = by-container (container-told t)
