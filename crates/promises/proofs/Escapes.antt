@@ -40,25 +40,33 @@ use Rattle.promises.proofs.Rising.Turns.{Risen, Risen-whole, turn-keeps
 
 module _ (text : List ℕ) where
   -- ---- each token of a list
-  abbrev Each : List Token → Type 0
+  unfoldable Each : List Token → Type 0
   Each [] = Unit {0}
   Each (t ∷ ts) = Says text t × Each ts
 
+  none : Each []
+  unfolding Each
+  none = tt
+
   each-at : (ts : List Token) (i : ℕ) → Each ts → Says text (nth ts i)
+  unfolding Each
   each-at [] i h = record { escaped = λ e. absurd (omega arith); plain = λ e. absurd (omega arith) }
   each-at (t ∷ ts) zero h = h .0
   each-at (t ∷ ts) (suc i) h = each-at ts i (h .1)
 
   each-add : (ts : List Token) (x : Token) → Says text x → Each ts → Each (ts ++ (x ∷ []))
+  unfolding Each
   each-add [] x s h = (s, tt)
   each-add (t ∷ ts) x s h = (h .0, each-add ts x s (h .1))
 
   each-set : (ts : List Token) (i : ℕ) (x : Token) → Says text x → Each ts → Each (set ts i x)
+  unfolding Each
   each-set [] i x s h = tt
   each-set (t ∷ ts) zero x s h = (s, h .1)
   each-set (t ∷ ts) (suc i) x s h = (h .0, each-set ts i x s (h .1))
 
   each-mixed : (ts : List Token) (x : Token) → Says text x → Each ts → Each (before-last ts x)
+  unfolding Each
   each-mixed [] x s h = (s, tt)
   each-mixed (t ∷ []) x s h = (s, h)
   each-mixed (t ∷ u ∷ ts) x s h = (h .0, each-mixed (u ∷ ts) x s (h .1))
@@ -182,14 +190,14 @@ module _ (text : List ℕ) where
   unfolding token-in
   parse-says len count bom words e i =
       let ended : Walked count (tokens-in words count) =
-      rw e at (parse-keeps Walks Walked text (start-kept (length text) (has-bom text), tt) keeps (λ n ts h. h .0 .counted) len) in
+      rw e at (parse-keeps Walks Walked text (start-kept (length text) (has-bom text), none) keeps (λ n ts h. h .0 .counted) len) in
       each-at (tokens-in words count) i (ended .1)
 
 -- ---- of the contract of `parse` itself
 told-says : (text : List ℕ) (len : ℕ) (r : Parsed) (words : List ℕ) → outcome r words ≡ parse-of text len
     → Escapes-told text (tell-parse (outcome r words))
-told-says text len (Tokens count bom) words e z = parse-says text len count bom words (sym e)
-told-says text len (Refused r) words e z = absurd (numbered r z)
+told-says text len (Tokens count bom) words e = λ z. parse-says text len count bom words (sym e)
+told-says text len (Refused r) words e = λ z. absurd (numbered r z)
 
 -- whatever answer and tape it allows
 pub parse-tells : (κs : _) (args : _) (r : Parsed) (xs : _) → parse.Post κs args r xs
