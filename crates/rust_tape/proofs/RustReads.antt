@@ -20,7 +20,7 @@ use Rattle.tape.specs.declared.token.Container as Containers
 use Rattle.tape.specs.declared.token.Standing as Standings
 use Rattle.tape.specs.declared.shape.Link.the-variants.{ToOpener}
 use Rattle.tape.specs.Token.{array-code, object-code, mixed-container-code, unquoted-code, quoted-code, parameter-code}
-use Rattle.tape.specs.Token.{undefined-parameter-code, operator-code, end-code, header-code, quoted-escape-code, container-code, scalar-named}
+use Rattle.tape.specs.Token.{undefined-parameter-code, operator-code, end-code, header-code, quoted-escape-code, container-code, scalar-named, named-among}
 use Rattle.tape.specs.Token.{is-scalar-code, quoted-kind, no-token, mixed-container-token, opener-of, end-of, scalar-of, operator-of, headed}
 use Rattle.tape.specs.Token.{container-of, standing-of}
 use Rattle.tape.specs.Tape.{unbounded, token-at, before-last}
@@ -205,7 +205,7 @@ unnamed : (code : ℕ) → eqb code unquoted-code ≡ false → eqb code quoted-
     → eqb code undefined-parameter-code ≡ false → eqb code header-code ≡ false → eqb code quoted-escape-code ≡ false
     → scalar-named code ≡ ScalarNamed.Nothing
 unfolding scalar-named
-unnamed code a b c d e f = rw (scalar-named, a, b, c, d, e, f)
+unnamed code a b c d e f = rw (scalar-named, named-among, a, b, c, d, e, f)
 
 -- by a token's code
 by-code : {P : Type 0} (t : Token)
