@@ -64,11 +64,9 @@ const ESCAPED: [&str; 9] = [
 
 /// Those runs as a key, a value and an entry; and a backslash behind a run, which has none.
 fn escapes() -> Vec<Vec<u8>> {
-    let shaped = |run: &&str| {
-        [format!("\"{run}\"=b"), format!("a=\"{run}\""), format!("a={{\"{run}\" c}}")]
-    };
-    let mut texts: Vec<Vec<u8>> =
-        ESCAPED.iter().flat_map(shaped).map(String::into_bytes).collect();
+    let shaped =
+        |run: &&str| [format!("\"{run}\"=b"), format!("a=\"{run}\""), format!("a={{\"{run}\" c}}")];
+    let mut texts: Vec<Vec<u8>> = ESCAPED.iter().flat_map(shaped).map(String::into_bytes).collect();
     texts.push(b"a=\"bc\"\\=d".to_vec());
     texts
 }

@@ -156,9 +156,13 @@ fn escapes(text: &[u8], offset: usize, length: usize) -> Vec<Feature> {
         at += 1;
     }
     let mut found: Vec<String> = Vec::new();
-    found.extend(places.first().filter(|at| ESCAPE_PLACES.contains(at)).map(|at| format!("at {at}")));
+    found.extend(
+        places.first().filter(|at| ESCAPE_PLACES.contains(at)).map(|at| format!("at {at}")),
+    );
     found.extend(places.last().filter(|&&at| at + 2 == view.len()).map(|_| "last".to_string()));
-    found.extend(places.windows(2).any(|two| two[0] + 2 == two[1]).then(|| "two in a row".to_string()));
+    found.extend(
+        places.windows(2).any(|two| two[0] + 2 == two[1]).then(|| "two in a row".to_string()),
+    );
     found.push(format!("in {}", role(before.trim_ascii_end(), after.trim_ascii_start())));
     found.into_iter().map(|name| ("escapes", name)).collect()
 }
