@@ -14,14 +14,21 @@ static uint8_t *read_all(size_t *length) {
     return ferror(stdin) ? NULL : text;
 }
 
-/* Prints a token if it is a scalar: a quoted one as such, another by what it reads as. */
-static void print_scalar(const uint8_t *text, size_t length, const uint32_t *tape, size_t words, uint32_t count, uint32_t i) {
+/* What a token is called: a quoted scalar as such, another by what its bytes read as. */
+static const char *name(uint32_t code, const uint8_t *bytes, size_t size) {
     static const char *const kinds[] = {"", "Bool", "Whole", "Decimal", "Name"};
+    return code == TACKACORN_QUOTED          ? "Quoted"
+           : code == TACKACORN_QUOTED_ESCAPE ? "QuotedEscape"
+                                             : kinds[tackacorn_kind(bytes, size)];
+}
+
+/* Prints a token if it is a scalar. */
+static void print_scalar(const uint8_t *text, size_t length, const uint32_t *tape, size_t words, uint32_t count, uint32_t i) {
     uint32_t code, a, b;
     size_t offset, size;
     if (tackacorn_view(text, length, tape, words, count, i, &offset, &size) == TACKACORN_OK) {
         tackacorn_token(tape, words, count, i, &code, &a, &b);
-        printf("%s ", code == TACKACORN_QUOTED ? "Quoted" : kinds[tackacorn_kind(text + offset, size)]);
+        printf("%s ", name(code, text + offset, size));
         fwrite(text + offset, 1, size, stdout);
         putchar('\n');
     }

@@ -56,9 +56,12 @@ private:
     std::uint32_t count = 0, bom = 0;
 };
 
-// What a scalar's bytes read as.
-static const char *kind(std::string_view view) {
+// What a scalar is called: a quoted one as such, another by what its bytes read as.
+static const char *name(std::uint32_t code, std::string_view view) {
     static const char *const kinds[] = {"", "Bool", "Whole", "Decimal", "Name"};
+    if (code == TACKACORN_QUOTED || code == TACKACORN_QUOTED_ESCAPE) {
+        return code == TACKACORN_QUOTED ? "Quoted" : "QuotedEscape";
+    }
     return kinds[tackacorn_kind(reinterpret_cast<const std::uint8_t *>(view.data()), view.size())];
 }
 
@@ -67,7 +70,7 @@ int main() {
         const Save save(std::string(std::istreambuf_iterator<char>(std::cin), {}));
         for (std::uint32_t i = 0; i < save.tokens(); i++) {
             if (const auto view = save.scalar(i)) {
-                std::cout << (save.code(i) == TACKACORN_QUOTED ? "Quoted" : kind(*view)) << ' ' << *view << '\n';
+                std::cout << name(save.code(i), *view) << ' ' << *view << '\n';
             }
         }
     } catch (const std::exception &refused) {

@@ -14,7 +14,8 @@ refusal = library.tackacorn_parse(text, len(text), tape, words, byref(count), by
 if refusal:
     sys.exit(f"refused at byte {place.value}: {library.tackacorn_refusal_text(refusal).decode()}")
 for code, a, b in zip(*[iter(tape[: 3 * count.value])] * 3):
-    if code in (4, 5, 6, 7, 10):  # a scalar: a is its offset, b its length
+    if code in (4, 5, 6, 7, 10, 11):  # a scalar: a is its offset, b its length
         scalar = text[a : a + b]
-        kind = "Quoted" if code == 5 else ("", "Bool", "Whole", "Decimal", "Name")[library.tackacorn_kind(scalar, b)]
+        read_as = ("", "Bool", "Whole", "Decimal", "Name")[library.tackacorn_kind(scalar, b)]
+        kind = {5: "Quoted", 11: "QuotedEscape"}.get(code, read_as)
         sys.stdout.buffer.write(f"{kind} ".encode() + scalar + b"\n")

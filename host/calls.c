@@ -87,6 +87,9 @@ static void tokens(void) {
                          && memcmp(text + offset, "b c", size) == 0);
     expect("view 2", tackacorn_view(bytes(text), length, tape, ROOM, count, 2, &offset, &size) == TACKACORN_NO_SCALAR
                          && offset == 0 && size == 0);
+    expect("an escape", tackacorn_parse(bytes("a=\"b\\\"c\""), 8, tape, ROOM, &count, &bom, &place) == TACKACORN_OK && count == 2);
+    tackacorn_token(tape, ROOM, count, 1, &code, &a, &b);
+    expect("token 1 with an escape", code == TACKACORN_QUOTED_ESCAPE && a == 3 && b == 4);
     expect("cut short", tackacorn_parse(bytes("GER={ fighter=19"), 16, tape, ROOM, &count, &bom, &place) == TACKACORN_OK && count == 5);
 }
 

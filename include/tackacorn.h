@@ -7,6 +7,10 @@
  *    refusal, though the file may have said 190. The Rust does the same. Of the places where a deep save
  *    can be cut about one in forty is such, of a flat one far more. Hold the length or a checksum of the
  *    file against what was sent; parsing does not tell.
+ *  - What stands in quotes has one of two codes, TACKACORN_QUOTED or, with a backslash in it,
+ *    TACKACORN_QUOTED_ESCAPE. A program that asks for the first alone passes over "Flotte \"Nord\"", and
+ *    one that asks for codes up to TACKACORN_HEADER too. The bytes stand as in the save: to show a name,
+ *    take the backslashes out yourself.
  *  - tackacorn_to_f64 takes "18446744073709551616.5" for 0.5. See there for why, and for what to do.
  *  - A text save of the game begins with a line like "HOI4txt", which is no part of the format: the
  *    parser takes it for a key, and what follows for something else than it is. Before you parse, write
@@ -49,8 +53,8 @@ extern "C" {
 /* The version of this header, as words and as a number that rises: 10000 * first + 100 * second + third.
  * The first part rises where a program that was built with an older header would read a tape wrongly, and
  * with it the name of the shared library; the second where something is added; the third else. */
-#define TACKACORN_VERSION "1.0.0"
-#define TACKACORN_VERSION_NUMBER 10000
+#define TACKACORN_VERSION "2.0.0"
+#define TACKACORN_VERSION_NUMBER 20000
 
 /* The most bytes that a text may have. */
 #define TACKACORN_TEXT_LIMIT 16777215
@@ -89,12 +93,13 @@ enum tackacorn_code {
     TACKACORN_OBJECT = 2,               /* the same */
     TACKACORN_MIXED_CONTAINER = 3,      /* a, b: 0 */
     TACKACORN_UNQUOTED = 4,             /* a: offset in the text, b: length, in bytes */
-    TACKACORN_QUOTED = 5,               /* the same, without the quotes and with the escapes */
+    TACKACORN_QUOTED = 5,               /* the same, without the quotes; no backslash is in it */
     TACKACORN_PARAMETER = 6,            /* the same */
     TACKACORN_UNDEFINED_PARAMETER = 7,  /* the same */
     TACKACORN_OPERATOR = 8,             /* a: a tackacorn_operator, b: 0 */
     TACKACORN_END = 9,                  /* a: index of its opener, b: 0 */
-    TACKACORN_HEADER = 10               /* as Unquoted; a container is next */
+    TACKACORN_HEADER = 10,              /* as Unquoted; a container is next */
+    TACKACORN_QUOTED_ESCAPE = 11        /* as Quoted, with a backslash in it; escapes stand as they are */
 };
 
 /* A key and its value with '=' between them have no operator on the tape, except in an array that holds
@@ -161,7 +166,7 @@ void tackacorn_token(const uint32_t *words, size_t words_length, size_t count, s
  * Answers TACKACORN_OK: the scalar is the *size bytes from text + *offset on, which are within the
  * text. They are a part of your text, as it stands there: it is no copy, and no zero ends it. Or answers
  * TACKACORN_NO_SCALAR, with *offset and *size 0: index is not below count, 3 * count is over
- * words_length, the token is no scalar (codes 4, 5, 6, 7, 10), or it reaches out of the text. */
+ * words_length, the token is no scalar (codes 4, 5, 6, 7, 10, 11), or it reaches out of the text. */
 uint32_t tackacorn_view(const uint8_t *text, size_t text_length, const uint32_t *words, size_t words_length,
                         size_t count, size_t index, size_t *offset, size_t *size);
 

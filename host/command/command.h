@@ -70,6 +70,9 @@ enum status load(struct save *save, const char *file, const struct call *call);
 void drop(struct save *save);
 struct token token_at(const struct save *save, size_t index);
 
+/* look.c */
+const char *name_of(uint32_t code);
+
 /* say.c */
 enum status complain(const char *name, const char *what);
 enum status finish(enum status status);

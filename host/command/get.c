@@ -26,9 +26,15 @@ static bool is_container(struct token token) {
     return token.code == TACKACORN_ARRAY || token.code == TACKACORN_OBJECT;
 }
 
+/* Whether a token stands in quotes. */
+static bool is_quoted(struct token token) {
+    return token.code == TACKACORN_QUOTED || token.code == TACKACORN_QUOTED_ESCAPE;
+}
+
 /* Whether a token may be a key: a scalar that is no header of a container. */
 static bool is_key(struct token token) {
-    return token.code >= TACKACORN_UNQUOTED && token.code <= TACKACORN_UNDEFINED_PARAMETER;
+    return is_quoted(token) || token.code == TACKACORN_UNQUOTED || token.code == TACKACORN_PARAMETER
+           || token.code == TACKACORN_UNDEFINED_PARAMETER;
 }
 
 /* The container that a value is, behind its header if it has one; the value itself where it is none. */
@@ -102,8 +108,9 @@ static void print_scalar(const struct save *save, const struct entry *entry) {
         return;
     }
     const uint8_t *bytes = save->text + offset;
-    const bool quoted = token_at(save, entry->value).code == TACKACORN_QUOTED;
-    printf("%s %s%s", quoted ? "Quoted" : kinds[tackacorn_kind(bytes, size)], signs[entry->sign], quoted ? "\"" : "");
+    const struct token token = token_at(save, entry->value);
+    const bool quoted = is_quoted(token);
+    printf("%s %s%s", quoted ? name_of(token.code) : kinds[tackacorn_kind(bytes, size)], signs[entry->sign], quoted ? "\"" : "");
     show(stdout, bytes, size);
     puts(quoted ? "\"" : "");
 }

@@ -3,12 +3,12 @@
 
 #include <inttypes.h>
 
-/* A token's name by its code. */
-static const char *name_of(uint32_t code) {
+/* A token's name by its code, as the program `dump` prints it, and no letter for a code that no token has. */
+const char *name_of(uint32_t code) {
     static const char *const names[] = {
         "",       "Array",     "Object",             "MixedContainer", "Unquoted",
         "Quoted", "Parameter", "UndefinedParameter", "Operator",       "End",
-        "Header",
+        "Header", "QuotedEscape",
     };
     return code < sizeof names / sizeof names[0] ? names[code] : "";
 }

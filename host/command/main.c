@@ -22,9 +22,9 @@ const struct subcommand subcommands[] = {
      0, ANY_NUMBER, check},
     {"get", OPTIONS " FILE KEY..", "print the values that stand at a path of keys",
      "The keys are a path: 'get save.txt GER equipment amount' looks in every GER, there in every\n"
-     "equipment, and prints every amount, one a line: its kind (Bool, Whole, Decimal, Name, Quoted),\n"
-     "the operator where it is no '=', and its bytes as they stand in the save, a quoted one in its\n"
-     "quotes. A container is told by what it is and how many entries it has: 'Array 3 entries',\n"
+     "equipment, and prints every amount, one a line: its kind (Bool, Whole, Decimal, Name, Quoted,\n"
+     "or QuotedEscape where a backslash is in it), the operator where it is no '=', and its bytes as\n"
+     "they stand in the save, a quoted one in its quotes. A container is told by what it is and how many entries it has: 'Array 3 entries',\n"
      "'Header rgb Array 3 entries'. A key is compared byte for byte, without the quotes if it has\n"
      "some. A control byte is printed as \\x0a. Status 4 says that the save is well and nothing\n"
      "stands there.\n",

@@ -23,6 +23,7 @@ pub(crate) const UNDEFINED_PARAMETER: u32 = 7;
 pub(crate) const OPERATOR: u32 = 8;
 pub(crate) const END: u32 = 9;
 pub(crate) const HEADER: u32 = 10;
+pub(crate) const QUOTED_ESCAPE: u32 = 11;
 
 pub(crate) const LESS_THAN: u32 = 1;
 pub(crate) const LESS_THAN_EQUAL: u32 = 2;
@@ -76,6 +77,7 @@ mod tests {
             ("OPERATOR", OPERATOR),
             ("END", END),
             ("HEADER", HEADER),
+            ("QUOTED_ESCAPE", QUOTED_ESCAPE),
             ("LESS_THAN", LESS_THAN),
             ("LESS_THAN_EQUAL", LESS_THAN_EQUAL),
             ("GREATER_THAN", GREATER_THAN),

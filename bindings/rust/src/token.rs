@@ -2,8 +2,8 @@
 
 use crate::Scalar;
 use crate::numbers::{
-    ARRAY, END, HEADER, MIXED_CONTAINER, OBJECT, OPERATOR, PARAMETER, QUOTED, UNDEFINED_PARAMETER,
-    UNQUOTED, WORDS_PER_TOKEN,
+    ARRAY, END, HEADER, MIXED_CONTAINER, OBJECT, OPERATOR, PARAMETER, QUOTED, QUOTED_ESCAPE,
+    UNDEFINED_PARAMETER, UNQUOTED, WORDS_PER_TOKEN,
 };
 use crate::operator::Operator;
 
@@ -37,7 +37,17 @@ pub enum TextToken<'a> {
     /// A value without quotes
     Unquoted(Scalar<'a>),
 
-    /// A value in quotes: the bytes between them, with the escapes as they stand
+    /// A value in quotes: the bytes between them, with the escapes as they stand. A tape of words tells
+    /// those with an escape by a code of their own, 11; jomini and this enum do not. They are those with
+    /// a backslash in their bytes:
+    ///
+    /// ```
+    /// use tackacorn::{TextTape, TextToken};
+    ///
+    /// let tape = TextTape::from_slice(br#"a="b\"c""#).unwrap();
+    /// let TextToken::Quoted(name) = tape.tokens()[1] else { panic!("no quotes") };
+    /// assert!(name.as_bytes().contains(&b'\\'));
+    /// ```
     Quoted(Scalar<'a>),
 
     /// The name of a parameter, `[[name] ..]`
@@ -89,7 +99,7 @@ impl<'a> TextToken<'a> {
             OBJECT => TextToken::Object { end: a, mixed: b == 1 },
             MIXED_CONTAINER => TextToken::MixedContainer,
             UNQUOTED => TextToken::Unquoted(scalar()?),
-            QUOTED => TextToken::Quoted(scalar()?),
+            QUOTED | QUOTED_ESCAPE => TextToken::Quoted(scalar()?),
             PARAMETER => TextToken::Parameter(scalar()?),
             UNDEFINED_PARAMETER => TextToken::UndefinedParameter(scalar()?),
             OPERATOR => TextToken::Operator(Operator::numbered(words[1])?),

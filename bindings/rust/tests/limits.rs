@@ -93,7 +93,7 @@ fn words_from_elsewhere() {
                 let words = [code, a, b, 7];
                 for count in [0, 1, 2, usize::MAX, usize::MAX / 3 + 1] {
                     let view = sheet::view(text, &words, count, 0);
-                    assert!(view.is_err() || count == 1 && [4, 5, 6, 7, 10].contains(&code));
+                    assert!(view.is_err() || count == 1 && [4, 5, 6, 7, 10, 11].contains(&code));
                     let Some(sheet) = Sheet::new(text, &words, count) else { continue };
                     assert!(sheet.len() == count && sheet.words().len() == WORDS_PER_TOKEN * count);
                     assert_eq!(sheet.tokens().count(), count);
@@ -103,8 +103,8 @@ fn words_from_elsewhere() {
             }
         }
     }
-    // a MixedContainer, six of the eight operators, three Unquoted and six Quoted
-    assert_eq!(sound, 1 + 6 + 3 + 6);
+    // a MixedContainer, six of the eight operators, three Unquoted, and six in quotes of either code
+    assert_eq!(sound, 1 + 6 + 3 + 6 + 6);
 }
 
 /// The table of [`Scalar`]: numbers that have no digit.
