@@ -1,21 +1,20 @@
 -- Which quoted runs hold an escape, as specs/Escapes states it: a scalar's kind is its cut's, and no move changes a quoted token.
 -- Assumes nothing.
-use mathlib.Core.Path.{_≡_, refl, sym, _∙_, ap}
+use mathlib.Core.Path.{_≡_, refl, sym}
 use mathlib.Core.Bool.{Bool, true, false, false≢true}
 use mathlib.Core.List.{List, [], _∷_, _++_}
 use Prim.Native.Nat.{ℕ, zero, suc, _+_, _-_, _≤_}
 use native.Mathlib.Omega.{arith}
 use lib.ListN.{length, set}
 use Rattle.data.proofs.Cases.{by-bool}
-use Rattle.cut.specs.Quotes.{Backslash, Tells}
+use Rattle.cut.specs.Quotes.{Tells}
 use Rattle.cut.proofs.Scalars.{quoted-bounds}
-use Rattle.operator.specs.Operators.{number-of}
 use Rattle.tape.specs.declared.token.Token.{Token}
 use Rattle.tape.specs.declared.token.ContainerKind.{ContainerKind}
 use Rattle.tape.specs.declared.token.ContainerKind.the-variants.{Array, Object}
 use Rattle.tape.specs.declared.token.ScalarKind.{ScalarKind}
 use Rattle.tape.specs.declared.token.ScalarKind.the-variants.{Unquoted, Parameter, UndefinedParameter}
-use Rattle.tape.specs.Token.{quoted-code, quoted-escape-code, no-token, mixed-container-token, opener-of, scalar-of, quoted-kind, headed, nth}
+use Rattle.tape.specs.Token.{quoted-code, quoted-escape-code, mixed-container-token, opener-of, scalar-of, quoted-kind, headed, nth}
 use Rattle.tape.specs.Words.{token-in, tokens-in}
 use Rattle.tape.specs.Tape.{before-last, token-at, replace}
 use Rattle.machine.specs.declared.Machine.{Machine}
@@ -28,7 +27,7 @@ use Rattle.parse.specs.ParseOpen.{flag-parent}
 use Rattle.parse.specs.Parse.{parse-of}
 use Rattle.parse.specs.Told.{tell-parse}
 use Rattle.parse.proofs.Splits.{by-container}
-use Rattle.parse.proofs.Moves.{Result, goes, ends, stops, container-in, unsettled, closed-as, flagged, Taken, unquoted, quoted, Named, defined, undefined, run-token, Asks}
+use Rattle.parse.proofs.Moves.{Result, goes, ends, stops, container-in, unsettled, closed-as, flagged, Taken, unquoted, quoted, Named, defined, undefined, Asks}
 use Rattle.parse.proofs.Moves.{asks-key, asks-open, Came, passes, separates, takes, separates-by, operates, mixes, mixes-by, opens, heads, closes, empties}
 use Rattle.parse.proofs.Moves.{settles, begins, values, objects, refuses, Over, done-bare, done-closed, too-early}
 use Rattle.parse.proofs.Walk.{Meets, Keeps, parse-keeps}

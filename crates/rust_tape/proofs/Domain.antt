@@ -17,7 +17,7 @@ use lib.Seq.{drop-drop}
 use Rattle.data.proofs.Cases.{by-bool}
 use Rattle.data.specs.Bytes.{quote, backslash}
 use Rattle.data.specs.Classes.{among, is-boundary, boundary-bytes}
-use Rattle.cut.specs.Runs.{stop-from, run-of, run-end-of, unquoted-run, run-end}
+use Rattle.cut.specs.Runs.{stop-from, run-of, run-end-of, unquoted-run}
 use Rattle.cut.specs.Quotes.{quoted-from, quoted-run}
 use Rattle.cut.specs.declared.Quoted.{Quoted}
 use Rattle.cut.specs.declared.Quoted.the-variants.{Closed, Unclosed}
@@ -28,7 +28,7 @@ use Rattle.rust_tape.specs.RustCuts.{stride-bytes, stride-stops, table-b
 use Rattle.rust_tape.specs.RustCuts.{strides-from, strides, scalar-look, scalar-strides, split-at-scalar-fallback, split-at-scalar}
 use Rattle.rust_tape.specs.RustCuts.{quote-look, quote-strides, quote-from, parse-quote-scalar-fallback, parse-quote-scalar}
 use Rattle.rust_tape.specs.RustCuts.Look.{ends, next, leave}
-use Rattle.rust_tape.specs.RustDomain.{doubted-bytes, Undoubted, In-domain}
+use Rattle.rust_tape.specs.RustDomain.{doubted-bytes, Undoubted, In-domain, Cut-alike}
 
 -- The tables
 
@@ -300,10 +300,9 @@ unquoted-alike d h u =
 pub undoubted-both : (d : List ℕ) → 0 < length d → Undoubted d (unquoted-run d) → Undoubted d (split-at-scalar d)
 undoubted-both d h u = subst (λ (n : ℕ). Undoubted d n) (sym (unquoted-alike d h u)) u
 
--- and the place after its run is ours at every place of a text
-pub unquoted-end-alike : (text : List ℕ) (at : ℕ) → at < length text → In-domain text at → at + split-at-scalar (drop at text) ≡ run-end text at
-unfolding run-end run-end-of unquoted-run
-unquoted-end-alike text at h i = ap (λ (n : ℕ). at + n) (unquoted-alike (drop at text) (rw length-drop (omega arith)) i)
+-- so its cut is ours at each place of a text whose run is in the domain
+pub in-domain-alike : (text : List ℕ) (at : ℕ) → In-domain text at → Cut-alike split-at-scalar text at
+in-domain-alike text at i h = unquoted-alike (drop at text) (rw length-drop (omega arith)) i
 
 -- the domain is no narrower than it must be: where no stride decides, the two cut alike only in it
 pub alike-undoubted : (d : List ℕ) → 0 < length d → scalar-strides d ≡ none → split-at-scalar d ≡ unquoted-run d → Undoubted d (unquoted-run d)

@@ -34,8 +34,8 @@ use Rattle.machine.specs.Bytes.{begins-operator, value-byte}
 use Rattle.parse.specs.ArrayValue.{array-close, operator-then, after-end, unmixed-operator, array-operator, array-value-turn}
 use Rattle.promises.specs.Room.{tape-of, is-scalar, value-lays, and-one}
 use Rattle.rust_tape.specs.RustTape as Rust
-use Rattle.rust_tape.specs.RustTape.{Parser, TextToken}
-use Rattle.rust_tape.specs.RustDomain.{array-runs, Each}
+use Rattle.rust_tape.specs.RustTape.{Parser, TextToken, source}
+use Rattle.rust_tape.specs.RustDomain.{Cut-alike, array-runs, Each}
 use Rattle.promises.proofs.Alike.{mixed-sized}
 use Rattle.promises.proofs.Links.Kept.{Kept}
 use Rattle.rust_tape.proofs.RustParts.{byte-next, minus-there, index-there, slice-there, offset-there}
@@ -58,11 +58,11 @@ unfolding operator-then operator-on
 operator-two text t m = refl
 
 -- the operator of ArrayValue: its first byte is no `?`
-operator-same : (text : List ℕ) (ts : List Token) (m : Machine) → length ts ≡ m .count → m .at < length text → 1 ≤ m .at → m .state ≡ ArrayValue
-    → begins-operator (byte-at text (m .at)) ≡ true
-    → Same text (m .count) (Rust.array-operator (length text) (parser-of text m ts)) (operator-then text (tape-of unbounded ts) m)
+operator-same : (cut : List ℕ → ℕ) (text : List ℕ) (ts : List Token) (m : Machine) → length ts ≡ m .count → m .at < length text → 1 ≤ m .at
+    → m .state ≡ ArrayValue → begins-operator (byte-at text (m .at)) ≡ true
+    → Same text (m .count) (Rust.array-operator (source cut text) (parser-of text m ts)) (operator-then text (tape-of unbounded ts) m)
 unfolding Rust.operator-by operator-on sighted lay-then lay add begins-operator
-operator-same text ts m sized here past in-array begins =
+operator-same cut text ts m sized here past in-array begins =
     let b : ℕ = byte-at text (m .at) in
     let c : ℕ = byte-at text (m .at + 1) in
     let one : Rust.slice-from (drop (m .at) text) 1 ≡ some (drop (m .at + 1) text) = slice-there text (m .at) 1 (omega arith) in
@@ -93,7 +93,8 @@ operator-same text ts m sized here past in-array begins =
     (λ e. rw (eqb-true b equals e) (rw (Rust.operator-by, operator-on, g, one, in-array, laid-operator ts Ours.the-variants.Equal)))
     (λ e4. absurd (false≢true (rw (begins-operator, among, e1, e2, e3, e4) at begins))))))))
 
-module _ (text : List ℕ) (ts : List Token) (m : Machine) (sized : length ts ≡ m .count) (here : m .at < length text) (some-token : 1 ≤ length ts) where
+module _ (cut : List ℕ → ℕ) (text : List ℕ) (ts : List Token) (m : Machine) (sized : length ts ≡ m .count) (here : m .at < length text)
+    (some-token : 1 ≤ length ts) where
   abbrev there : List ℕ
   there = drop (m .at) text
 
@@ -115,7 +116,7 @@ module _ (text : List ℕ) (ts : List Token) (m : Machine) (sized : length ts �
   place : Rust.offset (length text) there ≡ some (m .at)
   place = offset-there text (m .at) (omega arith)
 
-  array-close-same : Kept ts (m .parent) → Same text (m .count) (Rust.array-close (length text) parser) (array-close tape m)
+  array-close-same : Kept ts (m .parent) → Same text (m .count) (Rust.array-close (source cut text) parser) (array-close tape m)
   unfolding Rust.array-close array-close close close-at lay add replace token-at
   array-close-same s =
       let parent : Containers.Container = container-of (nth ts (m .parent)) in
@@ -146,22 +147,22 @@ module _ (text : List ℕ) (ts : List Token) (m : Machine) (sized : length ts �
 
   -- the MixedContainer goes in before the operator is looked at
   mixing-same : 1 ≤ m .at → begins-operator (byte-at text (m .at)) ≡ true
-      → Same text (m .count + 1) (Rust.mix parser (Rust.array-operator (length text)))
+      → Same text (m .count + 1) (Rust.mix parser (Rust.array-operator (source cut text)))
       (operator-then text (tape-of unbounded (before-last ts mixed-container-token)) (mixed-on m (m .count + 1)))
   mixing-same past begins =
       let mixed : List Token = before-last ts mixed-container-token in
       let l = long in
       rw (minus-there (length us) 1 (omega arith), insert-read ts some-token)
-      (operator-same text mixed (mixed-on m (m .count + 1)) (mixed-sized ts (m .count) mixed-container-token sized) here past refl begins)
+      (operator-same cut text mixed (mixed-on m (m .count + 1)) (mixed-sized ts (m .count) mixed-container-token sized) here past refl begins)
 
   array-sign-same : m .state ≡ ArrayValue → 1 ≤ m .at → Kept ts (m .parent) → begins-operator (byte-at text (m .at)) ≡ true
       → Same text (and-one (m .count) (elim (m .mixed) [ true ↦ false | false ↦ is-scalar (standing-of (token-at tape (m .count - 1))) ]))
-      (Rust.array-sign (length text) (byte-at text (m .at)) parser) (array-operator text tape m)
+      (Rust.array-sign (source cut text) (byte-at text (m .at)) parser) (array-operator text tape m)
   unfolding Rust.array-sign Rust.after-end array-operator unmixed-operator after-end mix-then lay-mixed add-before-last token-at
   array-sign-same in-array past s begins =
       let before : Rust.minus (m .at) 1 ≡ some (m .at - 1) = minus-there (m .at) 1 past in
       by-bool (m .mixed)
-      (λ on. rw (Rust.array-sign, on, array-operator) (operator-same text ts m sized here past in-array begins))
+      (λ on. rw (Rust.array-sign, on, array-operator) (operator-same cut text ts m sized here past in-array begins))
       (λ off. by-stands ts (m .count) sized
       (λ e f. rw (Rust.array-sign, off, f, array-operator, unmixed-operator, e) (mixing-same past begins))
       (λ e f. rw (Rust.array-sign, off, f, array-operator, unmixed-operator, e) (mixing-same past begins))
@@ -172,8 +173,8 @@ module _ (text : List ℕ) (ts : List Token) (m : Machine) (sized : length ts �
       (λ y. rw (Rust.array-sign, off, f, Rust.after-end, opens, array-operator, unmixed-operator, e, after-end, y, place, before) (refl, refl, long)))
       (λ e f. rw (Rust.array-sign, off, f, place, before, array-operator, unmixed-operator, e) (refl, refl, long)))
 
-  pub array-value-same : m .state ≡ ArrayValue → 1 ≤ m .at → Kept ts (m .parent) → Each text (array-runs text (m .at))
-      → Same text (and-one (m .count) (value-lays text tape m)) (Rust.array-arm (length text) parser) (array-value-turn text tape m)
+  pub array-value-same : m .state ≡ ArrayValue → 1 ≤ m .at → Kept ts (m .parent) → Each (Cut-alike cut text) (array-runs text (m .at))
+      → Same text (and-one (m .count) (value-lays text tape m)) (Rust.array-arm (source cut text) parser) (array-value-turn text tape m)
   unfolding Rust.array-arm array-value-turn value-byte value-lays array-runs open-then lay-then lay add begins-operator
   array-value-same in-array past s i =
       let b : ℕ = byte-at text (m .at) in
@@ -185,4 +186,4 @@ module _ (text : List ℕ) (ts : List Token) (m : Machine) (sized : length ts �
       (λ e2. by-bool (among b (less-than ∷ greater-than ∷ exclamation ∷ equals ∷ []))
       (λ e3. rw (Rust.array-arm, array-value-turn, value-byte, value-lays, byte, e1, e2, e3) (array-sign-same in-array past s e3))
       (λ e3. rw (Rust.array-arm, array-value-turn, value-byte, value-lays, byte, e1, e2, e3)
-      (scalar-same text ts m sized here ArrayValue (rw (array-runs, value-byte, e1, e2, e3) at i)))))
+      (scalar-same cut text ts m sized here ArrayValue (rw (array-runs, value-byte, e1, e2, e3) at i)))))

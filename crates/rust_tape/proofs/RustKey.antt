@@ -29,8 +29,8 @@ use Rattle.parse.specs.Key.{key-close, open-header, key-header, key-brace, key-
 use Rattle.parse.proofs.Splits.{by-skipped, by-state}
 use Rattle.promises.specs.Room.{tape-of, key-lays, and-one}
 use Rattle.rust_tape.specs.RustTape as Rust
-use Rattle.rust_tape.specs.RustTape.{Parser, TextToken}
-use Rattle.rust_tape.specs.RustDomain.{key-runs, Each}
+use Rattle.rust_tape.specs.RustTape.{Parser, TextToken, source}
+use Rattle.rust_tape.specs.RustDomain.{Cut-alike, key-runs, Each}
 use Rattle.promises.proofs.Links.Kept.{Kept}
 use Rattle.rust_tape.proofs.RustParts.{index-there, slice-there, offset-there, skip-same}
 use Rattle.rust_tape.proofs.RustReads.{rust-tape, as-container, tape-length, laid-opener, laid-end, changed-opener, changed-header, assign-there}
@@ -56,7 +56,7 @@ ended-first ts p x h =
     assign-there (Rust.push (rust-tape ts) (Rust.End p)) p x (omega arith)
     ∙ ap some (set-append-left (rust-tape ts) (Rust.End p ∷ []) p x (omega arith))
 
-module _ (text : List ℕ) (ts : List Token) (m : Machine) (sized : length ts ≡ m .count) (here : m .at < length text) where
+module _ (cut : List ℕ → ℕ) (text : List ℕ) (ts : List Token) (m : Machine) (sized : length ts ≡ m .count) (here : m .at < length text) where
   abbrev there : List ℕ
   there = drop (m .at) text
 
@@ -104,7 +104,7 @@ module _ (text : List ℕ) (ts : List Token) (m : Machine) (sized : length ts �
         changed-opener ts (m .parent) Object (m .count) (m .mixed),
       ))
 
-  key-header-same : (at : ℕ) → at ≤ length text → Same text (m .count) (Rust.key-header (length text) (drop at text) parser) (key-header at tape m)
+  key-header-same : (at : ℕ) → at ≤ length text → Same text (m .count) (Rust.key-header (source cut text) (drop at text) parser) (key-header at tape m)
   unfolding Rust.key-header key-header open-header lay-then lay add replace token-at
   key-header-same at h =
       let t : Token = nth ts (m .count - 1) in
@@ -123,7 +123,7 @@ module _ (text : List ℕ) (ts : List Token) (m : Machine) (sized : length ts �
       (λ e f g. rw (Rust.key-header, f, place, key-header, e) (refl, refl, long))
       (λ e f. rw (Rust.key-header, f, place, key-header, e) (refl, refl, long))
 
-  key-brace-same : m .state ≡ Key → Same text (m .count) (Rust.key-brace (length text) parser) (key-brace text tape m)
+  key-brace-same : m .state ≡ Key → Same text (m .count) (Rust.key-brace (source cut text) parser) (key-brace text tape m)
   unfolding Rust.key-brace key-brace
   key-brace-same in-key =
       by-skipped (skip-ws text (m .at + 1))
@@ -135,8 +135,8 @@ module _ (text : List ℕ) (ts : List Token) (m : Machine) (sized : length ts �
       (λ f. rw (Rust.key-brace, one, skip-same text (m .at + 1) e, byte, Rust.checked, key-brace, e, f) (key-header-same p (omega arith))))
       (λ e. rw (Rust.key-brace, one, skip-same text (m .at + 1) e, key-brace, e) (refl, refl, long))
 
-  pub key-same : m .state ≡ Key → m .mixed ≡ false → Kept ts (m .parent) → Each text (key-runs text (m .at))
-      → Same text (and-one (m .count) (key-lays text m)) (Rust.key-arm (length text) parser) (key-turn text tape m)
+  pub key-same : m .state ≡ Key → m .mixed ≡ false → Kept ts (m .parent) → Each (Cut-alike cut text) (key-runs text (m .at))
+      → Same text (and-one (m .count) (key-lays text m)) (Rust.key-arm (source cut text) parser) (key-turn text tape m)
   unfolding Rust.key-arm key-turn key-byte key-lays key-runs
   key-same in-key off s i =
       let b : ℕ = byte-at text (m .at) in
@@ -149,9 +149,9 @@ module _ (text : List ℕ) (ts : List Token) (m : Machine) (sized : length ts �
       (λ e3. rw (Rust.key-arm, key-turn, key-byte, key-lays, byte, e1, e2, e3) (key-brace-same in-key))
       (λ e3. by-bool (eqb b bracket-open)
       (λ e4. rw (Rust.key-arm, key-turn, key-byte, key-lays, byte, e1, e2, e3, e4)
-      (parameter-same text false parser ts m (parser .state) refl long (λ f go. refl) sized here (rw (key-runs, key-byte, e1, e2, e3, e4) at i)))
+      (parameter-same cut text false parser ts m (parser .state) refl long (λ f go. refl) sized here (rw (key-runs, key-byte, e1, e2, e3, e4) at i)))
       (λ e4. rw (Rust.key-arm, key-turn, key-byte, key-lays, byte, e1, e2, e3, e4)
-      (scalar-same text ts m sized here KeyValueSeparator (rw (key-runs, key-byte, e1, e2, e3, e4) at i))))))
+      (scalar-same cut text ts m sized here KeyValueSeparator (rw (key-runs, key-byte, e1, e2, e3, e4) at i))))))
 
 -- ---- the text's end
 pub end-same : (text : List ℕ) (ts : List Token) (m : Machine) → length ts ≡ m .count → (m .state ≡ Key → Kept ts (m .parent))

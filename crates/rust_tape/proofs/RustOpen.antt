@@ -34,8 +34,8 @@ use Rattle.parse.specs.ParseOpen.{settle, open-empty, open-parameter, open-brac
 use Rattle.parse.proofs.Splits.{by-skipped, by-cut}
 use Rattle.promises.specs.Room.{tape-of, parameter-lays, is-cut, open-lays, and-one}
 use Rattle.rust_tape.specs.RustTape as Rust
-use Rattle.rust_tape.specs.RustTape.{Parser, ParseState, Flow, TextToken}
-use Rattle.rust_tape.specs.RustDomain.{scalar-runs, parameter-runs, open-runs, Each}
+use Rattle.rust_tape.specs.RustTape.{Parser, ParseState, Flow, TextToken, source}
+use Rattle.rust_tape.specs.RustDomain.{Cut-alike, scalar-runs, parameter-runs, open-runs, Each}
 use Rattle.promises.proofs.Alike.{added-sized}
 use Rattle.rust_tape.proofs.RustParts.{minus-there, index-there, slice-there, offset-there, skip-same, any-same}
 use Rattle.rust_tape.proofs.RustReads.{rust-tape, tape-length, laid-scalar, laid-quoted, laid-end, changed-opener, assign-there}
@@ -133,7 +133,8 @@ open-as-same text ts m state sized two =
     let flags = flag-same text state ts m in
     rw (flags .ours) (first-same text (located text (m .at) state m ts) (flags .left) m refl refl (flags .rusts) (flags .kept ∙ sized) two)
 
-module _ (text : List ℕ) (ts : List Token) (m : Machine) (sized : length ts ≡ m .count) (here : m .at < length text) (some-token : 1 ≤ length ts) where
+module _ (cut : List ℕ → ℕ) (text : List ℕ) (ts : List Token) (m : Machine) (sized : length ts ≡ m .count) (here : m .at < length text)
+    (some-token : 1 ≤ length ts) where
   abbrev there : List ℕ
   there = drop (m .at) text
 
@@ -204,13 +205,13 @@ module _ (text : List ℕ) (ts : List Token) (m : Machine) (sized : length ts �
       )))
       (λ e. rw (Rust.open-brace, one, skip-same text (m .at + 1) e, open-brace, e) (refl, refl, long))
 
-  open-scalar-same : Each text (scalar-runs text (m .at))
+  open-scalar-same : Each (Cut-alike cut text) (scalar-runs text (m .at))
       → Same text (and-one (m .count) (is-cut (scalar-cut text (m .at))))
-      (Rust.parse-by (byte-at text (m .at)) (length text) there us (λ rest vs. Rust.open-first (Rust.with-data parser rest (parser .state) vs)))
+      (Rust.parse-by (byte-at text (m .at)) (source cut text) there us (λ rest vs. Rust.open-first (Rust.with-data parser rest (parser .state) vs)))
       (open-scalar text tape m)
   unfolding open-scalar scalar-then lay-then lay add
   open-scalar-same i =
-      rw (any-same text (m .at) us (λ rest vs. Rust.open-first (Rust.with-data parser rest (parser .state) vs)) here i)
+      rw (any-same cut text (m .at) us (λ rest vs. Rust.open-first (Rust.with-data parser rest (parser .state) vs)) here i)
       (by-cut (scalar-cut text (m .at))
       (λ start end rest q.
       let x : Token = scalar-of Unquoted start (end - start) in
@@ -237,21 +238,21 @@ module _ (text : List ℕ) (ts : List Token) (m : Machine) (sized : length ts �
       ≡ go (located text (m .at) (parser .state) (within m (m .count - 1)) (set ts (m .count - 1) (opener-of Object (m .parent) false)))
   initial-same go = rw (long, back, written (Rust.Object (m .parent) false), changed-opener ts (m .count - 1) Object (m .parent) false)
 
-  bracket-same : (mixed : Bool) → m .mixed ≡ mixed → Each text (elim mixed [ true ↦ [] | false ↦ parameter-runs text (m .at) ])
+  bracket-same : (mixed : Bool) → m .mixed ≡ mixed → Each (Cut-alike cut text) (elim mixed [ true ↦ [] | false ↦ parameter-runs text (m .at) ])
       → Same text (and-one (m .count) (elim mixed [ true ↦ false | false ↦ parameter-lays text (m .at) ]))
       (elim mixed [
-        | true ↦ Rust.syntax-error (length text) Rust.MixedNotExpected there us
-        | false ↦ Rust.parse-parameter-definition (length text) true parser
+        | true ↦ Rust.syntax-error (source cut text) Rust.MixedNotExpected there us
+        | false ↦ Rust.parse-parameter-definition (source cut text) true parser
       ])
       (open-parameter text tape m)
   bracket-same true on i = rw (open-mixed on, offset-there text (m .at) (omega arith)) (refl, refl, long)
   bracket-same false off i =
       rw (open-unmixed off)
-      (parameter-same text true parser (set ts (m .count - 1) (opener-of Object (m .parent) false)) (within m (m .count - 1)) (parser .state)
+      (parameter-same cut text true parser (set ts (m .count - 1) (opener-of Object (m .parent) false)) (within m (m .count - 1)) (parser .state)
       refl long (λ f go. initial-same go) (length-set ts (m .count - 1) (opener-of Object (m .parent) false) ∙ sized) here i)
 
-  pub parse-open-same : m .state ≡ ParseOpen → Each text (open-runs text (m .mixed) (m .at))
-      → Same text (and-one (m .count) (open-lays text m)) (Rust.open-arm (length text) parser) (parse-open-turn text tape m)
+  pub parse-open-same : m .state ≡ ParseOpen → Each (Cut-alike cut text) (open-runs text (m .mixed) (m .at))
+      → Same text (and-one (m .count) (open-lays text m)) (Rust.open-arm (source cut text) parser) (parse-open-turn text tape m)
   unfolding Rust.open-arm Rust.open-bracket parse-open-turn open-byte open-lays open-runs
   parse-open-same in-open i =
       let b : ℕ = byte-at text (m .at) in

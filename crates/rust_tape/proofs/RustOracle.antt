@@ -15,9 +15,9 @@ use Rattle.rust_tape.specs.RustTape.{parse-quote, split-scalar, parse-sc
 use Rattle.rust_tape.specs.RustTape.{parameter-name, parameter-from, parse-parameter-definition, key-close, key-header, key-brace, key-arm}
 use Rattle.rust_tape.specs.RustTape.{separator-by, value-arm, open-close, open-brace, flagged, open-first, open-bracket, open-arm, array-close}
 use Rattle.rust_tape.specs.RustTape.{operator-by, after-end, array-sign, array-arm, by-its-state, rust-turn, rust-loop, utf8-bom, begin}
-use Rattle.rust_tape.specs.RustTape.{rust-turns, rust-parse}
+use Rattle.rust_tape.specs.RustTape.{turns-by, parsed-by, rust-parse}
 use Rattle.parse.specs.Told.{bit}
-use Rattle.rust_tape.specs.AsRust.{error-number, error-place}
+use Rattle.rust_tape.specs.Answers.{error-number, error-place}
 
 -- ---- the Rust's tokens by document 01's numbers
 abbrev variant-code : Variant → ℕ
@@ -64,5 +64,5 @@ unfolding rows bytes shown-of stride-stops character-class has-class forward-sea
     minus index slice-from assign insert get skip-ws-t skip-comment-t parse-quote split-scalar parse-scalar parse-variable parse-by at-end
     parameter-value parameter-rest parameter-name parameter-from parse-parameter-definition key-close key-header key-brace key-arm
     separator-by value-arm open-close open-brace flagged open-first open-bracket open-arm array-close operator-by after-end array-sign array-arm
-    by-its-state rust-turn rust-loop utf8-bom begin rust-turns rust-parse
+    by-its-state rust-turn rust-loop utf8-bom begin turns-by parsed-by
 rust-answers = refl

@@ -30,21 +30,21 @@ use Rattle.parse.specs.Parameter.{parameter-object, value-or-object, parameter-
 use Rattle.parse.proofs.Splits.{by-skipped}
 use Rattle.promises.specs.Room.{tape-of, name-ended, parameter-lays, and-one}
 use Rattle.rust_tape.specs.RustTape as Rust
-use Rattle.rust_tape.specs.RustTape.{Parser, ParseState, Flow}
-use Rattle.rust_tape.specs.RustDomain.{In-domain, value-runs, name-runs, parameter-runs, Each}
+use Rattle.rust_tape.specs.RustTape.{Parser, ParseState, Flow, source}
+use Rattle.rust_tape.specs.RustDomain.{Cut-alike, value-runs, name-runs, parameter-runs, Each}
 use Rattle.promises.proofs.Alike.{added-sized}
 use Rattle.rust_tape.proofs.RustParts.{test-there, test-next, index-there, slice-there, offset-there, skip-same, split-same}
 use Rattle.rust_tape.proofs.RustReads.{rust-tape, as-variant, tape-length, laid-scalar, laid-opener}
 use Rattle.rust_tape.proofs.RustTurns.{Same, byte-stands}
 
-module _ (text : List ℕ) where
-  -- the locals at a place, in whatever state
-  abbrev pub located : ℕ → ParseState → Machine → List Token → Parser
-  located at state m ts = record { rest = drop at text; state = state; parent-ind = m .parent; mixed-mode = m .mixed; token-tape = rust-tape ts }
+-- the locals at a place, in whatever state
+abbrev pub located : List ℕ → ℕ → ParseState → Machine → List Token → Parser
+located text at state m ts = record { rest = drop at text; state = state; parent-ind = m .parent; mixed-mode = m .mixed; token-tape = rust-tape ts }
 
+module _ (cut : List ℕ → ℕ) (text : List ℕ) where
   -- `key_or_value` from start to end, and what stands at a place after blanks
   value-same : (at : ℕ) (state : ParseState) (start end rest : ℕ) (ts : List Token) (m : Machine) → length ts ≡ m .count → rest < length text
-      → Same text (m .count) (Rust.parameter-value start (end - start) (drop rest text) (located at state m ts))
+      → Same text (m .count) (Rust.parameter-value start (end - start) (drop rest text) (located text at state m ts))
       (value-or-object text start end rest (tape-of unbounded ts) m)
   unfolding Rust.parameter-value value-or-object parameter-object lay-then lay add
   value-same at state start end rest ts m sized h =
@@ -71,23 +71,23 @@ module _ (text : List ℕ) where
         laid-opener ts Object (m .parent) false,
       ))
 
-  rest-same : (state : ParseState) (ts : List Token) (m : Machine) → length ts ≡ m .count → Each text (value-runs text (m .at))
-      → Same text (m .count) (Rust.parameter-rest (length text) (located (m .at) state m ts)) (parameter-value text (tape-of unbounded ts) m)
+  rest-same : (state : ParseState) (ts : List Token) (m : Machine) → length ts ≡ m .count → Each (Cut-alike cut text) (value-runs text (m .at))
+      → Same text (m .count) (Rust.parameter-rest (source cut text) (located text (m .at) state m ts)) (parameter-value text (tape-of unbounded ts) m)
   unfolding Rust.parameter-rest parameter-value value-runs
   rest-same state ts m sized i =
-      let p : Parser = located (m .at) state m ts in
+      let p : Parser = located text (m .at) state m ts in
       let long : length (rust-tape ts) ≡ m .count = tape-length ts (m .count) sized in
       let go : ℕ → ℕ → List ℕ → Flow =
       λ start size after. Rust.ws-or-eof (Rust.skip-ws-t after) (rust-tape ts) (λ rest. Rust.parameter-value start size rest p) in
       by-skipped (skip-ws text (m .at))
       (λ start e.
       let in-it : start < length text = skip-lands text (m .at) start e .within in
-      let d : In-domain text start = (rw (value-runs, e) at i) .0 in
+      let alike : Cut-alike cut text start = (rw (value-runs, e) at i) .0 in
       by-skipped (skip-ws text (run-end text start))
       (λ rest f. rw (
         Rust.parameter-rest,
         skip-same text (m .at) e,
-        split-same text start go in-it d,
+        split-same cut text start go in-it alike,
         skip-same text (run-end text start) f,
         parameter-value,
         e,
@@ -96,7 +96,7 @@ module _ (text : List ℕ) where
       (λ f. rw (
         Rust.parameter-rest,
         skip-same text (m .at) e,
-        split-same text start go in-it d,
+        split-same cut text start go in-it alike,
         skip-same text (run-end text start) f,
         parameter-value,
         e,
@@ -105,28 +105,28 @@ module _ (text : List ℕ) where
       (λ e. rw (Rust.parameter-rest, skip-same text (m .at) e, parameter-value, e) (refl, refl, long))
 
   name-same : (state : ParseState) (kind : ScalarKind) (at start : ℕ) (ts : List Token) (m : Machine) → length ts ≡ m .count
-      → Each text (name-runs text start)
+      → Each (Cut-alike cut text) (name-runs text start)
       → Same text (and-one (m .count) (name-ended text start))
-      (Rust.parameter-name (length text) (as-variant kind) (drop start text) (located at state m ts))
+      (Rust.parameter-name (source cut text) (as-variant kind) (drop start text) (located text at state m ts))
       (parameter-name text kind start (tape-of unbounded ts) m)
   unfolding Rust.parameter-name parameter-name parameter-named name-ended lay-then lay add name-runs
   name-same state kind at start ts m sized i =
-      let p : Parser = located at state m ts in
+      let p : Parser = located text at state m ts in
       let bytes : length (drop start text) ≡ length text - start = length-drop start text in
       let long : length (rust-tape ts) ≡ m .count = tape-length ts (m .count) sized in
       let go : ℕ → ℕ → List ℕ → Flow =
       λ from size after. elim (Rust.has after 0 bracket-close) [
         | true ↦
             Rust.checked (Rust.slice-from after 1)
-            (λ rest. Rust.parameter-rest (length text)
+            (λ rest. Rust.parameter-rest (source cut text)
             (Rust.with-data p rest state (Rust.push (rust-tape ts) (Rust.OfScalar (as-variant kind) from size))))
-        | false ↦ Rust.syntax-error (length text) Rust.NameEnd after (rust-tape ts)
+        | false ↦ Rust.syntax-error (source cut text) Rust.NameEnd after (rust-tape ts)
       ] in
       by-bool (ltb start (length text))
       (λ t.
       let in-it : start < length text = ltb-true _ _ t in
       let some-bytes : eqb (length (drop start text)) 0 ≡ false = ne-eqb (length (drop start text)) 0 (λ z. omega arith) in
-      let d : In-domain text start = (rw (name-runs, t) at i) .0 in
+      let alike : Cut-alike cut text start = (rw (name-runs, t) at i) .0 in
       let run = run-end-run text start in-it in
       let end : ℕ = run-end text start in
       by-bool (eqb (byte-at text end) bracket-close)
@@ -136,7 +136,7 @@ module _ (text : List ℕ) where
       rw (
         Rust.parameter-name,
         some-bytes,
-        split-same text start go in-it d,
+        split-same cut text start go in-it alike,
         test-there text end bracket-close ∙ g,
         slice-there text end 1 (omega arith),
         sym (laid-scalar ts kind start (end - start)),
@@ -150,7 +150,7 @@ module _ (text : List ℕ) where
       (λ g. rw (
         Rust.parameter-name,
         some-bytes,
-        split-same text start go in-it d,
+        split-same cut text start go in-it alike,
         test-there text end bracket-close ∙ g,
         offset-there text end (run .within),
         parameter-name,
@@ -165,9 +165,9 @@ module _ (text : List ℕ) where
       rw (Rust.parameter-name, no-bytes, parameter-name, name-ended, t) (refl, refl, long))
 
   from-same : (state : ParseState) (kind : ScalarKind) (skips : ℕ) (ts : List Token) (m : Machine) → length ts ≡ m .count
-      → Each text (name-runs text (m .at + skips))
+      → Each (Cut-alike cut text) (name-runs text (m .at + skips))
       → Same text (and-one (m .count) (name-ended text (m .at + skips)))
-      (Rust.parameter-from (length text) (as-variant kind) skips (located (m .at) state m ts))
+      (Rust.parameter-from (source cut text) (as-variant kind) skips (located text (m .at) state m ts))
       (parameter-name text kind (m .at + skips) (tape-of unbounded ts) m)
   unfolding Rust.parameter-from parameter-name name-ended
   from-same state kind skips ts m sized i =
@@ -182,10 +182,10 @@ module _ (text : List ℕ) where
   -- `[[` or `[[!`, once the opener has been settled where the parameter is initial
   pub parameter-same : (initial : Bool) (p : Parser) (ts : List Token) (m : Machine) (state : ParseState)
       → p .rest ≡ drop (m .at) text → length (p .token-tape) ≡ m .count
-      → (Rust.has (p .rest) 1 bracket-open ≡ true → (go : Parser → Flow) → Rust.initially initial p go ≡ go (located (m .at) state m ts))
-      → length ts ≡ m .count → m .at < length text → Each text (parameter-runs text (m .at))
+      → (Rust.has (p .rest) 1 bracket-open ≡ true → (go : Parser → Flow) → Rust.initially initial p go ≡ go (located text (m .at) state m ts))
+      → length ts ≡ m .count → m .at < length text → Each (Cut-alike cut text) (parameter-runs text (m .at))
       → Same text (and-one (m .count) (parameter-lays text (m .at)))
-      (Rust.parse-parameter-definition (length text) initial p) (parameter text (tape-of unbounded ts) m)
+      (Rust.parse-parameter-definition (source cut text) initial p) (parameter text (tape-of unbounded ts) m)
   unfolding Rust.parse-parameter-definition parameter parameter-lays parameter-runs
   parameter-same initial p ts m state there counted starts sized here i =
       let at : ℕ = m .at in
@@ -193,8 +193,8 @@ module _ (text : List ℕ) where
       ap (λ (x : List ℕ). Rust.has x 1 bracket-open) there ∙ test-next text at 1 bracket-open in
       let go : Parser → Flow =
       λ q. elim (Rust.has (q .rest) 2 exclamation) [
-        | true ↦ Rust.parameter-from (length text) Rust.UndefinedParameter 3 q
-        | false ↦ Rust.parameter-from (length text) Rust.Parameter 2 q
+        | true ↦ Rust.parameter-from (source cut text) Rust.UndefinedParameter 3 q
+        | false ↦ Rust.parameter-from (source cut text) Rust.Parameter 2 q
       ] in
       by-bool (eqb (byte-at text (at + 1)) bracket-open)
       (λ f. by-bool (eqb (byte-at text (at + 2)) exclamation)

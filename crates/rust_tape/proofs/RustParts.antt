@@ -19,17 +19,17 @@ use Rattle.cut.specs.declared.Skipped.the-variants.{At, End}
 use Rattle.cut.specs.declared.Cut as Cuts
 use Rattle.cut.specs.declared.Quoted as Quotes
 use Rattle.cut.specs.Blanks.{is-blank, blanks-from, comment-from, skip-ws}
-use Rattle.cut.specs.Runs.{stop-from, run-end}
+use Rattle.cut.specs.Runs.{stop-from, run-end-of, unquoted-run, run-end}
 use Rattle.cut.specs.Quotes.{quoted-run}
 use Rattle.cut.specs.Scalars.{closes-bracket, bracket-run, opens-variable, variable-cut, scalar-cut}
 use Rattle.cut.proofs.Quotes.{quoted-run-closes}
 use Rattle.cut.proofs.Runs.{head-here, run-end-run}
 use Rattle.cut.proofs.Scalars.{opens-not, opens-next, cut-quoted, cut-variable, cut-run}
-use Rattle.rust_tape.specs.RustCuts.{forward-search, split-at-scalar}
+use Rattle.rust_tape.specs.RustCuts.{forward-search}
 use Rattle.rust_tape.specs.RustTape as Rust
-use Rattle.rust_tape.specs.RustTape.{TextToken, Flow}
-use Rattle.rust_tape.specs.RustDomain.{In-domain, scalar-runs, Each}
-use Rattle.rust_tape.proofs.Domain.{as-found, unquoted-end-alike, quoted-end-alike}
+use Rattle.rust_tape.specs.RustTape.{TextToken, Flow, source}
+use Rattle.rust_tape.specs.RustDomain.{Cut-alike, scalar-runs, Each}
+use Rattle.rust_tape.proofs.Domain.{as-found, quoted-end-alike}
 
 -- ---- bytes
 pub byte-next : (text : List ℕ) (at i : ℕ) → getD (drop at text) i 0 ≡ getD text (at + i) 0
@@ -103,18 +103,20 @@ skip-there text at = blanks-same text (drop at text) at refl
 pub skip-same : (text : List ℕ) (at : ℕ) {s : Skipped} → skip-ws text at ≡ s → Rust.skip-ws-t (drop at text) ≡ from-there text s
 skip-same text at e = skip-there text at ∙ ap (from-there text) e
 
--- ---- an unquoted run
-split-count : (text : List ℕ) (at : ℕ) → at < length text → In-domain text at → split-at-scalar (drop at text) ≡ run-end text at - at
-split-count text at h i = let e = unquoted-end-alike text at h i in omega arith
+-- ---- an unquoted run, where the cut is ours
+split-count : (cut : List ℕ → ℕ) (text : List ℕ) (at : ℕ) → at < length text → Cut-alike cut text at
+    → cut (drop at text) ≡ run-end text at - at
+unfolding run-end run-end-of unquoted-run
+split-count cut text at h alike = let e = alike h in omega arith
 
-pub split-same : (text : List ℕ) (at : ℕ) (go : ℕ → ℕ → List ℕ → Flow) → at < length text → In-domain text at
-    → Rust.split-scalar (length text) (drop at text) go ≡ go at (run-end text at - at) (drop (run-end text at) text)
+pub split-same : (cut : List ℕ → ℕ) (text : List ℕ) (at : ℕ) (go : ℕ → ℕ → List ℕ → Flow) → at < length text → Cut-alike cut text at
+    → Rust.split-scalar (source cut text) (drop at text) go ≡ go at (run-end text at - at) (drop (run-end text at) text)
 unfolding Rust.split-scalar
-split-same text at go h i =
+split-same cut text at go h alike =
     let run = run-end-run text at h in
     let ends : at + (run-end text at - at) ≡ run-end text at = omega (arith, run .moves) in
     let fits : at + (run-end text at - at) ≤ length text = omega (arith, run .within) in
-    rw (Rust.split-scalar, split-count text at h i, slice-there text at (run-end text at - at) fits, start-there text at (omega arith), ends)
+    rw (Rust.split-scalar, split-count cut text at h alike, slice-there text at (run-end text at - at) fits, start-there text at (omega arith), ends)
 
 -- ---- scalars
 abbrev pub taken-by : List ℕ → List TextToken → (List ℕ → List TextToken → Flow) → Cuts.Cut → Flow
@@ -145,8 +147,8 @@ search-found wanted (b ∷ bs) at k =
     (ap (forward-search wanted bs) later ∙ search-found wanted bs at (k + 1)
     ∙ ap (λ (l : ℕ). found (ltb (stop-from wanted bs (k + 1)) l) (at + stop-from wanted bs (k + 1))) longer))
 
-module _ (text : List ℕ) (at : ℕ) (us : List TextToken) (go : List ℕ → List TextToken → Flow) (here : at < length text) where
-  quote-same : getD text at 0 ≡ quote → Rust.parse-quote (length text) (drop at text) us go ≡ taken-by text us go (scalar-cut text at)
+module _ (cut : List ℕ → ℕ) (text : List ℕ) (at : ℕ) (us : List TextToken) (go : List ℕ → List TextToken → Flow) (here : at < length text) where
+  quote-same : getD text at 0 ≡ quote → Rust.parse-quote (source cut text) (drop at text) us go ≡ taken-by text us go (scalar-cut text at)
   unfolding Rust.parse-quote scalar-cut
   quote-same q =
       let haystack : Rust.slice-from (drop at text) 1 ≡ some (drop (at + 1) text) = slice-there text at 1 (omega arith) in
@@ -169,15 +171,15 @@ module _ (text : List ℕ) (at : ℕ) (us : List TextToken) (go : List ℕ → L
       ) (cc))
       (λ e. rw (Rust.parse-quote, haystack, quoted-end-alike text at here ∙ ap as-found e, scalar-cut, cut-quoted is-boundary text at here q, e))
 
-  run-same : (getD text at 0 ≡ quote → ⊥) → opens-variable text at ≡ false → In-domain text at
-      → Rust.parse-scalar (length text) (drop at text) us go ≡ taken-by text us go (scalar-cut text at)
+  run-same : (getD text at 0 ≡ quote → ⊥) → opens-variable text at ≡ false → Cut-alike cut text at
+      → Rust.parse-scalar (source cut text) (drop at text) us go ≡ taken-by text us go (scalar-cut text at)
   unfolding Rust.parse-scalar scalar-cut run-end
   run-same q v i =
       rw (Rust.parse-scalar, scalar-cut, cut-run is-boundary text at here q v)
-      (split-same text at (λ start size rest. go rest (Rust.push us (Rust.OfScalar Rust.Unquoted start size))) here i)
+      (split-same cut text at (λ start size rest. go rest (Rust.push us (Rust.OfScalar Rust.Unquoted start size))) here i)
 
   variable-same : (getD text at 0 ≡ quote → ⊥) → opens-variable text at ≡ true → getD text (at + 1) 0 ≡ bracket-open
-      → Rust.parse-variable (length text) (drop at text) us go ≡ taken-by text us go (scalar-cut text at)
+      → Rust.parse-variable (source cut text) (drop at text) us go ≡ taken-by text us go (scalar-cut text at)
   unfolding Rust.parse-variable scalar-cut variable-cut bracket-run closes-bracket
   variable-same q v b =
       let s : ℕ = stop-from closes-bracket (drop (at + 2) text) 0 in
@@ -217,13 +219,13 @@ module _ (text : List ℕ) (at : ℕ) (us : List TextToken) (go : List ℕ → L
       ))
 
   plain-same : eqb (getD text (at + 1) 0) bracket-open ≡ false
-      → Rust.parse-variable (length text) (drop at text) us go ≡ Rust.parse-scalar (length text) (drop at text) us go
+      → Rust.parse-variable (source cut text) (drop at text) us go ≡ Rust.parse-scalar (source cut text) (drop at text) us go
   unfolding Rust.parse-variable
   plain-same b = rw (Rust.parse-variable, byte-next text at 1, b)
 
   -- whichever scalar stands there
-  pub any-same : Each text (scalar-runs text at)
-      → Rust.parse-by (getD text at 0) (length text) (drop at text) us go ≡ taken-by text us go (scalar-cut text at)
+  pub any-same : Each (Cut-alike cut text) (scalar-runs text at)
+      → Rust.parse-by (getD text at 0) (source cut text) (drop at text) us go ≡ taken-by text us go (scalar-cut text at)
   unfolding Rust.parse-by scalar-runs
   any-same i =
       by-bool (eqb (getD text at 0) quote)

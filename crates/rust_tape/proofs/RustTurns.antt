@@ -33,9 +33,9 @@ use Rattle.parse.specs.ObjectValue.{object-value-turn}
 use Rattle.parse.proofs.Splits.{by-cut}
 use Rattle.promises.specs.Room.{tape-of}
 use Rattle.rust_tape.specs.RustTape as Rust
-use Rattle.rust_tape.specs.RustTape.{Parser, Flow, TextToken}
-use Rattle.rust_tape.specs.RustDomain.{scalar-runs, object-runs, Each}
-use Rattle.rust_tape.specs.AsRust.{error-number, error-place}
+use Rattle.rust_tape.specs.RustTape.{Parser, Flow, TextToken, source}
+use Rattle.rust_tape.specs.RustDomain.{Cut-alike, scalar-runs, object-runs, Each}
+use Rattle.rust_tape.specs.Answers.{error-number, error-place}
 use Rattle.rust_tape.proofs.RustParts.{byte-next, minus-there, index-there, slice-there, offset-there, any-same}
 use Rattle.rust_tape.proofs.RustReads.{rust-tape, as-state, tape-length, laid-scalar, laid-quoted, laid-opener, laid-operator, insert-read}
 
@@ -80,7 +80,7 @@ separator-two : (text : List ℕ) (t : Tape) (m : Machine)
 unfolding separator-turn separator-on
 separator-two text t m = refl
 
-module _ (text : List ℕ) (ts : List Token) (m : Machine) (sized : length ts ≡ m .count) (here : m .at < length text) where
+module _ (cut : List ℕ → ℕ) (text : List ℕ) (ts : List Token) (m : Machine) (sized : length ts ≡ m .count) (here : m .at < length text) where
   -- the rest of the text there, our tape, and the Rust's tokens
   abbrev there : List ℕ
   there = drop (m .at) text
@@ -95,13 +95,13 @@ module _ (text : List ℕ) (ts : List Token) (m : Machine) (sized : length ts �
   us = rust-tape ts
 
   -- ---- a scalar
-  pub scalar-same : (state : State) → Each text (scalar-runs text (m .at))
+  pub scalar-same : (state : State) → Each (Cut-alike cut text) (scalar-runs text (m .at))
       → Same text (m .count)
-      (Rust.parse-by (byte-at text (m .at)) (length text) there us (λ rest vs. Rust.loop (Rust.with-data parser rest (as-state state) vs)))
+      (Rust.parse-by (byte-at text (m .at)) (source cut text) there us (λ rest vs. Rust.loop (Rust.with-data parser rest (as-state state) vs)))
       (scalar-then text state tape m)
   unfolding scalar-then lay-then lay add
   scalar-same state i =
-      rw (any-same text (m .at) us (λ rest vs. Rust.loop (Rust.with-data parser rest (as-state state) vs)) here i)
+      rw (any-same cut text (m .at) us (λ rest vs. Rust.loop (Rust.with-data parser rest (as-state state) vs)) here i)
       (by-cut (scalar-cut text (m .at))
       (λ start end rest q. rw (q, scalar-then, laid-scalar ts Unquoted start (end - start)))
       (λ start end rest escaped q. rw (q, scalar-then, laid-quoted ts escaped start (end - start)))
@@ -163,7 +163,8 @@ module _ (text : List ℕ) (ts : List Token) (m : Machine) (sized : length ts �
           (λ f. rw f (mix-same some-token)))))
 
   -- ---- ObjectValue
-  pub object-value-same : Each text (object-runs text (m .at)) → Same text (m .count) (Rust.value-arm (length text) parser) (object-value-turn text tape m)
+  pub object-value-same : Each (Cut-alike cut text) (object-runs text (m .at))
+      → Same text (m .count) (Rust.value-arm (source cut text) parser) (object-value-turn text tape m)
   unfolding Rust.value-arm object-value-turn open-then lay-then lay add object-runs
   object-value-same i =
       let byte : Rust.index there 0 ≡ some (byte-at text (m .at)) = index-there text (m .at) here in

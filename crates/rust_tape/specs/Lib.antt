@@ -1,3 +1,4 @@
+pub mod Answers
 pub mod AsRust
 pub mod Demand2
 pub mod RustCuts

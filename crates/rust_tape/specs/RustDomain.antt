@@ -40,6 +40,10 @@ Undoubted d n = (n ≡ 1) ⊎ ((k : ℕ) → k < n → among (getD d k 0) doubte
 abbrev pub In-domain : List ℕ → ℕ → Type 0
 In-domain text at = Undoubted (drop at text) (unquoted-run (drop at text))
 
+-- a cut is ours at a place of a text
+abbrev pub Cut-alike : (List ℕ → ℕ) → List ℕ → ℕ → Type 0
+Cut-alike cut text at = at < length text → cut (drop at text) ≡ unquoted-run (drop at text)
+
 -- ---- the places at which a turn of ours cuts an unquoted run
 -- a scalar that is neither quoted nor `@[`
 unfoldable pub scalar-runs : List ℕ → ℕ → List ℕ
@@ -123,21 +127,25 @@ unfoldable pub turn-runs : List ℕ → Machine → List ℕ
 turn-runs text m = elim (skip-ws text (m .at)) [ At p ↦ state-runs text (to m p (m .state) (m .count)) | End ↦ [] ]
 
 -- ---- a text
--- the runs at some places are in the domain
-abbrev pub Each : List ℕ → List ℕ → Type 0
-Each text [] = Unit {0}
-Each text (at ∷ places) = In-domain text at × Each text places
+-- a fact holds at each of some places
+abbrev pub Each : (ℕ → Type 0) → List ℕ → Type 0
+Each P [] = Unit {0}
+Each P (at ∷ places) = P at × Each P places
 
--- and so on along so many turns of ours, or fewer where they end before
-abbrev pub Along : List ℕ → ℕ → After → Type 0
-Along text zero x = Unit {0}
-Along text (suc turns) (next m t) = Each text (turn-runs text m) × Along text turns (turn text t m)
-Along text (suc turns) (done n t) = Unit {0}
-Along text (suc turns) (refused r) = Unit {0}
+-- and wherever so many turns of ours, or fewer where they end before, cut an unquoted run
+abbrev pub Along : (ℕ → Type 0) → List ℕ → ℕ → After → Type 0
+Along P text zero x = Unit {0}
+Along P text (suc turns) (next m t) = Each P (turn-runs text m) × Along P text turns (turn text t m)
+Along P text (suc turns) (done n t) = Unit {0}
+Along P text (suc turns) (refused r) = Unit {0}
+
+-- and wherever our parse with no bound on tokens does
+abbrev pub Throughout : (ℕ → Type 0) → List ℕ → Type 0
+Throughout P text = Along P text (enough text) (next (start (has-bom text)) (tape-of unbounded []))
 
 -- a text is in the domain where each unquoted run that its parse with no bound on tokens cuts is
 abbrev pub Domain : List ℕ → Type 0
-Domain text = Along text (enough text) (next (start (has-bom text)) (tape-of unbounded []))
+Domain text = Throughout (In-domain text) text
 
 -- none of the three bytes stands in a text at all; such a text is in the domain (`plain-in-domain`)
 abbrev pub Plain : List ℕ → Type 0

@@ -1,6 +1,7 @@
 -- The Rust's parser in the words of its text/tape.rs: its tokens, its states, its errors and `ParserState` with all the branches of its loop.
 -- It shares nothing with our own definitions but the names of bytes. A part of the text is its bytes; a byte that a slice pattern asks for is read
 -- as 0 where the part has none there, and no byte that is asked for is 0. A `Vec` is a list, and it is kept where the parse returns an error too.
+-- How an unquoted run is cut is lent to it: `rust-parse` is the parse by the Rust's own cut (RustCuts), and Demand2 speaks of the parse by ours too.
 use Prim.Native.Nat.{ℕ, zero, suc, _+_, _-_, _*_}
 use mathlib.Core.Bool.{Bool, true, false, _&&_}
 use mathlib.Core.List.{List, [], _∷_, _++_}
@@ -71,6 +72,15 @@ pub data ErrorKind : Type 0 where
   InvalidSyntax : Message → (offset : ℕ) → ErrorKind
 
 -- ---- what a turn of the loop works on, and what it comes to
+-- what no turn changes: how many bytes the text has, and how many bytes of a part are cut off as an unquoted run
+pub record Source : Type 0 where
+  pub size : ℕ
+  pub cut : List ℕ → ℕ
+
+-- a text that is parsed by a cut
+abbrev pub source : (List ℕ → ℕ) → List ℕ → Source
+source cut text = record { size = length text; cut = cut }
+
 -- the locals of `parse` and the tape; `data` is `rest` here
 pub record Parser : Type 0 where
   pub rest : List ℕ
@@ -225,8 +235,8 @@ abbrev pub offset : ℕ → List ℕ → Option ℕ
 offset n d = minus n (length d)
 
 -- an `InvalidSyntax` that carries the offset of a part
-abbrev pub syntax-error : ℕ → Message → List ℕ → List TextToken → Flow
-syntax-error n msg d ts = checked (offset n d) (λ at. err (InvalidSyntax msg at) ts)
+abbrev pub syntax-error : Source → Message → List ℕ → List TextToken → Flow
+syntax-error src msg d ts = checked (offset (src .size) d) (λ at. err (InvalidSyntax msg at) ts)
 
 -- `skip_ws_t`, outside a comment, and inside one
 unfoldable mutual
@@ -248,39 +258,39 @@ ws-or-eof (some d) ts go = go d
 ws-or-eof none ts go = err Eof ts
 
 -- `parse_quote_scalar`
-unfoldable pub parse-quote : ℕ → List ℕ → List TextToken → (List ℕ → List TextToken → Flow) → Flow
-parse-quote n d ts go =
+unfoldable pub parse-quote : Source → List ℕ → List TextToken → (List ℕ → List TextToken → Flow) → Flow
+parse-quote src d ts go =
     checked (slice-from d 1)
     (λ haystack. elim (parse-quote-scalar d) [
-      | some k ↦ checked (slice-from haystack (k + 1)) (λ rest. go rest (push ts (OfScalar Quoted (start-of n haystack) k)))
+      | some k ↦ checked (slice-from haystack (k + 1)) (λ rest. go rest (push ts (OfScalar Quoted (start-of (src .size) haystack) k)))
       | none ↦ err Eof ts
     ])
 
--- `split_at_scalar`: the part is split where the run ends, which is past its end where it has no byte
-unfoldable pub split-scalar : ℕ → List ℕ → (ℕ → ℕ → List ℕ → Flow) → Flow
-split-scalar n d go = checked (slice-from d (split-at-scalar d)) (λ rest. go (start-of n d) (split-at-scalar d) rest)
+-- `split_at_scalar`: the part is split where the cut ends the run; the Rust's own ends it past a part that has no byte
+unfoldable pub split-scalar : Source → List ℕ → (ℕ → ℕ → List ℕ → Flow) → Flow
+split-scalar src d go = checked (slice-from d (src .cut d)) (λ rest. go (start-of (src .size) d) (src .cut d) rest)
 
 -- `parse_scalar`
-unfoldable pub parse-scalar : ℕ → List ℕ → List TextToken → (List ℕ → List TextToken → Flow) → Flow
-parse-scalar n d ts go = split-scalar n d (λ start size rest. go rest (push ts (OfScalar Unquoted start size)))
+unfoldable pub parse-scalar : Source → List ℕ → List TextToken → (List ℕ → List TextToken → Flow) → Flow
+parse-scalar src d ts go = split-scalar src d (λ start size rest. go rest (push ts (OfScalar Unquoted start size)))
 
 -- `parse_variable`
-unfoldable pub parse-variable : ℕ → List ℕ → List TextToken → (List ℕ → List TextToken → Flow) → Flow
-parse-variable n d ts go =
+unfoldable pub parse-variable : Source → List ℕ → List TextToken → (List ℕ → List TextToken → Flow) → Flow
+parse-variable src d ts go =
     elim (has d 1 bracket-open) [
       | true ↦ elim (forward-search (λ b. eqb b bracket-close) (drop 2 d) 2) [
-        | some pos ↦ checked (slice-from d (pos + 1)) (λ rest. go rest (push ts (OfScalar Unquoted (start-of n d) (pos + 1))))
+        | some pos ↦ checked (slice-from d (pos + 1)) (λ rest. go rest (push ts (OfScalar Unquoted (start-of (src .size) d) (pos + 1))))
         | none ↦ err Eof ts
       ]
-      | false ↦ parse-scalar n d ts go
+      | false ↦ parse-scalar src d ts go
     ]
 
 -- the arms `"`, `@` and `_` of Key, ObjectValue, ParseOpen and ArrayValue, of a part that begins with b
-unfoldable pub parse-by : ℕ → ℕ → List ℕ → List TextToken → (List ℕ → List TextToken → Flow) → Flow
-parse-by b n d ts go =
+unfoldable pub parse-by : ℕ → Source → List ℕ → List TextToken → (List ℕ → List TextToken → Flow) → Flow
+parse-by b src d ts go =
     elim (eqb b quote) [
-      | true ↦ parse-quote n d ts go
-      | false ↦ elim (eqb b at-sign) [ true ↦ parse-variable n d ts go | false ↦ parse-scalar n d ts go ]
+      | true ↦ parse-quote src d ts go
+      | false ↦ elim (eqb b at-sign) [ true ↦ parse-variable src d ts go | false ↦ parse-scalar src d ts go ]
     ]
 
 -- the locals with other data, state and tape
@@ -330,30 +340,30 @@ parameter-value start size rest p =
     ])
 
 -- what follows the name, whose token has been pushed
-unfoldable pub parameter-rest : ℕ → Parser → Flow
-parameter-rest n p =
+unfoldable pub parameter-rest : Source → Parser → Flow
+parameter-rest src p =
     ws-or-eof (skip-ws-t (p .rest)) (p .token-tape)
-    (λ d. split-scalar n d (λ start size after. ws-or-eof (skip-ws-t after) (p .token-tape) (λ rest. parameter-value start size rest p)))
+    (λ d. split-scalar src d (λ start size after. ws-or-eof (skip-ws-t after) (p .token-tape) (λ rest. parameter-value start size rest p)))
 
 -- the name, of the part after `[[` or `[[!`
-unfoldable pub parameter-name : ℕ → Variant → List ℕ → Parser → Flow
-parameter-name n variant d p =
+unfoldable pub parameter-name : Source → Variant → List ℕ → Parser → Flow
+parameter-name src variant d p =
     elim (eqb (length d) 0) [
       | true ↦ err Eof (p .token-tape)
-      | false ↦ split-scalar n d (λ start size after. elim (has after 0 bracket-close) [
+      | false ↦ split-scalar src d (λ start size after. elim (has after 0 bracket-close) [
         | true ↦
             checked (slice-from after 1)
-            (λ rest. parameter-rest n (with-data p rest (p .state) (push (p .token-tape) (OfScalar variant start size))))
-        | false ↦ syntax-error n NameEnd after (p .token-tape)
+            (λ rest. parameter-rest src (with-data p rest (p .state) (push (p .token-tape) (OfScalar variant start size))))
+        | false ↦ syntax-error src NameEnd after (p .token-tape)
       ])
     ]
 
 -- `data.get(2 + is_undefined as usize..)`
-unfoldable pub parameter-from : ℕ → Variant → ℕ → Parser → Flow
-parameter-from n variant skips p =
+unfoldable pub parameter-from : Source → Variant → ℕ → Parser → Flow
+parameter-from src variant skips p =
     elim (ltb (length (p .rest)) skips) [
       | true ↦ err Eof (p .token-tape)
-      | false ↦ parameter-name n variant (drop skips (p .rest)) p
+      | false ↦ parameter-name src variant (drop skips (p .rest)) p
     ]
 
 -- `initial`: the opener that is last becomes an Object, and the parent
@@ -365,14 +375,14 @@ initially true p go =
 initially false p go = go p
 
 -- from its start: `[[`, and whether `!` follows
-unfoldable pub parse-parameter-definition : ℕ → Bool → Parser → Flow
-parse-parameter-definition n initial p =
+unfoldable pub parse-parameter-definition : Source → Bool → Parser → Flow
+parse-parameter-definition src initial p =
     elim (has (p .rest) 1 bracket-open) [
       | true ↦ initially initial p (λ q. elim (has (q .rest) 2 exclamation) [
-        | true ↦ parameter-from n UndefinedParameter 3 q
-        | false ↦ parameter-from n Parameter 2 q
+        | true ↦ parameter-from src UndefinedParameter 3 q
+        | false ↦ parameter-from src Parameter 2 q
       ])
-      | false ↦ syntax-error n ParameterStart (p .rest) (p .token-tape)
+      | false ↦ syntax-error src ParameterStart (p .rest) (p .token-tape)
     ]
 
 -- ---- Key
@@ -402,39 +412,39 @@ key-close p =
     ]
 
 -- `{` with no `}` behind it: a token header
-unfoldable pub key-header : ℕ → List ℕ → Parser → Flow
-key-header n rest p =
+unfoldable pub key-header : Source → List ℕ → Parser → Flow
+key-header src rest p =
     let ts : List TextToken = p .token-tape in
     elim (as-last (last ts)) [
       | AnUnquoted start size ↦
           loop (with-data p rest ParseOpen (push (set ts (length ts - 1) (OfScalar Header start size)) (Array 0 false)))
-      | AnotherScalar ↦ syntax-error n TokenHeaders rest ts
-      | AnEnd start-idx ↦ syntax-error n TokenHeaders rest ts
-      | NoScalar ↦ syntax-error n TokenHeaders rest ts
+      | AnotherScalar ↦ syntax-error src TokenHeaders rest ts
+      | AnEnd start-idx ↦ syntax-error src TokenHeaders rest ts
+      | NoScalar ↦ syntax-error src TokenHeaders rest ts
     ]
 
 -- `{`: an empty object, or a token header
-unfoldable pub key-brace : ℕ → Parser → Flow
-key-brace n p =
+unfoldable pub key-brace : Source → Parser → Flow
+key-brace src p =
     checked (slice-from (p .rest) 1)
     (λ after. ws-or-eof (skip-ws-t after) (p .token-tape)
     (λ rest. checked (index rest 0)
     (λ b. elim (eqb b brace-close) [
       | true ↦ pass (with-data p rest (p .state) (p .token-tape)) 1 (p .state) (p .token-tape)
-      | false ↦ key-header n rest p
+      | false ↦ key-header src rest p
     ])))
 
 -- `ParseState::Key`: `match data[0]`
-unfoldable pub key-arm : ℕ → Parser → Flow
-key-arm n p =
+unfoldable pub key-arm : Source → Parser → Flow
+key-arm src p =
     checked (index (p .rest) 0)
     (λ b. arms (
     (eqb b brace-close ⇒ key-close p)
     ∷ (eqb b bracket-close ⇒ key-close p)
-    ∷ (eqb b brace-open ⇒ key-brace n p)
-    ∷ (eqb b bracket-open ⇒ parse-parameter-definition n false p)
+    ∷ (eqb b brace-open ⇒ key-brace src p)
+    ∷ (eqb b bracket-open ⇒ parse-parameter-definition src false p)
     ∷ [])
-    (parse-by b n (p .rest) (p .token-tape) (λ rest ts. loop (with-data p rest KeyValueSeparator ts))))
+    (parse-by b src (p .rest) (p .token-tape) (λ rest ts. loop (with-data p rest KeyValueSeparator ts))))
 
 -- ---- KeyValueSeparator
 -- an operator is pushed, so many bytes are passed, and a state comes
@@ -476,11 +486,11 @@ abbrev pub open-array : Parser → Flow
 open-array p = pass p 1 ParseOpen (push (p .token-tape) (Array 0 false))
 
 -- `ParseState::ObjectValue`: `match data[0]`
-unfoldable pub value-arm : ℕ → Parser → Flow
-value-arm n p =
+unfoldable pub value-arm : Source → Parser → Flow
+value-arm src p =
     checked (index (p .rest) 0)
-    (λ b. arms ((eqb b brace-open ⇒ open-array p) ∷ (eqb b brace-close ⇒ syntax-error n ClosedValue (p .rest) (p .token-tape)) ∷ [])
-    (parse-by b n (p .rest) (p .token-tape) (λ rest ts. loop (with-data p rest Key ts))))
+    (λ b. arms ((eqb b brace-open ⇒ open-array p) ∷ (eqb b brace-close ⇒ syntax-error src ClosedValue (p .rest) (p .token-tape)) ∷ [])
+    (parse-by b src (p .rest) (p .token-tape) (λ rest ts. loop (with-data p rest Key ts))))
 
 -- ---- ParseOpen
 -- `}`: an empty array
@@ -541,23 +551,23 @@ open-first p =
     ]))
 
 -- `[`: the start of a parameter definition
-unfoldable pub open-bracket : ℕ → Parser → Flow
-open-bracket n p =
+unfoldable pub open-bracket : Source → Parser → Flow
+open-bracket src p =
     elim (p .mixed-mode) [
-      | true ↦ syntax-error n MixedNotExpected (p .rest) (p .token-tape)
-      | false ↦ parse-parameter-definition n true p
+      | true ↦ syntax-error src MixedNotExpected (p .rest) (p .token-tape)
+      | false ↦ parse-parameter-definition src true p
     ]
 
 -- `ParseState::ParseOpen`: `match data[0]`
-unfoldable pub open-arm : ℕ → Parser → Flow
-open-arm n p =
+unfoldable pub open-arm : Source → Parser → Flow
+open-arm src p =
     checked (index (p .rest) 0)
     (λ b. arms (
     (eqb b brace-close ⇒ open-close p)
-    ∷ (eqb b bracket-open ⇒ open-bracket n p)
+    ∷ (eqb b bracket-open ⇒ open-bracket src p)
     ∷ (eqb b brace-open ⇒ open-brace p)
     ∷ [])
-    (parse-by b n (p .rest) (p .token-tape) (λ rest ts. open-first (with-data p rest (p .state) ts))))
+    (parse-by b src (p .rest) (p .token-tape) (λ rest ts. open-first (with-data p rest (p .state) ts))))
 
 -- ---- ArrayValue
 -- the container that is left gets its End, its own kind and the mode in force
@@ -566,14 +576,14 @@ closed-as true end mixed = Array end mixed
 closed-as false end mixed = Object end mixed
 
 -- `}`: the container is closed, and its parent taken up
-unfoldable pub array-close : ℕ → Parser → Flow
-array-close n p =
+unfoldable pub array-close : Source → Parser → Flow
+array-close src p =
     let ts : List TextToken = p .token-tape in
     let parent : Container = container (get ts (p .parent-ind)) in
     let grand-ind : ℕ = its-end parent in
     let around : Container = container (get ts grand-ind) in
     elim (eqb (p .parent-ind) 0 && eqb grand-ind 0) [
-      | true ↦ checked (offset n (p .rest)) (λ at. err (StackEmpty at) ts)
+      | true ↦ checked (offset (src .size) (p .rest)) (λ at. err (StackEmpty at) ts)
       | false ↦
           checked (assign ts (p .parent-ind) (closed-as (is-array parent) (length ts) (p .mixed-mode)))
           (λ us. checked (slice-from (p .rest) 1) (λ rest. loop (record {
@@ -586,12 +596,12 @@ array-close n p =
     ]
 
 -- `offset: self.offset(data) - 1`
-abbrev pub error-before : ℕ → Message → List ℕ → List TextToken → Flow
-error-before n msg d ts = checked (offset n d) (λ at. checked (minus at 1) (λ before. err (InvalidSyntax msg before) ts))
+abbrev pub error-before : Source → Message → List ℕ → List TextToken → Flow
+error-before src msg d ts = checked (offset (src .size) d) (λ at. checked (minus at 1) (λ before. err (InvalidSyntax msg before) ts))
 
 -- the operator, once mixed is on: `match data`, by its first two bytes
-unfoldable pub operator-by : ℕ → ℕ → ℕ → Parser → Flow
-operator-by n b c p =
+unfoldable pub operator-by : Source → ℕ → ℕ → Parser → Flow
+operator-by src b c p =
     arms (
     ((eqb b less-than && eqb c equals) ⇒ sign p LessThanEqual 2 (p .state))
     ∷ (eqb b less-than ⇒ sign p LessThan 1 (p .state))
@@ -601,72 +611,72 @@ operator-by n b c p =
     ∷ ((eqb b equals && eqb c equals) ⇒ sign p Exact 2 (p .state))
     ∷ (eqb b equals ⇒ sign p Equal 1 (p .state))
     ∷ [])
-    (error-before n Unrecognized (p .rest) (p .token-tape))
+    (error-before src Unrecognized (p .rest) (p .token-tape))
 
 -- so of the data
-abbrev pub array-operator : ℕ → Parser → Flow
-array-operator n p = operator-by n (getD (p .rest) 0 0) (getD (p .rest) 1 0) p
+abbrev pub array-operator : Source → Parser → Flow
+array-operator src p = operator-by src (getD (p .rest) 0 0) (getD (p .rest) 1 0) p
 
 -- `can_precede_operator` after an End: object template syntax, where its opener is a container and the byte is `=`
-unfoldable pub after-end : ℕ → ℕ → ℕ → Parser → Flow
-after-end n b start-idx p =
-    let never : Flow = error-before n ScalarToPrecede (p .rest) (p .token-tape) in
+unfoldable pub after-end : Source → ℕ → ℕ → Parser → Flow
+after-end src b start-idx p =
+    let never : Flow = error-before src ScalarToPrecede (p .rest) (p .token-tape) in
     elim (is-container (container (get (p .token-tape) start-idx))) [
       | true ↦ elim (eqb b equals) [ true ↦ pass p 1 (p .state) (p .token-tape) | false ↦ never ]
       | false ↦ never
     ]
 
 -- `<` `>` `!` `=`: where mixed is off, `can_precede_operator`, and what comes of it
-unfoldable pub array-sign : ℕ → ℕ → Parser → Flow
-array-sign n b p =
+unfoldable pub array-sign : Source → ℕ → Parser → Flow
+array-sign src b p =
     elim (p .mixed-mode) [
-      | true ↦ array-operator n p
+      | true ↦ array-operator src p
       | false ↦ elim (as-last (last (p .token-tape))) [
-        | AnUnquoted start size ↦ mix p (array-operator n)
-        | AnotherScalar ↦ mix p (array-operator n)
-        | AnEnd start-idx ↦ after-end n b start-idx p
-        | NoScalar ↦ error-before n ScalarToPrecede (p .rest) (p .token-tape)
+        | AnUnquoted start size ↦ mix p (array-operator src)
+        | AnotherScalar ↦ mix p (array-operator src)
+        | AnEnd start-idx ↦ after-end src b start-idx p
+        | NoScalar ↦ error-before src ScalarToPrecede (p .rest) (p .token-tape)
       ]
     ]
 
 -- `ParseState::ArrayValue`: `match data[0]`
-unfoldable pub array-arm : ℕ → Parser → Flow
-array-arm n p =
+unfoldable pub array-arm : Source → Parser → Flow
+array-arm src p =
     checked (index (p .rest) 0)
     (λ b. arms (
     (eqb b brace-open ⇒ open-array p)
-    ∷ (eqb b brace-close ⇒ array-close n p)
-    ∷ (among b (less-than ∷ greater-than ∷ exclamation ∷ equals ∷ []) ⇒ array-sign n b p)
+    ∷ (eqb b brace-close ⇒ array-close src p)
+    ∷ (among b (less-than ∷ greater-than ∷ exclamation ∷ equals ∷ []) ⇒ array-sign src b p)
     ∷ [])
-    (parse-by b n (p .rest) (p .token-tape) (λ rest ts. loop (with-data p rest ArrayValue ts))))
+    (parse-by b src (p .rest) (p .token-tape) (λ rest ts. loop (with-data p rest ArrayValue ts))))
 
 -- ---- `parse`
 -- `match state`, on data that begins with no blank
-unfoldable pub by-its-state : ℕ → Parser → Flow
-by-its-state n p =
+unfoldable pub by-its-state : Source → Parser → Flow
+by-its-state src p =
     elim (p .state) [
-      | Key ↦ key-arm n p
+      | Key ↦ key-arm src p
       | KeyValueSeparator ↦ separator-arm p
-      | ObjectValue ↦ value-arm n p
-      | ArrayValue ↦ array-arm n p
-      | ParseOpen ↦ open-arm n p
+      | ObjectValue ↦ value-arm src p
+      | ArrayValue ↦ array-arm src p
+      | ParseOpen ↦ open-arm src p
     ]
 
 -- a turn of the loop
-unfoldable pub rust-turn : ℕ → Parser → Flow
-rust-turn n p =
+unfoldable pub rust-turn : Source → Parser → Flow
+rust-turn src p =
     elim (skip-ws-t (p .rest)) [
-      | some d ↦ by-its-state n (with-data p d (p .state) (p .token-tape))
+      | some d ↦ by-its-state src (with-data p d (p .state) (p .token-tape))
       | none ↦ at-end p
     ]
 
 -- so many turns, or fewer where it returns before
-unfoldable pub rust-loop : ℕ → ℕ → Flow → Flow
-rust-loop n zero x = x
-rust-loop n (suc turns) (loop p) = rust-loop n turns (rust-turn n p)
-rust-loop n (suc turns) (ok ts) = ok ts
-rust-loop n (suc turns) (err e ts) = err e ts
-rust-loop n (suc turns) panic = panic
+unfoldable pub rust-loop : Source → ℕ → Flow → Flow
+rust-loop src zero x = x
+rust-loop src (suc turns) (loop p) = rust-loop src turns (rust-turn src p)
+rust-loop src (suc turns) (ok ts) = ok ts
+rust-loop src (suc turns) (err e ts) = err e ts
+rust-loop src (suc turns) panic = panic
 
 -- `utf8_bom`
 unfoldable pub utf8-bom : List ℕ → Bool
@@ -684,13 +694,17 @@ begin text =
       | false ↦ loop (begin-at text)
     ]
 
--- the parse after so many turns of its loop
-unfoldable pub rust-turns : List ℕ → ℕ → Flow
-rust-turns text turns = rust-loop (length text) turns (begin text)
+-- the parse by a cut, after so many turns of its loop
+unfoldable pub turns-by : (List ℕ → ℕ) → List ℕ → ℕ → Flow
+turns-by cut text turns = rust-loop (source cut text) turns (begin text)
 
--- the parse: in 2n + 2 turns it has returned (`rust-returns`), and more turns leave its answer (`rust-settles`)
-unfoldable pub rust-parse : List ℕ → Flow
-rust-parse text = rust-turns text (2 * length text + 2)
+-- the parse by a cut: 2n + 2 turns for n bytes. Where Demand2's `Runs-by` holds it has returned by then (`returns`), and more leave its answer (`settles`)
+unfoldable pub parsed-by : (List ℕ → ℕ) → List ℕ → Flow
+parsed-by cut text = turns-by cut text (2 * length text + 2)
+
+-- the parse by the Rust's own cut
+abbrev pub rust-parse : List ℕ → Flow
+rust-parse text = parsed-by split-at-scalar text
 
 -- how many tokens its `Vec` holds, also where it returns an error
 abbrev pub held : Flow → ℕ
