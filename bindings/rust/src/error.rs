@@ -93,7 +93,7 @@ impl Error {
         let kind = KINDS.into_iter().find(|kind| kind.number() == number);
         let kind = kind.unwrap_or_else(|| {
             panic!(
-                "the library answers {number}, which no version 1 of it does: {}",
+                "the library answers {number}, which no version that this crate knows does: {}",
                 calls::version()
             )
         });

@@ -78,7 +78,7 @@ impl ReadingKind {
             [ReadingKind::Bool, ReadingKind::Whole, ReadingKind::Decimal, ReadingKind::Name];
         let kind = kinds.into_iter().find(|&kind| kind as u32 == number);
         kind.unwrap_or_else(|| {
-            panic!("the library answers kind {number}, which no version 1 of it does")
+            panic!("the library answers kind {number}, which no version that this crate knows does")
         })
     }
 }
@@ -127,7 +127,9 @@ fn answered<T>(
         INVALID_BOOL => Err(ScalarError::InvalidBool),
         _ => match loss(value) {
             Some(nearest) if refusal == PRECISION_LOSS => Err(ScalarError::PrecisionLoss(nearest)),
-            _ => panic!("the library answers {refusal}, which no version 1 of it does"),
+            _ => {
+                panic!("the library answers {refusal}, which no version that this crate knows does")
+            }
         },
     }
 }
