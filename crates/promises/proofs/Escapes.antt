@@ -27,7 +27,8 @@ use Rattle.parse.specs.ParseOpen.{flag-parent}
 use Rattle.parse.specs.Parse.{parse-of}
 use Rattle.parse.specs.Told.{tell-parse}
 use Rattle.parse.proofs.Splits.{by-container}
-use Rattle.parse.proofs.Moves.{Result, goes, ends, stops, container-in, unsettled, closed-as, flagged, Taken, unquoted, quoted, Named, defined, undefined, Asks}
+use Rattle.parse.proofs.Moves.{Result, goes, ends, stops, container-in, unsettled, closed-as, flagged, Taken, unquoted, quoted, Named, defined}
+use Rattle.parse.proofs.Moves.{undefined, Asks}
 use Rattle.parse.proofs.Moves.{asks-key, asks-open, Came, passes, separates, takes, separates-by, operates, mixes, mixes-by, opens, heads, closes, empties}
 use Rattle.parse.proofs.Moves.{settles, begins, values, objects, refuses, Over, done-bare, done-closed, too-early}
 use Rattle.parse.proofs.Walk.{Meets, Keeps, parse-keeps}
@@ -86,7 +87,8 @@ module _ (text : List ℕ) where
   run-says : (offset size : ℕ) → Says text (scalar-of Unquoted offset size)
   run-says offset size = silent (scalar-of Unquoted offset size) (λ c. omega arith) (λ c. omega arith)
 
-  quoted-says : (start end : ℕ) (escaped : Bool) → start ≤ end → Tells text start end escaped → Says text (scalar-of (quoted-kind escaped) start (end - start))
+  quoted-says : (start end : ℕ) (escaped : Bool) → start ≤ end → Tells text start end escaped
+      → Says text (scalar-of (quoted-kind escaped) start (end - start))
   quoted-says start end true h t =
       let ends : end ≡ start + (end - start) = omega arith in
       record { escaped = λ c. rw (← ends) (t .0 refl); plain = λ c. absurd (omega arith) }
@@ -127,7 +129,8 @@ module _ (text : List ℕ) where
   Ended n ts = Each ts
 
   -- a token of another code that is laid down
-  other : (ts : List Token) (x : Token) → (x .code ≡ quoted-escape-code → ⊥) → (x .code ≡ quoted-code → ⊥) → Each ts → Each (ts ++ (x ∷ []))
+  other : (ts : List Token) (x : Token) → (x .code ≡ quoted-escape-code → ⊥) → (x .code ≡ quoted-code → ⊥) → Each ts
+      → Each (ts ++ (x ∷ []))
   other ts x e f h = each-add ts x (silent x e f) h
 
   mixed-says : (ts : List Token) → Each ts → Each (before-last ts mixed-container-token)

@@ -107,7 +107,8 @@ returns-7 c =
     let asked = c .before .before in
     let fifth = asked .before in
     let third = fifth .before .before in
-    let none : (kind : ScalarKind) → eqb _ (scalar-code kind) ≡ false = λ kind. unnamed _ kind (sym (asked .scalar-named .ensures) ∙ c .enum-told .given .1) in
+    let none : (kind : ScalarKind) → eqb _ (scalar-code kind) ≡ false =
+    λ kind. unnamed _ kind (sym (asked .scalar-named .ensures) ∙ c .enum-told .given .1) in
     rw (
       name-of,
       named,
