@@ -9,8 +9,8 @@
  *    file against what was sent; parsing does not tell.
  *  - What stands in quotes has one of two codes, TACKACORN_QUOTED or, with a backslash in it,
  *    TACKACORN_QUOTED_ESCAPE. A program that asks for the first alone passes over "Flotte \"Nord\"", and
- *    one that asks for codes up to TACKACORN_HEADER too. The bytes stand as in the save: to show a name,
- *    take the backslashes out yourself.
+ *    one that asks for codes up to TACKACORN_HEADER too. The bytes stand as in the save: to show a
+ *    name, drop each backslash and keep the byte behind it.
  *  - tackacorn_to_f64 takes "18446744073709551616.5" for 0.5. See there for why, and for what to do.
  *  - A text save of the game begins with a line like "HOI4txt", which is no part of the format: the
  *    parser takes it for a key, and what follows for something else than it is. Before you parse, write
@@ -94,8 +94,8 @@ enum tackacorn_code {
     TACKACORN_MIXED_CONTAINER = 3,      /* a, b: 0 */
     TACKACORN_UNQUOTED = 4,             /* a: offset in the text, b: length, in bytes */
     TACKACORN_QUOTED = 5,               /* the same, without the quotes; no backslash is in it */
-    TACKACORN_PARAMETER = 6,            /* the same */
-    TACKACORN_UNDEFINED_PARAMETER = 7,  /* the same */
+    TACKACORN_PARAMETER = 6,            /* as Unquoted */
+    TACKACORN_UNDEFINED_PARAMETER = 7,  /* as Unquoted */
     TACKACORN_OPERATOR = 8,             /* a: a tackacorn_operator, b: 0 */
     TACKACORN_END = 9,                  /* a: index of its opener, b: 0 */
     TACKACORN_HEADER = 10,              /* as Unquoted; a container is next */

@@ -1,6 +1,6 @@
-//! Document 01's numbers, and those of the requests, typed from their tables, each once: whoever makes, reads or judges an answer
-//! here names them, and a request that changes one changes it in this file. Nothing is taken from our
-//! programs.
+//! Document 01's numbers, typed from its tables, and those of the requests, each once: whoever makes,
+//! reads or judges an answer here names them, and a request that changes one changes it in this file.
+//! Nothing is taken from our programs.
 
 // ---- Sizes ----
 

@@ -56,7 +56,7 @@ module _ (d : List ℕ) (n : ℕ) (e : Bool) where
 
 -- where a run whose first n bytes are passed, with a backslash among them or none, is closed: at a quote of the part. Its flag is set
 -- exactly when it was, or a backslash stands from n on
-pub record Closing (d : List ℕ) (n : ℕ) (e : Bool) (end : ℕ) (escaped : Bool) : Type 0 where
+record Closing (d : List ℕ) (n : ℕ) (e : Bool) (end : ℕ) (escaped : Bool) : Type 0 where
   pub from : n ≤ end
   pub within : end < length d
   pub closes : getD d end 0 ≡ quote
@@ -125,16 +125,24 @@ closing d (suc turns) n e end escaped enough q =
     (sym (quoted-goes-on d n e within (eqb-false _ _ not-quote) (eqb-false _ _ other)) ∙ q)))))
     (λ past. let gone = quoted-past d n e past in let no : _≡_ {A = ℕ} 0 1 = cc in absurd (omega arith))
 
--- a closed run ends within the part, at a quote
-pub quoted-run-closes : (d : List ℕ) (end : ℕ) (escaped : Bool) → quoted-run d ≡ Closed end escaped → Closing d 0 false end escaped
-unfolding quoted-run
-quoted-run-closes d end escaped q = closing d (length d) 0 false end escaped (omega arith) q
+-- a closed run from a place to another: it ends within the bytes, at a quote, and its flag is set exactly when a backslash stands in it
+pub record Closed-run (bytes : List ℕ) (start end : ℕ) (escaped : Bool) : Type 0 where
+  pub from : start ≤ end
+  pub within : end < length bytes
+  pub closes : getD bytes end 0 ≡ quote
+  pub tells : Tells bytes start end escaped
 
--- and its flag is set exactly when a backslash stands before that quote
-pub quoted-run-tells : (d : List ℕ) (end : ℕ) (escaped : Bool) → quoted-run d ≡ Closed end escaped → Tells d 0 end escaped
-quoted-run-tells d end escaped q =
-    let c = quoted-run-closes d end escaped q in
-    (λ t. only (c .took-part .0 t), λ s. c .took-part .1 (inr s))
+-- as the quoted run of a part is
+pub quoted-run-closes : (d : List ℕ) (end : ℕ) (escaped : Bool) → quoted-run d ≡ Closed end escaped → Closed-run d 0 end escaped
+unfolding quoted-run
+quoted-run-closes d end escaped q =
+    let c = closing d (length d) 0 false end escaped (omega arith) q in
+    record {
+      from = c .from;
+      within = c .within;
+      closes = c .closes;
+      tells = (λ t. only (c .took-part .0 t), λ s. c .took-part .1 (inr s));
+    }
   where
     only : (false ≡ true) ⊎ Backslash d 0 end → Backslash d 0 end
     only (inl t) = absurd (false≢true t)

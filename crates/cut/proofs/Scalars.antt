@@ -12,7 +12,7 @@ use lib.Seq.{getD-drop}
 use Rattle.data.proofs.Cases.{by-bool}
 use Rattle.data.specs.Bytes.{quote, at-sign, bracket-open}
 use Rattle.data.specs.Classes.{is-boundary, classes}
-use Rattle.cut.specs.Quotes.{quoted-run, Backslash, Tells}
+use Rattle.cut.specs.Quotes.{quoted-run, Backslash}
 use Rattle.cut.specs.Runs.{run-end-of}
 use Rattle.cut.specs.Scalars.{unquoted, quoted, closes-bracket, bracket-run, opens-variable, variable-cut, cut-of, scalar-cut-by, scalar-cut}
 use Rattle.cut.specs.declared.Cut.{Cut}
@@ -20,7 +20,7 @@ use Rattle.cut.specs.declared.Cut.the-variants.{Unquoted, Quoted, End}
 use Rattle.cut.specs.declared.Quoted as Quotes
 use Rattle.cut.specs.declared.Quoted.the-variants.{Closed, Unclosed}
 use Rattle.cut.proofs.Places.{later-part, by-place}
-use Rattle.cut.proofs.Quotes.{quoted-run-closes, quoted-run-tells}
+use Rattle.cut.proofs.Quotes.{Closed-run, quoted-run-closes}
 use Rattle.cut.proofs.Runs.{scanned, run-of-run, classed-classes}
 
 -- a variable starts at no other byte than `@`
@@ -91,23 +91,16 @@ pub quoted-part : (text : List ℕ) (start : ℕ) (q : Quotes.Quoted) → q ≡ 
     → q ≡ quoted-run (drop start text)
 quoted-part text start q e = e ∙ ap quoted-run (later-part text start)
 
--- a closed run from a place to another: it ends within the text, at a quote, and its flag is set exactly when a backslash stands in it
-pub record Closed-run (text : List ℕ) (start end : ℕ) (escaped : Bool) : Type 0 where
-  pub from : start ≤ end
-  pub within : end < length text
-  pub closes : getD text end 0 ≡ quote
-  pub tells : Tells text start end escaped
-
+-- a closed run of a slice's later part, said of the text
 pub quoted-part-closes : (text : List ℕ) (start n : ℕ) (escaped : Bool) → start ≤ length text → quoted-run (drop start text) ≡ Closed n escaped
     → Closed-run text start (start + n) escaped
 quoted-part-closes text start n escaped h q =
     let c = quoted-run-closes (drop start text) n escaped q in
-    let t = quoted-run-tells (drop start text) n escaped q in
     record {
       from = omega arith;
       within = omega (arith, c .within, length-drop start text);
       closes = sym (getD-drop start text n 0) ∙ c .closes;
-      tells = (λ e. there (t .0 e), λ s. t .1 (here s));
+      tells = (λ e. there (c .tells .0 e), λ s. c .tells .1 (here s));
     }
   where
     there : Backslash (drop start text) 0 n → Backslash text start (start + n)
@@ -141,15 +134,11 @@ pub record Unquoted-view (text : List ℕ) (at start end rest : ℕ) : Type 0 wh
   pub within : end ≤ length text
   pub goes-on : rest ≡ end
 
--- a quoted view starts after its quote and may be empty; the quote that closes it stands at its end, and the text goes on after that;
--- its flag is set exactly when a backslash stands in it
+-- a quoted view starts after its quote and is a closed run, which may be empty; the text goes on after the quote that closes it
 pub record Quoted-view (text : List ℕ) (at start end rest : ℕ) (escaped : Bool) : Type 0 where
   pub starts : start ≡ at + 1
-  pub from : start ≤ end
-  pub within : end < length text
-  pub closes : getD text end 0 ≡ quote
+  pub run : Closed-run text start end escaped
   pub goes-on : rest ≡ end + 1
-  pub tells : Tells text start end escaped
 
 -- what a cut has to hold to, by its kind
 View : List ℕ → ℕ → Cut → Type 0
@@ -161,8 +150,7 @@ quoted-view : (text : List ℕ) (at : ℕ) (q : Quotes.Quoted) → at + 1 ≤ le
     → View text at (quoted (at + 1) q)
 unfolding View
 quoted-view text at (Closed n escaped) h e =
-    let c = quoted-part-closes text (at + 1) n escaped h e in
-    record { starts = refl; from = c .from; within = c .within; closes = c .closes; goes-on = refl; tells = c .tells }
+    record { starts = refl; run = quoted-part-closes text (at + 1) n escaped h e; goes-on = refl }
 quoted-view text at Unclosed h e = tt
 
 variable-view : (text : List ℕ) (at : ℕ) → View text at (variable-cut text at)

@@ -258,7 +258,7 @@ pub data Turned (text : List ℕ) (m : Machine) (ts : List Token) : ℕ → Resu
 pub taken-moves : {text : List ℕ} {at : ℕ} {x : Token} {rest : ℕ} → Taken text at x rest → at < rest
 taken-moves {text} {at} (unquoted start end rest q) = let b = unquoted-bounds text at start end rest q in omega (arith, b .moves, b .goes-on)
 taken-moves {text} {at} (quoted start end rest escaped q) =
-    let b = quoted-bounds text at start end rest escaped q in omega (arith, b .starts, b .from, b .goes-on)
+    let b = quoted-bounds text at start end rest escaped q in omega (arith, b .starts, b .run .from, b .goes-on)
 
 -- a run that starts at or after a place, with a byte or more in it
 pub record Run-from (text : List ℕ) (at start : ℕ) : Type 0 where

@@ -3,7 +3,7 @@
 use mathlib.Core.Path.{_≡_, refl, sym}
 use mathlib.Core.Bool.{Bool, true, false, false≢true}
 use mathlib.Core.List.{List, [], _∷_, _++_}
-use Prim.Native.Nat.{ℕ, zero, suc, _+_, _-_, _≤_}
+use Prim.Native.Nat.{ℕ, _+_, _-_, _≤_}
 use native.Mathlib.Omega.{arith}
 use lib.ListN.{length, set}
 use Rattle.data.proofs.Cases.{by-bool}
@@ -14,7 +14,7 @@ use Rattle.tape.specs.declared.token.ContainerKind.{ContainerKind}
 use Rattle.tape.specs.declared.token.ContainerKind.the-variants.{Array, Object}
 use Rattle.tape.specs.declared.token.ScalarKind.{ScalarKind}
 use Rattle.tape.specs.declared.token.ScalarKind.the-variants.{Unquoted, Parameter, UndefinedParameter}
-use Rattle.tape.specs.Token.{quoted-code, quoted-escape-code, mixed-container-token, opener-of, scalar-of, quoted-kind, headed, nth}
+use Rattle.tape.specs.Token.{quoted-code, quoted-escape-code, no-token, mixed-container-token, opener-of, scalar-of, quoted-kind, headed, nth}
 use Rattle.tape.specs.Words.{token-in, tokens-in}
 use Rattle.tape.specs.Tape.{before-last, token-at, replace}
 use Rattle.machine.specs.declared.Machine.{Machine}
@@ -35,41 +35,20 @@ use Rattle.parse.proofs.Walk.{Meets, Keeps, parse-keeps}
 use Rattle.parse.proofs.parse.Reads as parse
 use Rattle.promises.specs.Escapes.{Says, Escapes-told}
 use Rattle.promises.proofs.Demand1.{numbered}
+use Rattle.promises.proofs.Each.{Each, each-none, each-add, each-set, each-before-last, each-at}
 use Rattle.promises.proofs.Rising.{start-kept}
 use Rattle.promises.proofs.Rising.Turns.{Risen, Risen-whole, turn-keeps}
 
 module _ (text : List ℕ) where
-  -- ---- each token of a list
-  unfoldable Each : List Token → Type 0
-  Each [] = Unit {0}
-  Each (t ∷ ts) = Says text t × Each ts
+  -- each of some tokens
+  abbrev Saying : List Token → Type 0
+  Saying ts = Each (Says text) ts
 
-  none : Each []
-  unfolding Each
-  none = tt
+  add-says : (ts : List Token) (x : Token) → Says text x → Saying ts → Saying (ts ++ (x ∷ []))
+  add-says ts x s h = each-add (Says text) ts x s h
 
-  each-at : (ts : List Token) (i : ℕ) → Each ts → Says text (nth ts i)
-  unfolding Each
-  each-at [] i h = record { escaped = λ e. absurd (omega arith); plain = λ e. absurd (omega arith) }
-  each-at (t ∷ ts) zero h = h .0
-  each-at (t ∷ ts) (suc i) h = each-at ts i (h .1)
-
-  each-add : (ts : List Token) (x : Token) → Says text x → Each ts → Each (ts ++ (x ∷ []))
-  unfolding Each
-  each-add [] x s h = (s, tt)
-  each-add (t ∷ ts) x s h = (h .0, each-add ts x s (h .1))
-
-  each-set : (ts : List Token) (i : ℕ) (x : Token) → Says text x → Each ts → Each (set ts i x)
-  unfolding Each
-  each-set [] i x s h = tt
-  each-set (t ∷ ts) zero x s h = (s, h .1)
-  each-set (t ∷ ts) (suc i) x s h = (h .0, each-set ts i x s (h .1))
-
-  each-mixed : (ts : List Token) (x : Token) → Says text x → Each ts → Each (before-last ts x)
-  unfolding Each
-  each-mixed [] x s h = (s, tt)
-  each-mixed (t ∷ []) x s h = (s, h)
-  each-mixed (t ∷ u ∷ ts) x s h = (h .0, each-mixed (u ∷ ts) x s (h .1))
+  set-says : (ts : List Token) (i : ℕ) (x : Token) → Says text x → Saying ts → Saying (set ts i x)
+  set-says ts i x s h = each-set (Says text) ts i x s h
 
   -- ---- what is laid down
   -- a token of another code says nothing
@@ -99,50 +78,51 @@ module _ (text : List ℕ) where
   taken-says : {at : ℕ} {x : Token} {rest : ℕ} → Taken text at x rest → Says text x
   taken-says (unquoted start end rest q) = run-says start (end - start)
   taken-says {at} (quoted start end rest escaped q) =
-      let v = quoted-bounds text at start end rest escaped q in quoted-says start end escaped (v .from) (v .tells)
+      let v = quoted-bounds text at start end rest escaped q in quoted-says start end escaped (v .run .from) (v .run .tells)
 
   -- ---- what the moves keep
   -- the parent's stored flag
-  flagged-says : (ts : List Token) (m : Machine) → Each ts → Each (flagged ts m)
+  flagged-says : (ts : List Token) (m : Machine) → Saying ts → Saying (flagged ts m)
   unfolding flag-parent token-at replace
   flagged-says ts m h =
       by-bool (m .mixed)
       (λ e. by-container (container-in ts (m .parent))
-      (λ kind link mixed f. rw (flagged, flag-parent, e, f) (each-set ts (m .parent) (opener-of kind link true) (opener-says kind link true) h))
+      (λ kind link mixed f. rw (flagged, flag-parent, e, f) (set-says ts (m .parent) (opener-of kind link true) (opener-says kind link true) h))
       (λ f. rw (flagged, flag-parent, e, f) h))
       (λ e. rw (flagged, flag-parent, e) h)
 
   -- where a parameter is asked for
-  asks-says : {m : Machine} {ts : List Token} {parent : ℕ} {us : List Token} → Asks m ts parent us → Each ts → Each us
+  asks-says : {m : Machine} {ts : List Token} {parent : ℕ} {us : List Token} → Asks m ts parent us → Saying ts → Saying us
   asks-says (asks-key e) h = h
-  asks-says {m} {ts} (asks-open e off) h = each-set ts (m .count - 1) (opener-of Object (m .parent) false) (opener-says Object (m .parent) false) h
+  asks-says {m} {ts} (asks-open e off) h = set-says ts (m .count - 1) (opener-of Object (m .parent) false) (opener-says Object (m .parent) false) h
 
   -- an opener that is closed
-  closed-says : (ts : List Token) (i : ℕ) (kind : ContainerKind) (link : ℕ) (mixed : Bool) → Each ts → Each (closed-as ts i (opener-of kind link mixed))
+  closed-says : (ts : List Token) (i : ℕ) (kind : ContainerKind) (link : ℕ) (mixed : Bool) → Saying ts
+      → Saying (closed-as ts i (opener-of kind link mixed))
   closed-says ts i kind link mixed h =
-      each-add (set ts i (opener-of kind link mixed)) _ (silent _ (λ c. omega arith) (λ c. omega arith)) (each-set ts i _ (opener-says kind link mixed) h)
+      add-says (set ts i (opener-of kind link mixed)) _ (silent _ (λ c. omega arith) (λ c. omega arith)) (set-says ts i _ (opener-says kind link mixed) h)
 
   abbrev Going : Machine → List Token → Type 0
-  Going m ts = Each ts
+  Going m ts = Saying ts
 
   abbrev Ended : ℕ → List Token → Type 0
-  Ended n ts = Each ts
+  Ended n ts = Saying ts
 
   -- a token of another code that is laid down
-  other : (ts : List Token) (x : Token) → (x .code ≡ quoted-escape-code → ⊥) → (x .code ≡ quoted-code → ⊥) → Each ts
-      → Each (ts ++ (x ∷ []))
-  other ts x e f h = each-add ts x (silent x e f) h
+  other : (ts : List Token) (x : Token) → (x .code ≡ quoted-escape-code → ⊥) → (x .code ≡ quoted-code → ⊥) → Saying ts
+      → Saying (ts ++ (x ∷ []))
+  other ts x e f h = add-says ts x (silent x e f) h
 
-  mixed-says : (ts : List Token) → Each ts → Each (before-last ts mixed-container-token)
-  mixed-says ts h = each-mixed ts mixed-container-token (silent mixed-container-token (λ c. omega arith) (λ c. omega arith)) h
+  mixed-says : (ts : List Token) → Saying ts → Saying (before-last ts mixed-container-token)
+  mixed-says ts h = each-before-last (Says text) ts mixed-container-token (silent mixed-container-token (λ c. omega arith) (λ c. omega arith)) h
 
-  opened-says : (ts : List Token) → Each ts → Each (ts ++ (unsettled ∷ []))
-  opened-says ts h = each-add ts unsettled (opener-says Array 0 false) h
+  opened-says : (ts : List Token) → Saying ts → Saying (ts ++ (unsettled ∷ []))
+  opened-says ts h = add-says ts unsettled (opener-says Array 0 false) h
 
-  move-says : (m : Machine) (ts : List Token) → Each ts → {n : ℕ} {x : Result} → Came text m ts n x → Meets Going Ended x
+  move-says : (m : Machine) (ts : List Token) → Saying ts → {n : ℕ} {x : Result} → Came text m ts n x → Meets Going Ended x
   move-says m ts h (passes at e f) = h
   move-says m ts h (separates at e f) = h
-  move-says m ts h (takes {x} s taken) = each-add ts x (taken-says taken) h
+  move-says m ts h (takes {x} s taken) = add-says ts x (taken-says taken) h
   move-says m ts h (separates-by o e f g) = other ts _ (λ c. omega arith) (λ c. omega arith) h
   move-says m ts h (operates o e f g) = other ts _ (λ c. omega arith) (λ c. omega arith) h
   move-says m ts h (mixes e) = mixed-says ts h
@@ -150,29 +130,29 @@ module _ (text : List ℕ) where
       other (before-last ts mixed-container-token) _ (λ c. omega arith) (λ c. omega arith) (mixed-says ts h)
   move-says m ts h (opens s) = opened-says ts h
   move-says m ts h (heads e f s) =
-      opened-says _ (each-set ts (m .count - 1) _ (silent (headed (nth ts (m .count - 1))) (λ c. omega arith) (λ c. omega arith)) h)
+      opened-says _ (set-says ts (m .count - 1) _ (silent (headed (nth ts (m .count - 1))) (λ c. omega arith) (λ c. omega arith)) h)
   move-says m ts h (closes {kind} s e) = closed-says ts (m .parent) kind (m .count) (m .mixed) h
   move-says m ts h (empties e) = closed-says ts (m .count - 1) Array (m .count) false h
-  move-says m ts h (settles e) = each-set ts (m .count - 1) _ (opener-says Array (m .parent) false) h
+  move-says m ts h (settles e) = set-says ts (m .count - 1) _ (opener-says Array (m .parent) false) h
   move-says m ts h (begins {x} {rest} {kind = kind} e taken f s) =
-      each-set _ (m .count + 1 - 2) _ (opener-says kind (m .parent) false) (flagged-says (ts ++ (x ∷ [])) _ (each-add ts x (taken-says taken) h))
+      set-says _ (m .count + 1 - 2) _ (opener-says kind (m .parent) false) (flagged-says (ts ++ (x ∷ [])) _ (add-says ts x (taken-says taken) h))
   move-says m ts h (values {us = us} asks asked valued) =
-      each-add _ _ (run-says _ _) (each-add us _ (name-says (asked .named) _ _) (asks-says asks h))
+      add-says _ _ (run-says _ _) (add-says us _ (name-says (asked .named) _ _) (asks-says asks h))
   move-says m ts h (objects {parent} {us} asks asked valued) =
-      each-add _ _ (run-says _ _) (each-add _ _ (opener-says Object parent false) (each-add us _ (name-says (asked .named) _ _) (asks-says asks h)))
+      add-says _ _ (run-says _ _) (add-says _ _ (opener-says Object parent false) (add-says us _ (name-says (asked .named) _ _) (asks-says asks h)))
   move-says m ts h (refuses r few) = tt
 
-  end-says : (m : Machine) (ts : List Token) → Each ts → {n : ℕ} {x : Result} → Over m ts n x → Meets Going Ended x
+  end-says : (m : Machine) (ts : List Token) → Saying ts → {n : ℕ} {x : Result} → Over m ts n x → Meets Going Ended x
   end-says m ts h (done-bare e f) = h
   end-says m ts h (done-closed e f g) = closed-says ts (m .parent) Object (m .count) false h
   end-says m ts h too-early = tt
 
   -- ---- with the views, whose walk counts the tokens
   abbrev Walks : Machine → List Token → Type 0
-  Walks m ts = Risen (length text) m ts × Each ts
+  Walks m ts = Risen (length text) m ts × Saying ts
 
   abbrev Walked : ℕ → List Token → Type 0
-  Walked n ts = Risen-whole (length text) n ts × Each ts
+  Walked n ts = Risen-whole (length text) n ts × Saying ts
 
   both : (x : Result) → Meets (Risen (length text)) (Risen-whole (length text)) x → Meets Going Ended x → Meets Walks Walked x
   both (goes m ts) a b = (a, b)
@@ -192,8 +172,8 @@ module _ (text : List ℕ) where
   unfolding token-in
   parse-says len count bom words e i =
       let ended : Walked count (tokens-in words count) =
-      rw e at (parse-keeps Walks Walked text (start-kept (length text) (has-bom text), none) keeps (λ n ts h. h .0 .counted) len) in
-      each-at (tokens-in words count) i (ended .1)
+      rw e at (parse-keeps Walks Walked text (start-kept (length text) (has-bom text), each-none (Says text)) keeps (λ n ts h. h .0 .counted) len) in
+      each-at (Says text) (tokens-in words count) i (silent no-token (λ c. omega arith) (λ c. omega arith)) (ended .1)
 
 -- ---- of the contract of `parse` itself
 told-says : (text : List ℕ) (len : ℕ) (r : Parsed) (words : List ℕ) → outcome r words ≡ parse-of text len

@@ -3,6 +3,7 @@ pub mod AlikeTurns
 pub mod Cases
 pub mod Demand1
 pub mod Demand3
+pub mod Each
 pub mod Escapes
 pub mod Full
 pub mod Links

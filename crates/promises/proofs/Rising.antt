@@ -18,9 +18,10 @@ use Rattle.machine.specs.Start.{start, has-bom}
 use Rattle.machine.specs.Finish.{outcome}
 use Rattle.parse.specs.Parse.{parse-of}
 use Rattle.parse.proofs.Walk.{parse-keeps}
+use Rattle.promises.proofs.Each.{each-none}
 use Rattle.promises.proofs.Rising.Spans.{spans, Upto}
 use Rattle.promises.proofs.Rising.Sheets.{Viewed, viewed}
-use Rattle.promises.proofs.Rising.Links.{stands-zero}
+use Rattle.promises.proofs.Rising.Links.{Linked, stands-zero}
 use Rattle.promises.proofs.Rising.Laid.{Base}
 use Rattle.promises.proofs.Rising.Turns.{Risen, Risen-whole, turn-keeps}
 
@@ -28,7 +29,8 @@ use Rattle.promises.proofs.Rising.Turns.{Risen, Risen-whole, turn-keeps
 pub start-kept : (text-length : ℕ) (bom : Bool) → Risen text-length (start bom) []
 unfolding start Upto spans
 start-kept L bom =
-    let none : Base L (start bom .at) 0 0 [] = record { linked = record { counted = refl; inside = stands-zero []; links = tt }; rising = omega arith } in
+    let bare : Linked 0 0 [] = record { counted = refl; inside = stands-zero []; links = each-none _ } in
+    let none : Base L (start bom .at) 0 0 [] = record { linked = bare; rising = omega arith } in
     record { base = none; topped = tt }
 
 -- the words of a successful parse hold its tokens, with views as a sheet owes them

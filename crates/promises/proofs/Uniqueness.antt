@@ -97,7 +97,6 @@ use Rattle.report.proofs.numbers.put_decimal.Reads as put-decimal
 use Rattle.report.proofs.numbers.put_hex.Reads as put-hex
 use Rattle.report.proofs.numbers.put_integer.Reads as put-integer
 use Rattle.report.proofs.tokens.put_name.Reads as put-name
-use Rattle.report.proofs.tokens.put_scalar_name.Reads as put-scalar-name
 use Rattle.report.proofs.tokens.put_field.Reads as put-field
 use Rattle.report.proofs.tokens.put_token.Reads as put-token
 use Rattle.report.proofs.tokens.put_tokens.Reads as put-tokens
@@ -381,7 +380,6 @@ pub record Report : Type 0 where
   pub put-decimal : One-line put-decimal.Post (λ κs xs. xs .0 .now)
   pub put-hex : One-line put-hex.Post (λ κs xs. xs .0 .now)
   pub put-integer : One-line put-integer.Post (λ κs xs. xs .0 .now)
-  pub put-scalar-name : One-line put-scalar-name.Post (λ κs xs. xs .0 .now)
   pub put-name : One-line put-name.Post (λ κs xs. xs .0 .now)
   pub put-field : One-line put-field.Post (λ κs xs. xs .0 .now)
   pub put-token : One-line put-token.Post (λ κs xs. xs .0 .now)
@@ -414,7 +412,6 @@ report-calls =
       put-decimal = by-bytes _ _;
       put-hex = by-bytes _ _;
       put-integer = by-bytes _ _;
-      put-scalar-name = by-bytes _ _;
       put-name = by-bytes _ _;
       put-field = by-bytes _ _;
       put-token = by-bytes _ _;

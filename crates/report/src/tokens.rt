@@ -17,7 +17,7 @@ ghost use Rattle.parse.specs.Told.{bit};
 ghost use Rattle.report.specs.Dump.{name-of, field, line-of, lines-from, header-of, refused-of};
 
 // Puts the name of the scalars of a kind.
-pub fn put_scalar_name(out: &mut [u8], at: usize, kind: ScalarKind) -> usize
+fn put_scalar_name(out: &mut [u8], at: usize, kind: ScalarKind) -> usize
     ensures { λ r. ⌜ wrote r (now (out .exit)) ≡ append (now (out .entry)) at (name-of (scalar-code kind)) ⌝ }
 {
     match kind {

@@ -201,11 +201,11 @@ get-read match missing ts i =
     rw (Rust.get, le-ltb i (length (rust-tape ts)) (omega arith), no) missing)
 
 -- a code that is none of the scalars' names none
-unnamed : (code : ℕ) → eqb code unquoted-code ≡ false → eqb code quoted-code ≡ false → eqb code parameter-code ≡ false
+names-none : (code : ℕ) → eqb code unquoted-code ≡ false → eqb code quoted-code ≡ false → eqb code parameter-code ≡ false
     → eqb code undefined-parameter-code ≡ false → eqb code header-code ≡ false → eqb code quoted-escape-code ≡ false
     → scalar-named code ≡ ScalarNamed.Nothing
 unfolding scalar-named
-unnamed code a b c d e f = rw (scalar-named, named-among, a, b, c, d, e, f)
+names-none code a b c d e f = rw (scalar-named, named-among, a, b, c, d, e, f)
 
 -- by a token's code
 by-code : {P : Type 0} (t : Token)
@@ -227,7 +227,7 @@ by-code t f1 f2 f3 f4 f5 f6 f7 f8 f9 f10 f11 other =
     by-bool (eqb (t .code) end-code) (λ e. f9 (eqb-true _ _ e)) (λ e9.
     by-bool (eqb (t .code) header-code) (λ e. f10 (eqb-true _ _ e)) (λ e10.
     by-bool (eqb (t .code) quoted-escape-code) (λ e. f11 (eqb-true _ _ e)) (λ e11.
-    other (rw (container-of, e1, e2)) (rw (standing-of, e4, unnamed (t .code) e4 e5 e6 e7 e10 e11, e9))
+    other (rw (container-of, e1, e2)) (rw (standing-of, e4, names-none (t .code) e4 e5 e6 e7 e10 e11, e9))
     (rw (token-as-rust, e1, e2, e3, e4, e5, e6, e7, e8, e9, e10, e11)))))))))))))
 
 -- an operator is one by whatever number

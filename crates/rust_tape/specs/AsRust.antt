@@ -1,4 +1,4 @@
--- A token of ours read as the Rust's, by document 01's table, 'Three words to a token'. Demand 2 knows our tokens by this one reading.
+-- A token of ours read as the Rust's, by document 01's table, 'Three words to a token', and code 11. Demand 2 knows our tokens by this one reading.
 use Prim.Native.Nat.{ℕ}
 use mathlib.Core.List.{[], _∷_}
 use mathlib.Core.Option.{Option, none, some}

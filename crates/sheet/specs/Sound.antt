@@ -55,7 +55,7 @@ Apart ts i =
     (j offset size later more : ℕ) → i < j → ((k a b : ℕ) → i < k → k < j → Views (nth ts k) a b → ⊥)
     → Views (nth ts i) offset size → Views (nth ts j) later more → offset + size ≤ later
 
--- only Quoted may have length 0
+-- only Quoted may have length 0, and code 11, which is treated as code 5
 abbrev pub Filled : List Token → ℕ → Type 0
 Filled ts i = (kind : ScalarKind) (offset : ℕ) → nth ts i ≡ scalar-of kind offset 0 → may-be-empty kind ≡ true
 

@@ -137,40 +137,16 @@ unquoted-coded t e =
     (λ h. let no : Standings.the-variants.End ≡ Standings.the-variants.Unquoted = rw (standing-of, f, g, h) at e in cc)
     (λ h. let no : Standings.the-variants.Nothing ≡ Standings.the-variants.Unquoted = rw (standing-of, f, g, h) at e in cc)))
 
--- ---- the same opener with another link, flag or kind
-module _ (kind : ContainerKind) (link : ℕ) (mixed : Bool) where
-  pub relinked-opener : (other : ℕ) → relinked (opener-of kind link mixed) other ≡ opener-of kind other mixed
+-- ---- the same opener with another link, flag or kind, of any token that is read as an opener
+module _ (kind : ContainerKind) (link : ℕ) (mixed : Bool) (t : Token) (e : container-of t ≡ Opened kind link mixed) where
+  pub relinked-read : (other : ℕ) → relinked t other ≡ opener-of kind other mixed
   unfolding relinked
-  relinked-opener other = rw (relinked, opener-container kind link mixed)
+  relinked-read other = rw (relinked, e)
 
-  pub reflagged-opener : (other : Bool) → reflagged (opener-of kind link mixed) other ≡ opener-of kind link other
+  pub reflagged-read : (other : Bool) → reflagged t other ≡ opener-of kind link other
   unfolding reflagged
-  reflagged-opener other = rw (reflagged, opener-container kind link mixed)
+  reflagged-read other = rw (reflagged, e)
 
-  pub rekinded-opener : (other : ContainerKind) → rekinded (opener-of kind link mixed) other ≡ opener-of other link mixed
+  pub rekinded-read : (other : ContainerKind) → rekinded t other ≡ opener-of other link mixed
   unfolding rekinded
-  rekinded-opener other = rw (rekinded, opener-container kind link mixed)
-
-  -- of any token that is read as such an opener
-  module _ (t : Token) (e : container-of t ≡ Opened kind link mixed) where
-    pub relinked-read : (other : ℕ) → relinked t other ≡ opener-of kind other mixed
-    unfolding relinked
-    relinked-read other = rw (relinked, e)
-
-    pub reflagged-read : (other : Bool) → reflagged t other ≡ opener-of kind link other
-    unfolding reflagged
-    reflagged-read other = rw (reflagged, e)
-
-    pub rekinded-read : (other : ContainerKind) → rekinded t other ≡ opener-of other link mixed
-    unfolding rekinded
-    rekinded-read other = rw (rekinded, e)
-
-    -- it is told back with what was changed
-    pub relinked-container : (other : ℕ) → container-of (relinked t other) ≡ Opened kind other mixed
-    relinked-container other = ap container-of (relinked-read other) ∙ opener-container kind other mixed
-
-    pub reflagged-container : (other : Bool) → container-of (reflagged t other) ≡ Opened kind link other
-    reflagged-container other = ap container-of (reflagged-read other) ∙ opener-container kind link other
-
-    pub rekinded-container : (other : ContainerKind) → container-of (rekinded t other) ≡ Opened other link mixed
-    rekinded-container other = ap container-of (rekinded-read other) ∙ opener-container other link mixed
+  rekinded-read other = rw (rekinded, e)

@@ -73,11 +73,12 @@ scalar-code QuotedEscape = quoted-escape-code
 abbrev pub scalar-kinds : List ScalarKind
 scalar-kinds = Unquoted ∷ Quoted ∷ Parameter ∷ UndefinedParameter ∷ Header ∷ QuotedEscape ∷ []
 
--- the kind of scalar that a code names, or none
+-- the first of some kinds that has a code, or none
 abbrev pub named-among : List ScalarKind → ℕ → ScalarNamed
 named-among [] code = ScalarNamed.Nothing
 named-among (kind ∷ kinds) code = elim (eqb code (scalar-code kind)) [ true ↦ Kind kind | false ↦ named-among kinds code ]
 
+-- the kind of scalar that a code names, or none
 unfoldable pub scalar-named : ℕ → ScalarNamed
 scalar-named code = named-among scalar-kinds code
 
@@ -89,7 +90,7 @@ names-scalar ScalarNamed.Nothing = false
 abbrev pub is-scalar-code : ℕ → Bool
 is-scalar-code code = names-scalar (scalar-named code)
 
--- the tape gets code 11, quoted with an escape
+-- the kind of a quoted run, by whether a backslash took part in it: the tape gets code 11, quoted with an escape
 abbrev pub quoted-kind : Bool → ScalarKind
 quoted-kind true = QuotedEscape
 quoted-kind false = Quoted

@@ -19,40 +19,12 @@ use Rattle.tape.specs.Tape.{before-last}
 use Rattle.machine.specs.Parents.{parent-of}
 use Rattle.parse.proofs.Moves.{closed-as}
 use Rattle.sheet.specs.Sound.{nth}
+use Rattle.promises.proofs.Each.{Each, each-add, each-set, each-before-last, each-at, each-map}
 use Rattle.promises.proofs.Rising.Spans.{span-of, mixed-bare, end-bare, opens-bare}
 
 -- 0, or the index of a token that is no scalar
 abbrev pub Stands : List Token → ℕ → Type 0
 Stands ts i = (i ≡ 0 → ⊥) → (i < length ts) × (span-of (nth ts i) ≡ [])
-
--- what holds of each of some tokens
-abbrev pub Each : (Token → Type 0) → List Token → Type 0
-Each P [] = Unit {0}
-Each P (t ∷ ts) = P t × Each P ts
-
-module _ (P : Token → Type 0) where
-  each-add : (ts : List Token) (x : Token) → P x → Each P ts → Each P (ts ++ (x ∷ []))
-  each-add [] x h e = (h, tt)
-  each-add (t ∷ ts) x h e = (e .0, each-add ts x h (e .1))
-
-  each-set : (ts : List Token) (i : ℕ) (x : Token) → P x → Each P ts → Each P (set ts i x)
-  each-set [] i x h e = tt
-  each-set (t ∷ ts) zero x h e = (h, e .1)
-  each-set (t ∷ ts) (suc i) x h e = (e .0, each-set ts i x h (e .1))
-
-  each-before-last : (ts : List Token) (x : Token) → P x → Each P ts → Each P (before-last ts x)
-  each-before-last [] x h e = (h, tt)
-  each-before-last (t ∷ []) x h e = (h, e)
-  each-before-last (t ∷ u ∷ ts) x h e = (e .0, each-before-last (u ∷ ts) x h (e .1))
-
-  each-at : (ts : List Token) (i : ℕ) → P no-token → Each P ts → P (nth ts i)
-  each-at [] i h e = h
-  each-at (t ∷ ts) zero h e = e .0
-  each-at (t ∷ ts) (suc i) h e = each-at ts i h (e .1)
-
-each-map : (P Q : Token → Type 0) (ts : List Token) → ((t : Token) → P t → Q t) → Each P ts → Each Q ts
-each-map P Q [] f e = tt
-each-map P Q (t ∷ ts) f e = (f t (e .0), each-map P Q ts f (e .1))
 
 -- a token's link, 0 where it opens nothing
 abbrev pub link : Token → ℕ

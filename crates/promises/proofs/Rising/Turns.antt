@@ -119,8 +119,8 @@ taken-base {text} {at} (quoted start end rest escaped q) b =
     base-scalar b (quoted-kind escaped) start (end - start) rest
     record {
       from = omega (arith, v .starts);
-      starts = omega (arith, v .from, v .within, v .goes-on);
-      ends = omega (arith, v .from, v .within, v .goes-on);
+      starts = omega (arith, v .run .from, v .run .within, v .goes-on);
+      ends = omega (arith, v .run .from, v .run .within, v .goes-on);
       full = λ z. absurd (false≢true (sym z ∙ quoted-empty escaped));
     }
 

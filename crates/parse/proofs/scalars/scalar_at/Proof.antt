@@ -34,7 +34,7 @@ viewed-requires-2 c κs =
     let at-cut = at-start .before .before in
     let e = sym (at-cut .scalar-at .ensures ∙ scalar-cut-lent _ _ _ (at-cut .before .before .pre .1)) ∙ at-start .start2 .given .1 in
     let b = quoted-bounds _ _ _ _ _ _ e in
-    omega (arith, b .starts, b .from, b .within)
+    omega (arith, b .starts, b .run .from, b .run .within)
 
 enum-told : tie.Need-enum-told
 enum-told c = search needs
