@@ -62,12 +62,13 @@ const ESCAPED: [&str; 9] = [
     "aaaaaaaaaaaaaaaaa\\\"b",
 ];
 
-/// Those runs as a key, a value and an entry; and a backslash behind a run, which has none.
+/// Those runs as a key, a value and an entry; a backslash behind a run, which has none; and a run of a
+/// parameter, which is unquoted whatever it looks like.
 fn escapes() -> Vec<Vec<u8>> {
     let shaped =
         |run: &&str| [format!("\"{run}\"=b"), format!("a=\"{run}\""), format!("a={{\"{run}\" c}}")];
     let mut texts: Vec<Vec<u8>> = ESCAPED.iter().flat_map(shaped).map(String::into_bytes).collect();
-    texts.push(b"a=\"bc\"\\=d".to_vec());
+    texts.extend([b"a=\"bc\"\\=d".to_vec(), b"[[x]\"\\\"]".to_vec()]);
     texts
 }
 

@@ -17,7 +17,8 @@ const LOOKED_AT: usize = 200_000;
 const LONGEST_CHOSEN: usize = 48;
 const MOST: usize = 240;
 const ENOUGH: usize = 4;
-const COLUMNS: usize = 130;
+/// A line is broken behind so many bytes, so that none has more than 160.
+const LINE: usize = 120;
 
 const HEAD: &str = "\
 -- What the Rust (x86-64, its files compiled unchanged) answers to some texts, in the domain and past it: refusal number, place and BOM, and then the words
@@ -97,11 +98,11 @@ fn written(text: &[u8]) -> String {
     list(&text.iter().map(|byte| usize::from(*byte)).collect::<Vec<usize>>())
 }
 
-/// A list as the definitions write it, in lines of no more than so many columns.
+/// A list as the definitions write it, in lines that are broken.
 fn list(numbers: &[usize]) -> String {
     let mut lines = vec![String::from("(")];
     for (i, number) in numbers.iter().enumerate() {
-        if lines.last().is_some_and(|line| line.chars().count() > COLUMNS) {
+        if lines.last().is_some_and(|line| line.len() > LINE) {
             lines.push(String::new());
         }
         let before = if i == 0 {

@@ -15,16 +15,6 @@ use Rattle.cut.specs.Quotes.{quoted-from, skipped-from, quoted-run, Back
 use Rattle.cut.specs.declared.Quoted.the-variants.{Closed, Unclosed}
 use Rattle.cut.proofs.Places.{drop-here, by-place}
 
--- a byte of the run
-quoted-at : (b : ℕ) (bs : List ℕ) (n : ℕ) (e : Bool)
-    → quoted-from (b ∷ bs) n e
-    ≡ elim (eqb b quote) [
-      | true ↦ Closed n e
-      | false ↦ elim (eqb b backslash) [ true ↦ skipped-from bs (n + 1) | false ↦ quoted-from bs (n + 1) e ]
-    ]
-unfolding quoted-from
-quoted-at b bs n e = refl
-
 -- the byte that a backslash skips, or the end where there is none
 skipped : (d : List ℕ) (n : ℕ) → skipped-from (drop n d) n ≡ quoted-from (drop (n + 1) d) (n + 1) true
 unfolding quoted-from
@@ -41,18 +31,21 @@ module _ (d : List ℕ) (n : ℕ) (e : Bool) where
 
   -- a quote closes it
   pub quoted-closes : n < length d → getD d n 0 ≡ quote → quoted-from (drop n d) n e ≡ Closed n e
-  quoted-closes h q = rw (drop-here d n h, quoted-at, eq-eqb (getD d n 0) quote q)
+  unfolding quoted-from
+  quoted-closes h q = rw (drop-here d n h) (rw (quoted-from, eq-eqb (getD d n 0) quote q))
 
   -- a backslash takes part, and passes itself and one byte more
   pub quoted-escapes : n < length d → getD d n 0 ≡ backslash → quoted-from (drop n d) n e ≡ quoted-from (drop (n + 2) d) (n + 2) true
+  unfolding quoted-from
   quoted-escapes h s =
-      rw (drop-here d n h, quoted-at, ap (λ (b : ℕ). eqb b quote) s, eq-eqb (getD d n 0) backslash s)
-      (skipped d (n + 1) ∙ ap (λ (k : ℕ). quoted-from (drop k d) k true) {x = n + 1 + 1} {y = n + 2} (omega arith))
+      rw (drop-here d n h) (rw (quoted-from, ap (λ (b : ℕ). eqb b quote) s, eq-eqb (getD d n 0) backslash s)
+      (skipped d (n + 1) ∙ ap (λ (k : ℕ). quoted-from (drop k d) k true) {x = n + 1 + 1} {y = n + 2} (omega arith)))
 
   -- any other byte is passed
   pub quoted-goes-on : n < length d → (getD d n 0 ≡ quote → ⊥) → (getD d n 0 ≡ backslash → ⊥)
       → quoted-from (drop n d) n e ≡ quoted-from (drop (n + 1) d) (n + 1) e
-  quoted-goes-on h q s = rw (drop-here d n h, quoted-at, ne-eqb (getD d n 0) quote q, ne-eqb (getD d n 0) backslash s)
+  unfolding quoted-from
+  quoted-goes-on h q s = rw (drop-here d n h) (rw (quoted-from, ne-eqb (getD d n 0) quote q, ne-eqb (getD d n 0) backslash s))
 
 -- where a run whose first n bytes are passed, with a backslash among them or none, is closed: at a quote of the part. Its flag is set
 -- exactly when it was, or a backslash stands from n on

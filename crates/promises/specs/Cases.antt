@@ -1,5 +1,5 @@
--- The cases marked P in document 01, 'Both sides of each edge', and two for a quoted run with an escape and without: a text, how many
--- tokens the tape has room for, and what the parse answers.
+-- The cases marked P in document 01, 'Both sides of each edge', and those of code 11: a quoted run with an escape and without, and a
+-- parameter's run, which is unquoted: a text, how many tokens the tape has room for, and what the parse answers.
 use Prim.Native.Nat.{ℕ}
 use Prim.Native.Char.{code}
 use Prim.Native.String.{String}
@@ -100,4 +100,5 @@ cases =
     ∷ case "a={b c=d {}}" 16 (these forgotten false)
     ∷ case "a=\"b\\\"c\"" 16 (tokens-with 2 1 (scalar-of QuotedEscape 3 4) false)
     ∷ case "a=\"bc\"" 16 (tokens-with 2 1 (scalar-of Quoted 3 2) false)
+    ∷ case "[[x]\"\\\"]" 16 (tokens-with 2 1 (scalar-of Unquoted 4 3) false)
     ∷ []
