@@ -35,19 +35,26 @@ use Rattle.parse.proofs.Walk.{Meets, Keeps, parse-keeps}
 use Rattle.parse.proofs.parse.Reads as parse
 use Rattle.promises.specs.Escapes.{Says, Escapes-told}
 use Rattle.promises.proofs.Demand1.{numbered}
-use Rattle.promises.proofs.Each.{Each, each-none, each-add, each-set, each-before-last, each-at}
+use Rattle.promises.specs.Each.{Each}
+use Rattle.promises.proofs.Each.{each-add, each-set, each-before-last, each-at}
 use Rattle.promises.proofs.Rising.{start-kept}
 use Rattle.promises.proofs.Rising.Turns.{Risen, Risen-whole, turn-keeps}
 
 module _ (text : List ℕ) where
-  -- each of some tokens
-  abbrev Saying : List Token → Type 0
+  -- each of some tokens; it is not looked into, so that lists may be left for the checker to find
+  unfoldable Saying : List Token → Type 0
   Saying ts = Each (Says text) ts
 
+  none-says : Saying []
+  unfolding Saying
+  none-says = tt
+
   add-says : (ts : List Token) (x : Token) → Says text x → Saying ts → Saying (ts ++ (x ∷ []))
+  unfolding Saying
   add-says ts x s h = each-add (Says text) ts x s h
 
   set-says : (ts : List Token) (i : ℕ) (x : Token) → Says text x → Saying ts → Saying (set ts i x)
+  unfolding Saying
   set-says ts i x s h = each-set (Says text) ts i x s h
 
   -- ---- what is laid down
@@ -114,6 +121,7 @@ module _ (text : List ℕ) where
   other ts x e f h = add-says ts x (silent x e f) h
 
   mixed-says : (ts : List Token) → Saying ts → Saying (before-last ts mixed-container-token)
+  unfolding Saying
   mixed-says ts h = each-before-last (Says text) ts mixed-container-token (silent mixed-container-token (λ c. omega arith) (λ c. omega arith)) h
 
   opened-says : (ts : List Token) → Saying ts → Saying (ts ++ (unsettled ∷ []))
@@ -169,10 +177,10 @@ module _ (text : List ℕ) where
 
   parse-says : (len count : ℕ) (bom : Bool) (words : List ℕ) → parse-of text len ≡ outcome (Tokens count bom) words
       → (i : ℕ) → Says text (token-in words count i)
-  unfolding token-in
+  unfolding token-in Saying
   parse-says len count bom words e i =
       let ended : Walked count (tokens-in words count) =
-      rw e at (parse-keeps Walks Walked text (start-kept (length text) (has-bom text), each-none (Says text)) keeps (λ n ts h. h .0 .counted) len) in
+      rw e at (parse-keeps Walks Walked text (start-kept (length text) (has-bom text), none-says) keeps (λ n ts h. h .0 .counted) len) in
       each-at (Says text) (tokens-in words count) i (silent no-token (λ c. omega arith) (λ c. omega arith)) (ended .1)
 
 -- ---- of the contract of `parse` itself

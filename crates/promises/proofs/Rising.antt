@@ -18,7 +18,6 @@ use Rattle.machine.specs.Start.{start, has-bom}
 use Rattle.machine.specs.Finish.{outcome}
 use Rattle.parse.specs.Parse.{parse-of}
 use Rattle.parse.proofs.Walk.{parse-keeps}
-use Rattle.promises.proofs.Each.{each-none}
 use Rattle.promises.proofs.Rising.Spans.{spans, Upto}
 use Rattle.promises.proofs.Rising.Sheets.{Viewed, viewed}
 use Rattle.promises.proofs.Rising.Links.{Linked, stands-zero}
@@ -29,7 +28,7 @@ use Rattle.promises.proofs.Rising.Turns.{Risen, Risen-whole, turn-keeps
 pub start-kept : (text-length : ℕ) (bom : Bool) → Risen text-length (start bom) []
 unfolding start Upto spans
 start-kept L bom =
-    let bare : Linked 0 0 [] = record { counted = refl; inside = stands-zero []; links = each-none _ } in
+    let bare : Linked 0 0 [] = record { counted = refl; inside = stands-zero []; links = tt } in
     let none : Base L (start bom .at) 0 0 [] = record { linked = bare; rising = omega arith } in
     record { base = none; topped = tt }
 

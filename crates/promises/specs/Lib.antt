@@ -1,6 +1,7 @@
 pub mod Cases
 pub mod Demand1
 pub mod Demand3
+pub mod Each
 pub mod Escapes
 pub mod Mixed
 pub mod Reached

@@ -35,7 +35,8 @@ use Rattle.parse.specs.ArrayValue.{array-close, operator-then, after-end, unmix
 use Rattle.promises.specs.Room.{tape-of, is-scalar, value-lays, and-one}
 use Rattle.rust_tape.specs.RustTape as Rust
 use Rattle.rust_tape.specs.RustTape.{Parser, TextToken, source}
-use Rattle.rust_tape.specs.RustDomain.{Cut-alike, array-runs, Each}
+use Rattle.promises.specs.Each.{Each}
+use Rattle.rust_tape.specs.RustDomain.{Cut-alike, array-runs}
 use Rattle.promises.proofs.Alike.{mixed-sized}
 use Rattle.promises.proofs.Links.Kept.{Kept}
 use Rattle.rust_tape.proofs.RustParts.{byte-next, minus-there, index-there, slice-there, offset-there}

@@ -2,7 +2,7 @@
 -- First, whatever holds at every place holds wherever our parse cuts an unquoted run, and there so does what follows from what holds.
 -- Assumes nothing.
 use Prim.Native.Nat.{ℕ, zero, suc, _+_, _≤_}
-use mathlib.Core.List.{List, [], _∷_}
+use mathlib.Core.List.{List, []}
 use mathlib.Core.Logic.{inr}
 use lib.ListN.{length}
 use Rattle.tape.specs.Tape.{unbounded}
@@ -10,19 +10,16 @@ use Rattle.parse.specs.After.{After, next, done, refused}
 use Rattle.machine.specs.Start.{has-bom, start}
 use Rattle.parse.specs.Parse.{turn, enough, text-limit}
 use Rattle.promises.specs.Room.{tape-of}
-use Rattle.rust_tape.specs.RustDomain.{In-domain, turn-runs, Each, Along, Throughout, Domain, Plain}
+use Rattle.promises.proofs.Each.{each-all, each-map}
+use Rattle.rust_tape.specs.RustDomain.{In-domain, turn-runs, Along, Throughout, Domain, Plain}
 use Rattle.rust_tape.specs.Demand2.{Spoken-of}
 use Rattle.rust_tape.proofs.RustParts.{byte-next}
 
 -- ---- what holds at every place holds wherever our parse cuts
 module _ (P : ℕ → Type 0) (text : List ℕ) (all : (at : ℕ) → P at) where
-  each-all : (places : List ℕ) → Each P places
-  each-all [] = tt
-  each-all (at ∷ places) = (all at, each-all places)
-
   along-all : (n : ℕ) (x : After) → Along P text n x
   along-all zero x = tt
-  along-all (suc n) (next m t) = (each-all (turn-runs text m), along-all n (turn text t m))
+  along-all (suc n) (next m t) = (each-all P all (turn-runs text m), along-all n (turn text t m))
   along-all (suc n) (done c t) = tt
   along-all (suc n) (refused r) = tt
 
@@ -31,13 +28,9 @@ module _ (P : ℕ → Type 0) (text : List ℕ) (all : (at : ℕ) → P at) wher
 
 -- ---- and there so does what follows from what holds
 module _ (P Q : ℕ → Type 0) (text : List ℕ) (follows : (at : ℕ) → P at → Q at) where
-  each-map : (places : List ℕ) → Each P places → Each Q places
-  each-map [] d = tt
-  each-map (at ∷ places) d = (follows at (d .0), each-map places (d .1))
-
   along-map : (n : ℕ) (x : After) → Along P text n x → Along Q text n x
   along-map zero x d = tt
-  along-map (suc n) (next m t) d = (each-map (turn-runs text m) (d .0), along-map n (turn text t m) (d .1))
+  along-map (suc n) (next m t) d = (each-map P Q follows (turn-runs text m) (d .0), along-map n (turn text t m) (d .1))
   along-map (suc n) (done c t) d = tt
   along-map (suc n) (refused r) d = tt
 

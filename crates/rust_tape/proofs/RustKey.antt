@@ -30,7 +30,8 @@ use Rattle.parse.proofs.Splits.{by-skipped, by-state}
 use Rattle.promises.specs.Room.{tape-of, key-lays, and-one}
 use Rattle.rust_tape.specs.RustTape as Rust
 use Rattle.rust_tape.specs.RustTape.{Parser, TextToken, source}
-use Rattle.rust_tape.specs.RustDomain.{Cut-alike, key-runs, Each}
+use Rattle.promises.specs.Each.{Each}
+use Rattle.rust_tape.specs.RustDomain.{Cut-alike, key-runs}
 use Rattle.promises.proofs.Links.Kept.{Kept}
 use Rattle.rust_tape.proofs.RustParts.{index-there, slice-there, offset-there, skip-same}
 use Rattle.rust_tape.proofs.RustReads.{rust-tape, as-container, tape-length, laid-opener, laid-end, changed-opener, changed-header, assign-there}

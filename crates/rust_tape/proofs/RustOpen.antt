@@ -35,7 +35,8 @@ use Rattle.parse.proofs.Splits.{by-skipped, by-cut}
 use Rattle.promises.specs.Room.{tape-of, parameter-lays, is-cut, open-lays, and-one}
 use Rattle.rust_tape.specs.RustTape as Rust
 use Rattle.rust_tape.specs.RustTape.{Parser, ParseState, Flow, TextToken, source}
-use Rattle.rust_tape.specs.RustDomain.{Cut-alike, scalar-runs, parameter-runs, open-runs, Each}
+use Rattle.promises.specs.Each.{Each}
+use Rattle.rust_tape.specs.RustDomain.{Cut-alike, scalar-runs, parameter-runs, open-runs}
 use Rattle.promises.proofs.Alike.{added-sized}
 use Rattle.rust_tape.proofs.RustParts.{minus-there, index-there, slice-there, offset-there, skip-same, any-same}
 use Rattle.rust_tape.proofs.RustReads.{rust-tape, tape-length, laid-scalar, laid-quoted, laid-end, changed-opener, assign-there}

@@ -31,7 +31,8 @@ use Rattle.parse.proofs.Splits.{by-skipped}
 use Rattle.promises.specs.Room.{tape-of, name-ended, parameter-lays, and-one}
 use Rattle.rust_tape.specs.RustTape as Rust
 use Rattle.rust_tape.specs.RustTape.{Parser, ParseState, Flow, source}
-use Rattle.rust_tape.specs.RustDomain.{Cut-alike, value-runs, name-runs, parameter-runs, Each}
+use Rattle.promises.specs.Each.{Each}
+use Rattle.rust_tape.specs.RustDomain.{Cut-alike, value-runs, name-runs, parameter-runs}
 use Rattle.promises.proofs.Alike.{added-sized}
 use Rattle.rust_tape.proofs.RustParts.{test-there, test-next, index-there, slice-there, offset-there, skip-same, split-same}
 use Rattle.rust_tape.proofs.RustReads.{rust-tape, as-variant, tape-length, laid-scalar, laid-opener}

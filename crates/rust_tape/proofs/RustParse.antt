@@ -38,7 +38,8 @@ use Rattle.rust_tape.specs.RustCuts.{split-at-scalar}
 use Rattle.rust_tape.specs.RustTape as Rust
 use Rattle.rust_tape.specs.RustTape.{Parser, Flow, TextToken, ErrorKind, Source, source, rust-turn, rust-loop, turns-by, parsed-by}
 use Rattle.rust_tape.specs.RustDomain.{In-domain, Cut-alike, key-runs, object-runs, open-runs, array-runs, state-runs, turn-runs}
-use Rattle.rust_tape.specs.RustDomain.{Each, Along, Throughout}
+use Rattle.promises.specs.Each.{Each}
+use Rattle.rust_tape.specs.RustDomain.{Along, Throughout}
 use Rattle.rust_tape.specs.Answers.{as-rust, answered, answer-by}
 use Rattle.rust_tape.specs.Demand2.{Spoken-of, Returned, Never-taken, Runs-by, Rust-runs}
 use Rattle.promises.proofs.Alike.{Going, Known}

@@ -28,7 +28,8 @@ use Rattle.cut.proofs.Scalars.{opens-not, opens-next, cut-quoted, cut-variable,
 use Rattle.rust_tape.specs.RustCuts.{forward-search}
 use Rattle.rust_tape.specs.RustTape as Rust
 use Rattle.rust_tape.specs.RustTape.{TextToken, Flow, source}
-use Rattle.rust_tape.specs.RustDomain.{Cut-alike, scalar-runs, Each}
+use Rattle.promises.specs.Each.{Each}
+use Rattle.rust_tape.specs.RustDomain.{Cut-alike, scalar-runs}
 use Rattle.rust_tape.proofs.Domain.{as-found, quoted-end-alike}
 
 -- ---- bytes

@@ -34,7 +34,8 @@ use Rattle.parse.proofs.Splits.{by-cut}
 use Rattle.promises.specs.Room.{tape-of}
 use Rattle.rust_tape.specs.RustTape as Rust
 use Rattle.rust_tape.specs.RustTape.{Parser, Flow, TextToken, source}
-use Rattle.rust_tape.specs.RustDomain.{Cut-alike, scalar-runs, object-runs, Each}
+use Rattle.promises.specs.Each.{Each}
+use Rattle.rust_tape.specs.RustDomain.{Cut-alike, scalar-runs, object-runs}
 use Rattle.rust_tape.specs.Answers.{error-number, error-place}
 use Rattle.rust_tape.proofs.RustParts.{byte-next, minus-there, index-there, slice-there, offset-there, any-same}
 use Rattle.rust_tape.proofs.RustReads.{rust-tape, as-state, tape-length, laid-scalar, laid-quoted, laid-opener, laid-operator, insert-read}

@@ -24,6 +24,7 @@ use Rattle.parse.specs.After.{After, next, done, refused}
 use Rattle.machine.specs.Bytes.{key-byte, open-byte, value-byte}
 use Rattle.machine.specs.Start.{has-bom, start}
 use Rattle.parse.specs.Parse.{turn, enough}
+use Rattle.promises.specs.Each.{Each}
 use Rattle.promises.specs.Room.{tape-of}
 use Rattle.rust_tape.specs.RustCuts.{vertical-tab, form-feed}
 
@@ -127,12 +128,7 @@ unfoldable pub turn-runs : List ℕ → Machine → List ℕ
 turn-runs text m = elim (skip-ws text (m .at)) [ At p ↦ state-runs text (to m p (m .state) (m .count)) | End ↦ [] ]
 
 -- ---- a text
--- a fact holds at each of some places
-abbrev pub Each : (ℕ → Type 0) → List ℕ → Type 0
-Each P [] = Unit {0}
-Each P (at ∷ places) = P at × Each P places
-
--- and wherever so many turns of ours, or fewer where they end before, cut an unquoted run
+-- a fact holds wherever so many turns of ours, or fewer where they end before, cut an unquoted run
 abbrev pub Along : (ℕ → Type 0) → List ℕ → ℕ → After → Type 0
 Along P text zero x = Unit {0}
 Along P text (suc turns) (next m t) = Each P (turn-runs text m) × Along P text turns (turn text t m)

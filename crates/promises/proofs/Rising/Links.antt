@@ -19,7 +19,8 @@ use Rattle.tape.specs.Tape.{before-last}
 use Rattle.machine.specs.Parents.{parent-of}
 use Rattle.parse.proofs.Moves.{closed-as}
 use Rattle.sheet.specs.Sound.{nth}
-use Rattle.promises.proofs.Each.{Each, each-add, each-set, each-before-last, each-at, each-map}
+use Rattle.promises.specs.Each.{Each}
+use Rattle.promises.proofs.Each.{each-add, each-set, each-before-last, each-at, each-map}
 use Rattle.promises.proofs.Rising.Spans.{span-of, mixed-bare, end-bare, opens-bare}
 
 -- 0, or the index of a token that is no scalar
@@ -87,7 +88,7 @@ linked-add ts count parent x s l =
       inside = stands-add ts x parent (l .inside);
       links =
           each-add (λ t. Stands (ts ++ (x ∷ [])) (link t)) ts x s
-          (each-map (λ t. Stands ts (link t)) (λ t. Stands (ts ++ (x ∷ [])) (link t)) ts (λ t. stands-add ts x (link t)) (l .links));
+          (each-map (λ t. Stands ts (link t)) (λ t. Stands (ts ++ (x ∷ [])) (link t)) (λ t. stands-add ts x (link t)) ts (l .links));
     }
 
 -- changing a token to one of the same view changes no view
@@ -111,7 +112,7 @@ linked-set ts count parent i x e s l =
       inside = stands-set ts i x parent e (l .inside);
       links =
           each-set (λ t. Stands (set ts i x) (link t)) ts i x (stands-set ts i x (link x) e s)
-          (each-map (λ t. Stands ts (link t)) (λ t. Stands (set ts i x) (link t)) ts (λ t. stands-set ts i x (link t) e) (l .links));
+          (each-map (λ t. Stands ts (link t)) (λ t. Stands (set ts i x) (link t)) (λ t. stands-set ts i x (link t) e) ts (l .links));
     }
 
 -- a token without a view goes in before the last, which moves up: no index of another comes to a scalar
@@ -141,7 +142,7 @@ linked-mixed ts count parent l =
       inside = stands-before-last ts x parent mixed-bare (l .inside);
       links =
           each-before-last (λ t. Stands (before-last ts x) (link t)) ts x (stands-unlinked (before-last ts x) (link x) mixed-link)
-          (each-map (λ t. Stands ts (link t)) (λ t. Stands (before-last ts x) (link t)) ts (λ t. stands-before-last ts x (link t) mixed-bare) (l .links));
+          (each-map (λ t. Stands ts (link t)) (λ t. Stands (before-last ts x) (link t)) (λ t. stands-before-last ts x (link t) mixed-bare) ts (l .links));
     }
 
 -- another parent
