@@ -7,7 +7,7 @@ use native.Mathlib.Omega.{arith}
 use lib.ListN.{length, take, drop, length-take, length-drop}
 use Rattle.sheet.specs.Views.{viewed}
 use Rattle.tape.specs.Words.{words-for}
-use Rattle.report.specs.Append.{Wrote, wrote, append}
+use Rattle.put.specs.Append.{Wrote, wrote, append}
 use Rattle.report.specs.Dump.{dump-of}
 use Rattle.report.specs.Readings.{readings-of}
 use Rattle.report.specs.Room.{most-input, most-tokens, Held}

@@ -6,7 +6,7 @@ use mathlib.Core.Path.{_≡_}
 use lib.ListN.{length, take, drop}
 use Rattle.sheet.specs.declared.views.Viewed.{Viewed}
 use Rattle.tape.specs.Words.{words-for}
-use Rattle.report.specs.Append.{wrote, whole}
+use Rattle.put.specs.Append.{wrote, whole}
 use Rattle.report.specs.Dump.{dump-of}
 use Rattle.report.specs.Readings.{readings-of}
 use Rattle.report.specs.Room.{most-tokens, dump-bytes}

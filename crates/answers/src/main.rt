@@ -5,7 +5,7 @@ use libc::STDOUT_FILENO;
 use report::limits::DUMP_BYTES;
 use report::limits::MOST_INPUT;
 use report::limits::TAPE_WORDS;
-use report::put::front;
+use put::front;
 use tape::words::WORDS_PER_TOKEN;
 ghost use Prim.Native.Nat.{_+_, _≤_, _<_};
 ghost use lib.ListN.{length};
@@ -173,7 +173,7 @@ fn answer_record(
 fn stop(out: &mut [u8], at: usize)
     requires { ⌜ at + stop-bytes ≤ length (now out) ⌝ }
 {
-    let n = report::put::put_bytes(out, at, b"bad record\n");
+    let n = put::put_bytes(out, at, b"bad record\n");
     io::write_all(STDOUT_FILENO, front(out, n));
 }
 

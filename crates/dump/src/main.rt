@@ -7,7 +7,7 @@ use report::limits::TAPE_WORDS;
 
 // Writes what was put, in one piece.
 fn write_lines(lines: &[u8; DUMP_BYTES], end: usize) {
-    io::write_all(STDOUT_FILENO, report::put::front(lines, end));
+    io::write_all(STDOUT_FILENO, put::front(lines, end));
 }
 
 // Reads one byte more than a save may have, which tells that it has too many, and writes all that is printed.

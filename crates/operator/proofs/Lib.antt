@@ -1,1 +1,2 @@
 pub mod Widths
+pub mod Numbers

@@ -1,6 +1,7 @@
 -- The eight operators: their numbers on the tape, their signs, and which of them two bytes begin with.
 use Prim.Native.Nat.{ℕ}
 use mathlib.Core.Bool.{Bool, true, false}
+use mathlib.Core.List.{List, [], _∷_}
 use lib.Dec.{eqb}
 use Rattle.data.specs.Bytes.{less-than, greater-than, exclamation, question, equals}
 use Rattle.operator.specs.declared.Operator.{Operator}
@@ -8,6 +9,8 @@ use Rattle.operator.specs.declared.Operator.the-variants.{LessThan, Less
 use Rattle.operator.specs.declared.Sighted.{Sighted}
 use Rattle.operator.specs.declared.Sighted.the-variants.{Sign, Nothing}
 use Rattle.operator.specs.declared.Symbol.{Symbol}
+use Rattle.operator.specs.declared.Numbered.{Numbered}
+use Rattle.operator.specs.declared.Numbered.the-variants as Numbered
 
 -- document 01's number for each operator
 abbrev pub number-of : Operator → ℕ
@@ -19,6 +22,19 @@ number-of NotEqual = 5
 number-of Exact = 6
 number-of Equal = 7
 number-of Exists = 8
+
+-- the operators, listed once
+abbrev pub operators : List Operator
+operators = LessThan ∷ LessThanEqual ∷ GreaterThan ∷ GreaterThanEqual ∷ NotEqual ∷ Exact ∷ Equal ∷ Exists ∷ []
+
+-- the first of some operators that has a number, or none
+abbrev pub numbered-among : List Operator → ℕ → Numbered
+numbered-among [] n = Numbered.Nothing
+numbered-among (o ∷ os) n = elim (eqb n (number-of o)) [ true ↦ Numbered.Is o | false ↦ numbered-among os n ]
+
+-- the operator that a number stands for, or none
+unfoldable pub numbered : ℕ → Numbered
+numbered n = numbered-among operators n
 
 -- whether an operator is `=`, which pairs a key with its value and is no token there
 abbrev pub is-equal : Operator → Bool

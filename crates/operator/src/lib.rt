@@ -1,6 +1,6 @@
 // The operators of the save format: eight kinds, their numbers and signs, and which of them stands at a place.
 ghost use mathlib.Core.Path.{_≡_};
-ghost use Rattle.operator.specs.Operators.{number-of, is-equal, symbol-of, sighted, bare-or-doubled, only-doubled};
+ghost use Rattle.operator.specs.Operators.{number-of, numbered, is-equal, symbol-of, sighted, bare-or-doubled, only-doubled};
 
 pub enum Operator {
     LessThan,
@@ -16,6 +16,12 @@ pub enum Operator {
 // What stands at two bytes: an operator and how many bytes it takes, or none.
 pub enum Sighted {
     Sign { operator: Operator, width: usize },
+    Nothing,
+}
+
+// The operator that a number stands for, or none.
+pub enum Numbered {
+    Is(Operator),
     Nothing,
 }
 
@@ -97,6 +103,37 @@ impl Operator {
             },
         }
     }
+}
+
+// The operator that stands on the tape by a number.
+pub fn operator_numbered(number: u32) -> Numbered
+    ensures { λ r. ⌜ r ≡ numbered number ⌝ }
+{
+    if number == 1 {
+        return Numbered::Is(Operator::LessThan);
+    }
+    if number == 2 {
+        return Numbered::Is(Operator::LessThanEqual);
+    }
+    if number == 3 {
+        return Numbered::Is(Operator::GreaterThan);
+    }
+    if number == 4 {
+        return Numbered::Is(Operator::GreaterThanEqual);
+    }
+    if number == 5 {
+        return Numbered::Is(Operator::NotEqual);
+    }
+    if number == 6 {
+        return Numbered::Is(Operator::Exact);
+    }
+    if number == 7 {
+        return Numbered::Is(Operator::Equal);
+    }
+    if number == 8 {
+        return Numbered::Is(Operator::Exists);
+    }
+    Numbered::Nothing
 }
 
 // The operator that two bytes begin with, in the order of the Rust's tests; second is 0 at the text's end.

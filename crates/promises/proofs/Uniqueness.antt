@@ -6,7 +6,7 @@ use mathlib.Core.Bool.{Bool, true, false}
 use mathlib.Core.List.{List}
 use mathlib.Core.Logic.{_↔_}
 use Prim.Native.Nat.{ℕ}
-use Rattle.report.specs.Append.{Wrote, wrote, append}
+use Rattle.put.specs.Append.{Wrote, wrote, append}
 use Rattle.report.specs.Sheets.{verdict, Judged}
 use Rattle.promises.specs.Unique.{One-result, One-left, One-line}
 use Rattle.data.proofs.character_class.Reads as character-class
@@ -90,9 +90,9 @@ use Rattle.sheet.proofs.views.code.Reads as code
 use Rattle.sheet.proofs.views.link.Reads as link
 use Rattle.sheet.proofs.views.view_of.Reads as view-of
 use Rattle.sheet.proofs.views.view.Reads as view
-use Rattle.report.proofs.put.put_byte.Reads as put-byte
-use Rattle.report.proofs.put.put_bytes.Reads as put-bytes
-use Rattle.report.proofs.put.front.Reads as front
+use Rattle.put.proofs.put_byte.Reads as put-byte
+use Rattle.put.proofs.put_bytes.Reads as put-bytes
+use Rattle.put.proofs.front.Reads as front
 use Rattle.report.proofs.numbers.put_decimal.Reads as put-decimal
 use Rattle.report.proofs.numbers.put_hex.Reads as put-hex
 use Rattle.report.proofs.numbers.put_integer.Reads as put-integer

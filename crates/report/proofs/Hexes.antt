@@ -13,7 +13,7 @@ use Rattle.sheet.specs.declared.views.Viewed.{Viewed}
 use Rattle.sheet.specs.declared.views.Viewed.the-variants.{At, NoScalar}
 use Rattle.sheet.specs.Views.{refusal-of, part-of}
 use Rattle.report.specs.Digits.{decimal, hex}
-use Rattle.report.specs.Append.{Wrote, append}
+use Rattle.put.specs.Append.{Wrote, append}
 use Rattle.report.specs.Sheets.{verdict, Judged, hex-bytes, view-text}
 use Rattle.report.specs.Words as words
 

@@ -1,4 +1,3 @@
-pub mod Append
 pub mod Digits
 pub mod Lines
 pub mod Hexes

@@ -3,8 +3,8 @@
 use mathlib.Core.Path.{_≡_, sym, ap, _∙_}
 use mathlib.Core.List.{List}
 use Prim.Native.Nat.{ℕ}
-use Rattle.report.proofs.Append.{same-bytes}
-use Rattle.report.specs.Append.{wrote, append}
+use Rattle.put.proofs.Append.{same-bytes}
+use Rattle.put.specs.Append.{wrote, append}
 use Rattle.report.specs.Digits.{decimal}
 
 pub refusal-put : {Read : Type 0} (refusal : Read → ℕ) (text : Read → List ℕ) (out : List ℕ) (at : ℕ)

@@ -22,10 +22,10 @@ use Rattle.machine.specs.declared.Refusal.{Refusal}
 use Rattle.machine.specs.Finish.{outcome}
 use Rattle.parse.specs.Parse.{parse-of}
 use Rattle.machine.specs.Refusals.{number, place}
-use Rattle.report.proofs.Append.{append-fits}
+use Rattle.put.proofs.Append.{append-fits}
 use Rattle.report.proofs.Digits.{decimal-one, decimal-more}
 use Rattle.report.proofs.Lines.{dump-tokens, dump-refused}
-use Rattle.report.specs.Append.{wrote, append, whole}
+use Rattle.put.specs.Append.{wrote, append, whole}
 use Rattle.report.specs.Digits.{decimal}
 use Rattle.parse.specs.Told.{bit}
 use Rattle.report.specs.Dump.{Named, names, named, name-of, line-of, lines-from, header-of, refused-of, dump-of, save-of}

@@ -1,6 +1,5 @@
 pub mod Letters
 pub mod Words
-pub mod Append
 pub mod Digits
 pub mod Room
 pub mod Dump

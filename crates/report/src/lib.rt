@@ -7,8 +7,6 @@ pub mod dump;
 pub mod limits;
 // Decimal and hexadecimal digits.
 pub mod numbers;
-// Bytes, as far as the buffer has room.
-pub mod put;
 // The readings of a scalar.
 pub mod readings;
 // What is said of a sheet.

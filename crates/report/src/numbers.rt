@@ -1,8 +1,8 @@
 // Numbers, most significant digit first: the digits of the quotient, and behind them the last one.
-use crate::put::put_byte;
+use put::put_byte;
 ghost use mathlib.Core.Path.{_≡_};
 ghost use Prim.Native.Nat.{_<_, _≤_};
-ghost use Rattle.report.specs.Append.{wrote, append};
+ghost use Rattle.put.specs.Append.{wrote, append};
 ghost use Rattle.report.specs.Digits.{glyph as glyph-of, decimal, hex-by, most-hex, hex};
 ghost use Rattle.report.specs.Readings.{integer};
 

@@ -2,7 +2,7 @@
 use crate::numbers::put_decimal;
 use crate::numbers::put_hex;
 use crate::numbers::put_integer;
-use crate::put::put_byte;
+use put::put_byte;
 use crate::tokens::bit;
 use scalar::BoolRead;
 use scalar::F64Read;
@@ -11,7 +11,7 @@ use scalar::U64Read;
 ghost use mathlib.Core.Path.{_≡_};
 ghost use mathlib.Core.List.{[], _∷_, _++_};
 ghost use Rattle.data.specs.Bytes.{equals};
-ghost use Rattle.report.specs.Append.{wrote, append};
+ghost use Rattle.put.specs.Append.{wrote, append};
 ghost use Rattle.report.specs.Digits.{decimal};
 ghost use Rattle.report.specs.Readings.{bool-text, u64-text, i64-text, f64-text, exact-of, readings-of};
 

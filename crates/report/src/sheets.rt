@@ -1,14 +1,14 @@
 // The answers about a sheet as lines, which are what records of the kinds `C` and `V` are answered with.
 use crate::numbers::put_decimal;
 use crate::numbers::put_hex;
-use crate::put::put_byte;
-use crate::put::put_bytes;
+use put::put_byte;
+use put::put_bytes;
 use sheet::views::Viewed;
 ghost use mathlib.Core.Path.{_≡_};
 ghost use lib.ListN.{length};
 ghost use Rattle.sheet.specs.Sound.{Sound};
 ghost use Rattle.sheet.specs.Views.{viewed};
-ghost use Rattle.report.specs.Append.{wrote, append};
+ghost use Rattle.put.specs.Append.{wrote, append};
 ghost use Rattle.report.specs.Sheets.{Judged, hex-bytes, view-text};
 
 // Puts whether the first count tokens of the words are a sound sheet for a text of a length.

@@ -1,7 +1,7 @@
 // The lines of a dump: a header, and a line for each token with its index, its name and its two words.
 use crate::numbers::put_decimal;
-use crate::put::put_byte;
-use crate::put::put_bytes;
+use put::put_byte;
+use put::put_bytes;
 use tape::codes;
 use tape::token;
 use tape::token::ScalarKind;
@@ -12,7 +12,7 @@ ghost use mathlib.Core.Path.{_≡_};
 ghost use lib.ListN.{length};
 ghost use Rattle.tape.specs.Token.{scalar-code};
 ghost use Rattle.tape.specs.Words.{tokens-in};
-ghost use Rattle.report.specs.Append.{wrote, append};
+ghost use Rattle.put.specs.Append.{wrote, append};
 ghost use Rattle.parse.specs.Told.{bit};
 ghost use Rattle.report.specs.Dump.{name-of, field, line-of, lines-from, header-of, refused-of};
 

@@ -2,3 +2,4 @@ pub mod Sound
 pub mod Steps
 pub mod Views
 pub mod Laws
+pub mod Decided

@@ -2,7 +2,7 @@
 -- Assumes nothing.
 use Rattle.report.specs.Dump.{left-by}
 use Rattle.report.proofs.Lines.{dump-tokens, dump-refused}
-use Rattle.report.proofs.Append.{chain, same-bytes}
+use Rattle.put.proofs.Append.{chain, same-bytes}
 use Rattle.report.proofs.Room.{dump-held, refusal-held}
 use mathlib.Core.Path.{ap}
 use native.Mathlib.Omega.{arith}

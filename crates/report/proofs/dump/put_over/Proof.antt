@@ -1,6 +1,6 @@
 -- `report::dump::put_over` meets its contract: its parts one behind the other.
 -- Assumes nothing.
-use Rattle.report.proofs.Append.{chain}
+use Rattle.put.proofs.Append.{chain}
 use borrow.Author.Needs.{needs}
 use Rattle.report.proofs.dump.put_over.Statement.{statement}
 use Rattle.report.proofs.dump.put_over.Tie as tie

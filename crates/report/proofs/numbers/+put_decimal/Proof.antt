@@ -2,7 +2,7 @@
 -- Assumes nothing.
 use Rattle.report.specs.Digits.{decimal}
 use Rattle.report.proofs.Digits.{decimal-one, decimal-more}
-use Rattle.report.proofs.Append.{chain, same-bytes}
+use Rattle.put.proofs.Append.{chain, same-bytes}
 use mathlib.Core.List.{[], _∷_, _++_}
 use mathlib.Core.Path.{sym, ap, _∙_}
 use borrow.Author.Needs.{needs}
@@ -13,7 +13,7 @@ use Rattle.report.proofs.numbers.put_decimal.Reads as put-decimal
 use Rattle.report.proofs.numbers.put_decimal.Kinds as put-decimal-kinds
 use Rattle.report.proofs.numbers.+put_decimal.Lts-put_decimal as put-decimal-lts
 use Rattle.report.proofs.numbers.glyph.Reads as glyph-reads
-use Rattle.report.proofs.put.put_byte.Reads as put-byte-reads
+use Rattle.put.proofs.put_byte.Reads as put-byte-reads
 use Rattle.report.proofs.numbers.+put_decimal.{statement}
 use Rattle.report.proofs.numbers.+put_decimal.Tie.{close}
 

@@ -2,7 +2,7 @@
 -- Assumes nothing.
 use Rattle.report.specs.Digits.{hex-by}
 use Rattle.report.proofs.Digits.{hex-by-none, hex-by-more}
-use Rattle.report.proofs.Append.{chain, same-bytes, put-empty}
+use Rattle.put.proofs.Append.{chain, same-bytes, put-empty}
 use mathlib.Core.List.{[], _∷_, _++_}
 use mathlib.Core.Path.{sym, ap, _∙_}
 use borrow.Author.Needs.{needs}
@@ -13,7 +13,7 @@ use Rattle.report.proofs.numbers.put_hex_by.Reads as put-hex-by
 use Rattle.report.proofs.numbers.put_hex_by.Kinds as put-hex-by-kinds
 use Rattle.report.proofs.numbers.+put_hex_by.Lts-put_hex_by as put-hex-by-lts
 use Rattle.report.proofs.numbers.glyph.Reads as glyph-reads
-use Rattle.report.proofs.put.put_byte.Reads as put-byte-reads
+use Rattle.put.proofs.put_byte.Reads as put-byte-reads
 use Rattle.report.proofs.numbers.+put_hex_by.{statement}
 use Rattle.report.proofs.numbers.+put_hex_by.Tie.{close}
 

@@ -2,7 +2,7 @@
 -- Assumes nothing.
 use native.Mathlib.Omega.{arith}
 use borrow.Author.Needs.{needs}
-use Rattle.report.proofs.Append.{same-bytes}
+use Rattle.put.proofs.Append.{same-bytes}
 use Rattle.report.proofs.Digits.{hex-few, hex-many}
 use Rattle.report.proofs.numbers.put_hex.Statement.{statement}
 use Rattle.report.proofs.numbers.put_hex.Tie as tie

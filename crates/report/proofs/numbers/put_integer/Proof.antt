@@ -1,7 +1,7 @@
 -- `report::numbers::put_integer` meets its contract: a number below zero has its minus in front.
 -- Assumes nothing.
 use Rattle.report.proofs.Digits.{integer-negative, integer-plain}
-use Rattle.report.proofs.Append.{chain, same-bytes}
+use Rattle.put.proofs.Append.{chain, same-bytes}
 use borrow.Author.Needs.{needs}
 use Rattle.report.proofs.numbers.put_integer.Statement.{statement}
 use Rattle.report.proofs.numbers.put_integer.Tie as tie

@@ -2,7 +2,7 @@
 -- Assumes nothing.
 use Rattle.report.specs.Readings.{bool-text}
 use Rattle.scalar.specs.Numbers.{bool-refusal-of}
-use Rattle.report.proofs.Append.{same-bytes}
+use Rattle.put.proofs.Append.{same-bytes}
 use Rattle.report.proofs.Refused.{refusal-put}
 use Rattle.data.specs.Bytes.{equals}
 use Rattle.report.specs.Digits.{decimal}

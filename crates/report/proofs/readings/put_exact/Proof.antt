@@ -2,7 +2,7 @@
 -- Assumes nothing.
 use Rattle.report.specs.Readings.{bool-text, u64-text, i64-text, exact-of}
 use mathlib.Core.Path.{ap}
-use Rattle.report.proofs.Append.{chain, same-bytes}
+use Rattle.put.proofs.Append.{chain, same-bytes}
 use borrow.Author.Needs.{needs}
 use Rattle.report.proofs.readings.put_exact.Statement.{statement}
 use Rattle.report.proofs.readings.put_exact.Tie as tie

@@ -2,7 +2,7 @@
 -- Assumes nothing.
 use Rattle.report.specs.Readings.{f64-text}
 use Rattle.scalar.specs.Numbers.{f64-refusal-of}
-use Rattle.report.proofs.Append.{chain, same-bytes}
+use Rattle.put.proofs.Append.{chain, same-bytes}
 use Rattle.report.proofs.Refused.{refusal-put}
 use Rattle.report.specs.Digits.{decimal, hex}
 use mathlib.Core.Path.{refl, sym, ap}

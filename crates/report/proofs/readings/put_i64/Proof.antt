@@ -4,7 +4,7 @@ use mir.ValLaws.{toZ-ofZ}
 use mir.Syntax.{w64}
 use Rattle.report.specs.Readings.{integer, i64-text}
 use Rattle.scalar.specs.Numbers.{i64-refusal-of}
-use Rattle.report.proofs.Append.{chain, same-bytes}
+use Rattle.put.proofs.Append.{chain, same-bytes}
 use Rattle.report.proofs.Refused.{refusal-put}
 use mathlib.Core.Path.{refl, sym, ap}
 use borrow.Author.Needs.{needs}

@@ -4,7 +4,7 @@ use Rattle.report.specs.Readings.{f64-text, readings-of}
 use Rattle.report.specs.Digits.{decimal}
 use Rattle.scalar.specs.Numbers.{kind-number-of}
 use mathlib.Core.Path.{ap, _∙_}
-use Rattle.report.proofs.Append.{chain, same-bytes}
+use Rattle.put.proofs.Append.{chain, same-bytes}
 use borrow.Author.Needs.{needs}
 use Rattle.report.proofs.readings.put_readings.Statement.{statement}
 use Rattle.report.proofs.readings.put_readings.Tie as tie

@@ -2,7 +2,7 @@
 -- Assumes nothing.
 use Rattle.report.specs.Readings.{u64-text}
 use Rattle.scalar.specs.Numbers.{u64-refusal-of}
-use Rattle.report.proofs.Append.{same-bytes}
+use Rattle.put.proofs.Append.{same-bytes}
 use Rattle.report.proofs.Refused.{refusal-put}
 use mathlib.Core.Path.{refl, sym, ap}
 use borrow.Author.Needs.{needs}

@@ -1,6 +1,6 @@
 -- `report::readings::put_value` meets its contract.
 -- Assumes nothing.
-use Rattle.report.proofs.Append.{chain}
+use Rattle.put.proofs.Append.{chain}
 use borrow.Author.Needs.{needs}
 use Rattle.report.proofs.readings.put_value.Statement.{statement}
 use Rattle.report.proofs.readings.put_value.Tie as tie

@@ -5,9 +5,9 @@ use Prim.Native.Nat.{_≤_, _-_}
 use native.Mathlib.Omega.{arith}
 use borrow.Author.Needs.{needs}
 use lib.ListN.{length, drop}
-use Rattle.report.proofs.Append.{put-on, put-empty, same-bytes}
+use Rattle.put.proofs.Append.{put-on, put-empty, same-bytes}
 use Rattle.report.proofs.Hexes.{hex-on, hex-none-left}
-use Rattle.report.specs.Append.{append}
+use Rattle.put.specs.Append.{append}
 use Rattle.report.specs.Sheets.{hex-bytes}
 use Rattle.report.proofs.sheets.put_hex_bytes.Statement.{statement}
 use Rattle.report.proofs.sheets.put_hex_bytes.Tie as tie

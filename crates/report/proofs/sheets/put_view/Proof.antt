@@ -1,7 +1,7 @@
 -- `report::sheets::put_view` meets its contract, by where the view lies.
 -- Assumes nothing.
 use Rattle.report.proofs.Hexes.{view-shown, view-refused}
-use Rattle.report.proofs.Append.{chain, same-bytes}
+use Rattle.put.proofs.Append.{chain, same-bytes}
 use borrow.Author.Needs.{needs}
 use Rattle.report.proofs.sheets.put_view.Statement.{statement}
 use Rattle.report.proofs.sheets.put_view.Tie as tie

@@ -1,6 +1,6 @@
 -- `report::tokens::put_field` meets its contract.
 -- Assumes nothing.
-use Rattle.report.proofs.Append.{chain}
+use Rattle.put.proofs.Append.{chain}
 use borrow.Author.Needs.{needs}
 use Rattle.report.proofs.tokens.put_field.Statement.{statement}
 use Rattle.report.proofs.tokens.put_field.Tie as tie

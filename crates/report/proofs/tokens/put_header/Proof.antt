@@ -3,7 +3,7 @@
 use Rattle.report.specs.Dump.{header-of}
 use Rattle.report.specs.Digits.{decimal}
 use mathlib.Core.Path.{ap}
-use Rattle.report.proofs.Append.{chain, same-bytes}
+use Rattle.put.proofs.Append.{chain, same-bytes}
 use borrow.Author.Needs.{needs}
 use Rattle.report.proofs.tokens.put_header.Statement.{statement}
 use Rattle.report.proofs.tokens.put_header.Tie as tie

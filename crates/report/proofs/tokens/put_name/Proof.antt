@@ -10,7 +10,7 @@ use Rattle.tape.specs.Token.{scalar-code}
 use Rattle.tape.proofs.Makers.{unnamed}
 use Rattle.tape.proofs.Shapes.{named-code}
 use Rattle.report.specs.Dump.{name-of, named}
-use Rattle.report.proofs.Append.{put-empty}
+use Rattle.put.proofs.Append.{put-empty}
 use borrow.Author.Needs.{needs}
 use Rattle.report.proofs.tokens.put_name.Statement.{statement}
 use Rattle.report.proofs.tokens.put_name.Tie as tie

@@ -1,7 +1,7 @@
 -- `report::tokens::put_refused` meets its contract: its parts one behind the other.
 -- Assumes nothing.
 use Rattle.report.specs.Dump.{refused-of}
-use Rattle.report.proofs.Append.{chain}
+use Rattle.put.proofs.Append.{chain}
 use borrow.Author.Needs.{needs}
 use Rattle.report.proofs.tokens.put_refused.Statement.{statement}
 use Rattle.report.proofs.tokens.put_refused.Tie as tie

@@ -4,10 +4,10 @@ use mathlib.Core.Path.{_≡_, refl, sym, ap, _∙_}
 use Prim.Native.Nat.{_≤_, _-_}
 use borrow.Author.Needs.{needs}
 use lib.ListN.{length, drop}
-use Rattle.report.proofs.Append.{put-on, put-empty, same-bytes}
+use Rattle.put.proofs.Append.{put-on, put-empty, same-bytes}
 use Rattle.tape.specs.Words.{tokens-in}
 use Rattle.report.proofs.Lines.{lines-on, lines-none}
-use Rattle.report.specs.Append.{append}
+use Rattle.put.specs.Append.{append}
 use Rattle.report.specs.Dump.{line-of, lines-from}
 use Rattle.report.proofs.tokens.put_tokens.Statement.{statement}
 use Rattle.report.proofs.tokens.put_tokens.Tie as tie

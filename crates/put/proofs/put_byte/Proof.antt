@@ -1,9 +1,9 @@
--- `report::put::put_byte` meets its contract: there is room for the byte, or there is none.
+-- `put::put_byte` meets its contract: there is room for the byte, or there is none.
 -- Assumes nothing.
 use borrow.Author.Needs.{needs}
-use Rattle.report.proofs.Append.{put-one, put-none}
-use Rattle.report.proofs.put.put_byte.Statement.{statement}
-use Rattle.report.proofs.put.put_byte.Tie as tie
+use Rattle.put.proofs.Append.{put-one, put-none}
+use Rattle.put.proofs.put_byte.Statement.{statement}
+use Rattle.put.proofs.put_byte.Tie as tie
 
 slice-write-out : tie.Need-slice-write-out
 slice-write-out c = search needs

@@ -1,11 +1,11 @@
--- `report::put::front` meets its contract: where there are fewer bytes, the first n are all.
+-- `put::front` meets its contract: where there are fewer bytes, the first n are all.
 -- Assumes nothing.
 use mathlib.Core.Path.{refl, sym}
 use native.Mathlib.Omega.{arith}
 use lib.Seq.{length-take-le, take-all}
 use borrow.Author.Needs.{needs}
-use Rattle.report.proofs.put.front.Statement.{statement}
-use Rattle.report.proofs.put.front.Tie as tie
+use Rattle.put.proofs.front.Statement.{statement}
+use Rattle.put.proofs.front.Tie as tie
 
 slice-aggregate-result : tie.Need-slice-aggregate-result
 slice-aggregate-result c = sym (length-take-le _ _ (omega arith))

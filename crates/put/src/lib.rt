@@ -1,9 +1,11 @@
 // Bytes put into a lent buffer one after another, as far as it has room. Every call answers the place after what it put.
 ghost use mathlib.Core.Path.{_≡_};
-ghost use mathlib.Core.List.{[], _∷_};
-ghost use lib.ListN.{take};
+ghost use mathlib.Core.List.{[], _∷_, _++_};
+ghost use Prim.Native.Nat.{_-_};
+ghost use lib.ListN.{length, take, drop, replicate};
 ghost use denote.Ref.{ptr};
-ghost use Rattle.report.specs.Append.{wrote, append};
+ghost use Rattle.put.specs.Append.{wrote, append};
+ghost use Rattle.put.specs.Parts.{part-place};
 
 // Puts one byte.
 pub fn put_byte(out: &mut [u8], at: usize, b: u8) -> usize
@@ -38,4 +40,26 @@ pub fn front(buffer: &[u8], n: usize) -> &[u8]
         return &buffer[..n];
     }
     buffer
+}
+
+// The part of some bytes that starts at an offset and has a length, or as much of it as there is.
+pub fn part(bytes: &[u8], offset: usize, size: usize) -> &[u8]
+    ensures bytes { λ r. ⌜ now r ≡ take size (drop offset (now (bytes .entry))) ⌝ }
+    ensures place { λ r. ⌜ r .ptr ≡ part-place (bytes .entry .ptr) (length (now (bytes .entry))) offset ⌝ }
+{
+    if bytes.len() <= offset {
+        return &bytes[..0];
+    }
+    front(&bytes[offset..], size)
+}
+
+// Zeroes every byte from a place on.
+pub fn clear_from(out: &mut [u8], at: usize)
+    ensures { λ r. ⌜ now (out .exit) ≡ take at (now (out .entry)) ++ replicate (length (now (out .entry)) - at) 0 ⌝ }
+{
+    let mut i = at;
+    while i < out.len() {
+        out[i] = 0;
+        i += 1;
+    }
 }

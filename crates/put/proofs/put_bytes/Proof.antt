@@ -1,13 +1,13 @@
--- `report::put::put_bytes` meets its contract: at each turn what is left of the bytes, put from where the buffer is, gives what all of them give.
+-- `put::put_bytes` meets its contract: at each turn what is left of the bytes, put from where the buffer is, gives what all of them give.
 -- Assumes nothing.
-use Rattle.report.proofs.Append.{left-on, left-none}
+use Rattle.put.proofs.Append.{left-on, left-none}
 use mathlib.Core.Path.{_≡_, sym, _∙_}
 use Prim.Native.Nat.{_≤_, _-_}
 use borrow.Author.Needs.{needs}
 use lib.ListN.{length, drop}
-use Rattle.report.specs.Append.{append}
-use Rattle.report.proofs.put.put_bytes.Statement.{statement}
-use Rattle.report.proofs.put.put_bytes.Tie as tie
+use Rattle.put.specs.Append.{append}
+use Rattle.put.proofs.put_bytes.Statement.{statement}
+use Rattle.put.proofs.put_bytes.Tie as tie
 
 abbrev Inv-loop : tie.InvT-loop
 Inv-loop out₀ at bytes next₀ i₀ out next i =

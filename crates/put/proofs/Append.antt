@@ -11,7 +11,7 @@ use lib.Dec.{ltb}
 use lib.ListN.{length, getD, set, take, drop, length-set, drop-of-length-le}
 use lib.Seq.{drop-cons, sets, sets-eq}
 use Rattle.data.proofs.Cases.{by-bool}
-use Rattle.report.specs.Append.{Wrote, wrote, append, and-then}
+use Rattle.put.specs.Append.{Wrote, wrote, append, and-then}
 
 -- where there is room for none, none is put
 pub append-stops : (out : List ℕ) (at : ℕ) (bs : List ℕ) → ltb at (length out) ≡ false → append out at bs ≡ wrote at out

@@ -1,0 +1,26 @@
+-- Zeros from a place on, a byte at a time.
+-- Assumes nothing.
+use mathlib.Core.Path.{_≡_, sym, ap, _∙_}
+use mathlib.Core.List.{List, [], _∷_, _++_, append-nil}
+use Prim.Native.Nat.{ℕ, suc, _+_, _-_, _<_, _≤_}
+use native.Mathlib.Numerals.{add-one}
+use native.Mathlib.Omega.{arith}
+use lib.ListN.{length, take, set, replicate}
+use lib.Seq.{take-all, take-suc-set, append-snoc}
+
+-- a list with zeros from a place on
+abbrev pub zeroed : List ℕ → ℕ → List ℕ
+zeroed bytes at = take at bytes ++ replicate (length bytes - at) 0
+
+-- one byte is zeroed, and then those behind it
+pub zero-on : (bytes : List ℕ) (i n : ℕ) → i < length bytes → n ≡ length bytes
+    → take (i + 1) (set bytes i 0) ++ replicate (n - (i + 1)) 0 ≡ zeroed bytes i
+zero-on bytes i n h e =
+    let left : length bytes - i ≡ suc (length bytes - (i + 1)) = omega arith in
+    rw (e, add-one i, take-suc-set bytes i 0 h, ← add-one i, left) (append-snoc (take i bytes) 0 _)
+
+-- and past the last there is nothing to zero
+pub zero-none : (bytes : List ℕ) (i : ℕ) → length bytes ≤ i → bytes ≡ zeroed bytes i
+zero-none bytes i h =
+    let none : length bytes - i ≡ 0 = omega arith in
+    rw (none, take-all i bytes h) (sym (append-nil bytes))

@@ -1,0 +1,11 @@
+pub mod Forest
+pub mod Pieces
+pub mod Dues
+pub mod Text
+pub mod Form
+pub mod Levels
+pub mod Ranges
+pub mod Scans
+pub mod Alike
+pub mod Refusals
+pub mod Write

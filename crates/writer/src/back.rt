@@ -1,0 +1,123 @@
+// Whether a text, parsed, gives the tokens of a sheet: the same codes, words and scalar bytes, offsets aside.
+use machine::Parsed;
+use put::part;
+use tape::token;
+use tape::token::ScalarNamed;
+use tape::token::Token;
+use tape::words;
+ghost use mathlib.Core.Path.{_≡_};
+ghost use Prim.Native.Nat.{_≤_};
+ghost use lib.ListN.{length};
+ghost use Rattle.tape.specs.Words.{words-for, tokens-in};
+ghost use Rattle.parse.specs.Parse.{parse-of};
+ghost use Rattle.writer.specs.Alike.{same-bytes, same-view, same-words, same-token, found-alike, comes-back};
+ghost use Rattle.writer.specs.Write.{zeros};
+
+// Whether two runs of bytes are the same.
+fn same_bytes(a: &[u8], b: &[u8]) -> bool
+    ensures { λ r. ⌜ r ≡ same-bytes (now (a .entry)) (now (b .entry)) ⌝ }
+{
+    if a.len() != b.len() {
+        return false;
+    }
+    let mut i = 0;
+    while i < a.len() {
+        if a[i] != b[i] {
+            return false;
+        }
+        i += 1;
+    }
+    true
+}
+
+// Whether two scalars view the same bytes, each in its own text.
+fn same_view(text: &[u8], other: &[u8], x: Token, y: Token) -> bool
+    ensures { λ r. ⌜ r ≡ same-view (now (text .entry)) (now (other .entry)) x y ⌝ }
+{
+    if x.b != y.b {
+        return false;
+    }
+    let viewed = part(text, x.a as usize, x.b as usize);
+    same_bytes(viewed, part(other, y.a as usize, y.b as usize))
+}
+
+// Whether two tokens that are no scalars have the same words.
+fn same_words(x: Token, y: Token) -> bool
+    ensures { λ r. ⌜ r ≡ same-words x y ⌝ }
+{
+    if x.a != y.a {
+        return false;
+    }
+    x.b == y.b
+}
+
+// Whether two tokens are the same, each over its own text.
+fn same_token(text: &[u8], other: &[u8], x: Token, y: Token) -> bool
+    ensures { λ r. ⌜ r ≡ same-token (now (text .entry)) (now (other .entry)) x y ⌝ }
+{
+    if x.code != y.code {
+        return false;
+    }
+    match token::scalar_named(x.code) {
+        ScalarNamed::Kind(_) => same_view(text, other, x, y),
+        ScalarNamed::Nothing => same_words(x, y),
+    }
+}
+
+// Whether so many tokens that were found are a sheet's, each over its own text.
+fn alike(
+    text: &[u8],
+    other: &[u8],
+    words: &[u32],
+    count: usize,
+    tape: &[u32],
+    found: usize,
+) -> bool
+    requires { ⌜ words-for count ≤ length (now words) ⌝ }
+    ensures { λ r. ⌜ r ≡ found-alike (now (text .entry)) (now (other .entry)) (tokens-in (now (words .entry)) count) found (now (tape .entry)) ⌝ }
+{
+    if found != count {
+        return false;
+    }
+    if !words::holds(tape, count) {
+        return false;
+    }
+    let mut i = 0;
+    while i < count {
+        let x = words::token_of(words, count, i);
+        if !same_token(text, other, x, words::token_of(tape, count, i)) {
+            return false;
+        }
+        i += 1;
+    }
+    true
+}
+
+// Whether another text, parsed, gives a sheet's tokens. The scratch is the parse's tape, and is zero afterwards.
+pub(crate) fn comes_back(
+    text: &[u8],
+    words: &[u32],
+    count: usize,
+    other: &[u8],
+    scratch: &mut [u32],
+) -> bool
+    requires { ⌜ words-for count ≤ length (now words) ⌝ }
+    ensures told { λ r. ⌜ r ≡ comes-back (now (text .entry)) (now (other .entry)) (tokens-in (now (words .entry)) count)
+        (parse-of (now (other .entry)) (length (now (scratch .entry)))) ⌝ }
+    ensures clear { λ r. ⌜ now (scratch .exit) ≡ zeros (length (now (scratch .entry))) ⌝ }
+{
+    match parse::parse(other, scratch) {
+        Parsed::Tokens {
+            count: found,
+            bom: _,
+        } => {
+            let same = alike(text, other, words, count, scratch, found as usize);
+            words::clear_from(scratch, 0);
+            same
+        }
+        Parsed::Refused(_) => {
+            words::clear_from(scratch, 0);
+            false
+        }
+    }
+}
