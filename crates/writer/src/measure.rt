@@ -34,7 +34,8 @@ fn lead_size(first: bool) -> usize
 
 // How many bytes an operator's sign has.
 fn sign_size(number: u32) -> usize
-    ensures { λ r. ⌜ r ≡ length (sign-bytes number) ⌝ }
+    ensures exact { λ r. ⌜ r ≡ length (sign-bytes number) ⌝ }
+    ensures small { λ r. ⌜ r ≤ 2 ⌝ }
 {
     match operator::operator_numbered(number) {
         Numbered::Is(operator) => {

@@ -1,0 +1,41 @@
+-- What is left in what was lent.
+-- Assumes nothing.
+use mathlib.Core.Path.{_≡_, refl, sym, _∙_, ap}
+use mathlib.Core.Bool.{Bool, true, false}
+use mathlib.Core.List.{List, [], _∷_, _++_}
+use Prim.Native.Nat.{ℕ, _-_}
+use native.Mathlib.Nat.{sub-zero}
+use lib.ListN.{length, take, replicate}
+use Rattle.tape.specs.declared.token.Token.{Token}
+use Rattle.tape.specs.Words.{tokens-in, words-of, padded, cleared}
+use Rattle.machine.specs.declared.Parsed.{Parsed}
+use Rattle.machine.specs.declared.Parsed.the-variants.{Tokens, Refused}
+use Rattle.machine.specs.declared.Refusal as parsing
+use Rattle.machine.specs.Finish.{Outcome, outcome}
+use Rattle.writer.specs.Alike.{found-alike, comes-back}
+use Rattle.writer.specs.declared.Refusal.{Refusal}
+use Rattle.writer.specs.declared.Written.the-variants as Written
+use Rattle.writer.specs.Write.{left, zeros, refuse}
+use Rattle.writer.proofs.Told.{as-told}
+
+-- a tape that is cleared from its first token on is zero
+pub tape-cleared : (ws : List ℕ) {out : List ℕ} {n : ℕ} → out ≡ cleared ws 0 → length ws ≡ n → out ≡ zeros n
+unfolding cleared padded tokens-in words-of
+tape-cleared ws e h = e ∙ ap zeros (sub-zero (length ws) ∙ h)
+
+-- and so is a buffer that is cleared from its first byte on
+pub buffer-cleared : (bytes : List ℕ) {out : List ℕ} {n : ℕ} → out ≡ take 0 bytes ++ replicate (length bytes - 0) 0 → length bytes ≡ n → out ≡ zeros n
+buffer-cleared bytes e h = e ∙ ap zeros (sub-zero (length bytes) ∙ h)
+
+-- what a parse tells of the way back
+module _ (text other : List ℕ) (ts : List Token) {p : Parsed} {tape : List ℕ} {o : Outcome} (told : outcome p tape ≡ o) where
+  pub back-found : {n : ℕ} {bom r : Bool} → p ≡ Tokens n bom → r ≡ found-alike text other ts n tape → r ≡ comes-back text other ts o
+  back-found f g = as-told (comes-back text other ts) g (sym told ∙ ap (λ (q : Parsed). outcome q tape) f)
+
+  pub back-refused : {why : parsing.Refusal} → p ≡ Refused why → false ≡ comes-back text other ts o
+  back-refused f = as-told (comes-back text other ts) refl (sym told ∙ ap (λ (q : Parsed). outcome q tape) f)
+
+-- a refusal over what is all zero
+pub refused-left : (why : Refusal) (room scratch : ℕ) {out tape : List ℕ} → out ≡ zeros room → tape ≡ zeros scratch
+    → left (Written.Refused why) out tape ≡ refuse room scratch why
+refused-left why room scratch e f = rw (e, f)

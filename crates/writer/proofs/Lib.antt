@@ -1,0 +1,7 @@
+pub mod Told
+pub mod Sizes
+pub mod Grown
+pub mod Puts
+pub mod Same
+pub mod Left
+pub mod Walks

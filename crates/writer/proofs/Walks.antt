@@ -1,0 +1,140 @@
+-- A body taken a direct token at a time: what stands at i, and the rest behind it.
+-- Assumes nothing.
+use mathlib.Core.Path.{_≡_, refl, sym, _∙_, ap, subst}
+use mathlib.Core.Bool.{Bool, true, false, _&&_}
+use mathlib.Core.List.{List, [], _∷_, _++_, append-assoc}
+use Prim.Native.Nat.{ℕ, _+_, _≤_, _<_}
+use native.Mathlib.Omega.{arith}
+use Rattle.tape.specs.declared.token.Token.{Token}
+use Rattle.tape.specs.declared.token.ContainerKind.{ContainerKind}
+use Rattle.tape.specs.declared.token.ScalarKind.{ScalarKind}
+use Rattle.tape.specs.declared.token.ScalarKind.the-variants.{Unquoted, Quoted, Parameter, UndefinedParameter, Header, QuotedEscape}
+use Rattle.tape.specs.declared.token.Container.the-variants.{Opened, Nothing}
+use Rattle.tape.specs.declared.shape.Shape as Shape
+use Rattle.tape.specs.Token.{nth, container-of, opener-of}
+use Rattle.tape.specs.Shape.{shape-of}
+use Rattle.tape.proofs.Makers.{opener-container}
+use Rattle.writer.specs.declared.dues.Due.{Due}
+use Rattle.writer.specs.declared.pieces.Piece.{Piece}
+use Rattle.writer.specs.declared.pieces.Piece.the-variants.{Scalar, Heading, Sign, Mixed, Opener, Other}
+use Rattle.writer.specs.Forest.{Forest, leaf, box, stretch}
+use Rattle.writer.specs.Pieces.{scalar-piece, bare-piece, piece-of}
+use Rattle.writer.specs.Dues.{due-in, due-after, after-container}
+use Rattle.writer.specs.Form.{takes, takes-entry}
+use Rattle.writer.specs.Text.{lead, still-first, piece-text, braced, body-text}
+use Rattle.writer.specs.Ranges.{Range, behind, body-form, Inside, inside-form, token-text}
+use Rattle.writer.proofs.Grown.{by-token, stretch-leaf, stretch-box}
+
+-- ---- what a token is to the writer, by whether it opens something
+pub opener-piece : (x : Token) (kind : ContainerKind) (e : ℕ) (flag : Bool) → x ≡ opener-of kind e flag → piece-of x ≡ Opener kind e
+unfolding piece-of
+opener-piece x kind e flag o = rw (piece-of, ap container-of o ∙ opener-container kind e flag)
+
+pub leaf-piece : (x : Token) → container-of x ≡ Nothing → piece-of x ≡ bare-piece (shape-of x)
+unfolding piece-of
+leaf-piece x n = rw (piece-of, n)
+
+-- a piece that opens nothing
+pub data Bare : Piece → Type 0 where
+  scalar : (quoted : Bool) (offset size : ℕ) → Bare (Scalar quoted offset size)
+  heading : (offset size : ℕ) → Bare (Heading offset size)
+  sign : (number : ℕ) → Bare (Sign number)
+  mixed : Bare Mixed
+  other : Bare Other
+
+scalar-bare : (kind : ScalarKind) (offset size : ℕ) → Bare (scalar-piece kind offset size)
+scalar-bare Unquoted offset size = scalar false offset size
+scalar-bare Quoted offset size = scalar true offset size
+scalar-bare QuotedEscape offset size = scalar true offset size
+scalar-bare Header offset size = heading offset size
+scalar-bare Parameter offset size = other
+scalar-bare UndefinedParameter offset size = other
+
+shape-bare : (s : Shape.Shape) → Bare (bare-piece s)
+shape-bare (Shape.the-variants.Scalar kind offset size) = scalar-bare kind offset size
+shape-bare (Shape.the-variants.Operator number) = sign number
+shape-bare Shape.the-variants.MixedContainer = mixed
+shape-bare (Shape.the-variants.Opener link) = other
+shape-bare (Shape.the-variants.End opener) = other
+shape-bare Shape.the-variants.Nothing = other
+
+pub leaf-bare : (x : Token) → container-of x ≡ Nothing → Bare (piece-of x)
+leaf-bare x n = subst Bare (sym (leaf-piece x n)) (shape-bare (shape-of x))
+
+-- it has no inside, and what follows it is next
+bare-behind : {p : Piece} → Bare p → (next : ℕ) → behind p next ≡ next
+unfolding behind
+bare-behind (scalar quoted offset size) next = refl
+bare-behind (heading offset size) next = refl
+bare-behind (sign number) next = refl
+bare-behind mixed next = refl
+bare-behind other next = refl
+
+bare-inside : {p : Piece} → Bare p → (ts : List Token) (from : ℕ) → Inside ts from p
+bare-inside (scalar quoted offset size) ts from = tt
+bare-inside (heading offset size) ts from = tt
+bare-inside (sign number) ts from = tt
+bare-inside mixed ts from = tt
+bare-inside other ts from = tt
+
+pub bare-text : {p : Piece} → Bare p → (text : List ℕ) (ts : List Token) (from : ℕ) (first : Bool) (due : Due)
+    → token-text text ts from first due p ≡ piece-text text first due p
+unfolding token-text piece-text
+bare-text (scalar quoted offset size) text ts from first due = refl
+bare-text (heading offset size) text ts from first due = refl
+bare-text (sign number) text ts from first due = refl
+bare-text mixed text ts from first due = refl
+bare-text other text ts from first due = refl
+
+-- ---- what stands at i of a part of a sheet
+module _ (ts : List Token) (i j : ℕ) (b : Range ts i j) (h : i < j) where
+  abbrev here : Piece
+  here = piece-of (nth ts i)
+
+  abbrev on : ℕ
+  on = behind here (i + 1)
+
+  -- the part behind it
+  pub range-behind : Range ts on j
+  unfolding behind
+  range-behind =
+      by-token ts i j b h
+      (λ kind flag e o l m c inner rest. rw (opener-piece (nth ts i) kind e flag o) rest)
+      (λ n rest. rw (bare-behind (leaf-bare (nth ts i) n) (i + 1)) rest)
+
+  -- is shorter
+  pub ahead : (i < on) × (on ≤ j)
+  unfolding behind
+  ahead =
+      by-token ts i j b h
+      (λ kind flag e o l m c inner rest. rw (opener-piece (nth ts i) kind e flag o) (omega (arith, l), omega (arith, m)))
+      (λ n rest. rw (bare-behind (leaf-bare (nth ts i) n) (i + 1)) (omega arith, omega (arith, h)))
+
+  -- and what stands inside can be walked
+  pub range-inside : Inside ts (i + 1) here
+  range-inside =
+      by-token ts i j b h
+      (λ kind flag e o l m c inner rest. rw (opener-piece (nth ts i) kind e flag o) (inner, omega (arith, l)))
+      (λ n rest. bare-inside (leaf-bare (nth ts i) n) ts (i + 1))
+
+  -- the text: the token's, and that of the rest
+  pub text-on : (text : List ℕ) (first : Bool) (due : Due)
+      → body-text (stretch ts i j) text first due
+      ≡ token-text text ts (i + 1) first due here ++ body-text (stretch ts on j) text (still-first first here) (due-after due here)
+  unfolding body-text behind token-text due-after
+  text-on text first due =
+      by-token ts i j b h
+      (λ kind flag e o l m c inner rest.
+      rw (stretch-box ts i j kind e flag b h o, opener-piece (nth ts i) kind e flag o)
+      (sym (append-assoc (lead first due false) (braced (body-text (stretch ts (i + 1) e) text true (due-in kind))) _)))
+      (λ n rest.
+      let bare = leaf-bare (nth ts i) n in
+      rw (stretch-leaf ts i j h n, bare-text bare text ts (i + 1) first due, bare-behind bare (i + 1)))
+
+  -- the form likewise
+  pub form-on : (due : Due) → body-form (stretch ts i j) due ≡ (takes due here && body-form (stretch ts on j) (due-after due here))
+  unfolding body-form behind takes due-after
+  form-on due =
+      by-token ts i j b h
+      (λ kind flag e o l m c inner rest. rw (stretch-box ts i j kind e flag b h o, opener-piece (nth ts i) kind e flag o))
+      (λ n rest. rw (stretch-leaf ts i j h n, bare-behind (leaf-bare (nth ts i) n) (i + 1)))

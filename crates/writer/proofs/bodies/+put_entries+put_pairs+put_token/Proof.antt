@@ -1,0 +1,997 @@
+use Prim.Native.Nat.{ℕ, _<_}
+use borrow.Fn.Kinds.{In}
+use borrow.Fn.PlainCycle.{Measures, is, falls, and}
+use Rattle.writer.proofs.bodies.put_entries.Reads as put-entries
+use Rattle.writer.proofs.bodies.put_entries.Kinds as put-entries-kinds
+use Rattle.writer.proofs.bodies.+put_entries+put_pairs+put_token.Lts-put_entries as put-entries-lts
+use Rattle.writer.proofs.bodies.put_pairs.Reads as put-pairs
+use Rattle.writer.proofs.bodies.put_pairs.Kinds as put-pairs-kinds
+use Rattle.writer.proofs.bodies.+put_entries+put_pairs+put_token.Lts-put_pairs as put-pairs-lts
+use Rattle.writer.proofs.bodies.put_token.Reads as put-token
+use Rattle.writer.proofs.bodies.put_token.Kinds as put-token-kinds
+use Rattle.writer.proofs.bodies.+put_entries+put_pairs+put_token.Lts-put_token as put-token-lts
+use Rattle.put.proofs.put_byte.Reads as put-byte-reads
+use Rattle.tape.proofs.words.token_of.Reads as token-of-reads
+use Rattle.writer.proofs.bodies.is_mixed.Reads as is-mixed-reads
+use Rattle.writer.proofs.bodies.put_lead.Reads as put-lead-reads
+use Rattle.writer.proofs.bodies.put_piece.Reads as put-piece-reads
+use Rattle.writer.proofs.dues.due_after.Reads as due-after-reads
+use Rattle.writer.proofs.measure.still_first.Reads as still-first-reads
+use Rattle.writer.proofs.pieces.piece_of.Reads as piece-of-reads
+use Rattle.writer.proofs.ranges.behind.Reads as behind-reads
+use Rattle.writer.proofs.bodies.+put_entries+put_pairs+put_token.{statement}
+use Rattle.writer.proofs.bodies.+put_entries+put_pairs+put_token.Tie.{close}
+
+abbrev μ-put-entries : Measures 3 put-entries-kinds.ps ℕ
+μ-put-entries κs a = ?
+
+abbrev μ-put-pairs : Measures 3 put-pairs-kinds.ps ℕ
+μ-put-pairs κs a = ?
+
+abbrev μ-put-token : Measures 3 put-token-kinds.ps ℕ
+μ-put-token κs a = ?
+
+abbrev put-entries-at : ℕ → In 3 put-entries-kinds.ps
+put-entries-at t =
+    and 3 put-entries-kinds.ps (is 3 put-entries-kinds.ps μ-put-entries t) put-entries.Pre
+
+abbrev put-entries-below : ℕ → In 3 put-entries-kinds.ps
+put-entries-below t =
+    and 3 put-entries-kinds.ps (falls 3 put-entries-kinds.ps _<_ μ-put-entries t) put-entries.Pre
+
+abbrev put-pairs-at : ℕ → In 3 put-pairs-kinds.ps
+put-pairs-at t = and 3 put-pairs-kinds.ps (is 3 put-pairs-kinds.ps μ-put-pairs t) put-pairs.Pre
+
+abbrev put-pairs-below : ℕ → In 3 put-pairs-kinds.ps
+put-pairs-below t =
+    and 3 put-pairs-kinds.ps (falls 3 put-pairs-kinds.ps _<_ μ-put-pairs t) put-pairs.Pre
+
+abbrev put-token-at : ℕ → In 3 put-token-kinds.ps
+put-token-at t = and 3 put-token-kinds.ps (is 3 put-token-kinds.ps μ-put-token t) put-token.Pre
+
+abbrev put-token-below : ℕ → In 3 put-token-kinds.ps
+put-token-below t =
+    and 3 put-token-kinds.ps (falls 3 put-token-kinds.ps _<_ μ-put-token t) put-token.Pre
+
+abbrev put-entries-Inv-loop : put-entries-lts.InvT-loop
+put-entries-Inv-loop out₀ at text words count from end alone i₀ next₀ first₀ out i next first = ?
+
+abbrev put-entries-μ-loop : put-entries-lts.MeasureT-loop
+put-entries-μ-loop out₀ at text words count from end alone i₀ next₀ first₀ out i next first = ?
+
+-- src/bodies.rt:184:5
+put-entries-loop-holds : (t : ℕ) → put-entries-lts.Need-loop-holds (
+  token-of-reads.Asked,
+  token-of-reads.Learnt,
+  piece-of-reads.Asked,
+  piece-of-reads.Learnt,
+  put-token-below t,
+  put-token.Post,
+  still-first-reads.Asked,
+  still-first-reads.Learnt,
+  behind-reads.Asked,
+  behind-reads.Learnt,
+) (put-entries-at t) put-entries.Post put-entries-Inv-loop put-entries-μ-loop
+put-entries-loop-holds t c = ?
+
+-- src/bodies.rt:185:30
+put-entries-token-of-requires : (t : ℕ) → put-entries-lts.Need-token-of-requires (
+  token-of-reads.Asked,
+  token-of-reads.Learnt,
+  piece-of-reads.Asked,
+  piece-of-reads.Learnt,
+  put-token-below t,
+  put-token.Post,
+  still-first-reads.Asked,
+  still-first-reads.Learnt,
+  behind-reads.Asked,
+  behind-reads.Learnt,
+) (put-entries-at t) put-entries.Post put-entries-Inv-loop put-entries-μ-loop
+put-entries-token-of-requires t c κs = ?
+
+-- src/bodies.rt:185:13
+put-entries-piece-of-requires : (t : ℕ) → put-entries-lts.Need-piece-of-requires (
+  token-of-reads.Asked,
+  token-of-reads.Learnt,
+  piece-of-reads.Asked,
+  piece-of-reads.Learnt,
+  put-token-below t,
+  put-token.Post,
+  still-first-reads.Asked,
+  still-first-reads.Learnt,
+  behind-reads.Asked,
+  behind-reads.Learnt,
+) (put-entries-at t) put-entries.Post put-entries-Inv-loop put-entries-μ-loop
+put-entries-piece-of-requires t c κs = ?
+
+-- src/bodies.rt:186:57
+put-entries-add-put-token : (t : ℕ) → put-entries-lts.Need-add-put-token (
+  token-of-reads.Asked,
+  token-of-reads.Learnt,
+  piece-of-reads.Asked,
+  piece-of-reads.Learnt,
+  put-token-below t,
+  put-token.Post,
+  still-first-reads.Asked,
+  still-first-reads.Learnt,
+  behind-reads.Asked,
+  behind-reads.Learnt,
+) (put-entries-at t) put-entries.Post put-entries-Inv-loop put-entries-μ-loop
+put-entries-add-put-token t c = ?
+
+-- src/bodies.rt:186:9
+put-entries-put-token-requires : (t : ℕ) → put-entries-lts.Need-put-token-requires (
+  token-of-reads.Asked,
+  token-of-reads.Learnt,
+  piece-of-reads.Asked,
+  piece-of-reads.Learnt,
+  put-token-below t,
+  put-token.Post,
+  still-first-reads.Asked,
+  still-first-reads.Learnt,
+  behind-reads.Asked,
+  behind-reads.Learnt,
+) (put-entries-at t) put-entries.Post put-entries-Inv-loop put-entries-μ-loop
+put-entries-put-token-requires t c κs = ?
+
+-- src/bodies.rt:187:9
+put-entries-still-first-requires : (t : ℕ) → put-entries-lts.Need-still-first-requires (
+  token-of-reads.Asked,
+  token-of-reads.Learnt,
+  piece-of-reads.Asked,
+  piece-of-reads.Learnt,
+  put-token-below t,
+  put-token.Post,
+  still-first-reads.Asked,
+  still-first-reads.Learnt,
+  behind-reads.Asked,
+  behind-reads.Learnt,
+) (put-entries-at t) put-entries.Post put-entries-Inv-loop put-entries-μ-loop
+put-entries-still-first-requires t c κs = ?
+
+-- src/bodies.rt:188:27
+put-entries-add-behind : (t : ℕ) → put-entries-lts.Need-add-behind (
+  token-of-reads.Asked,
+  token-of-reads.Learnt,
+  piece-of-reads.Asked,
+  piece-of-reads.Learnt,
+  put-token-below t,
+  put-token.Post,
+  still-first-reads.Asked,
+  still-first-reads.Learnt,
+  behind-reads.Asked,
+  behind-reads.Learnt,
+) (put-entries-at t) put-entries.Post put-entries-Inv-loop put-entries-μ-loop
+put-entries-add-behind t c = ?
+
+-- src/bodies.rt:188:9
+put-entries-behind-requires : (t : ℕ) → put-entries-lts.Need-behind-requires (
+  token-of-reads.Asked,
+  token-of-reads.Learnt,
+  piece-of-reads.Asked,
+  piece-of-reads.Learnt,
+  put-token-below t,
+  put-token.Post,
+  still-first-reads.Asked,
+  still-first-reads.Learnt,
+  behind-reads.Asked,
+  behind-reads.Learnt,
+) (put-entries-at t) put-entries.Post put-entries-Inv-loop put-entries-μ-loop
+put-entries-behind-requires t c κs = ?
+
+-- src/bodies.rt:184:5
+put-entries-loop-less : (t : ℕ) → put-entries-lts.Need-loop-less (
+  token-of-reads.Asked,
+  token-of-reads.Learnt,
+  piece-of-reads.Asked,
+  piece-of-reads.Learnt,
+  put-token-below t,
+  put-token.Post,
+  still-first-reads.Asked,
+  still-first-reads.Learnt,
+  behind-reads.Asked,
+  behind-reads.Learnt,
+) (put-entries-at t) put-entries.Post put-entries-Inv-loop put-entries-μ-loop
+put-entries-loop-less t c = ?
+
+-- src/bodies.rt:184:5
+put-entries-loop-again : (t : ℕ) → put-entries-lts.Need-loop-again (
+  token-of-reads.Asked,
+  token-of-reads.Learnt,
+  piece-of-reads.Asked,
+  piece-of-reads.Learnt,
+  put-token-below t,
+  put-token.Post,
+  still-first-reads.Asked,
+  still-first-reads.Learnt,
+  behind-reads.Asked,
+  behind-reads.Learnt,
+) (put-entries-at t) put-entries.Post put-entries-Inv-loop put-entries-μ-loop
+put-entries-loop-again t c = ?
+
+-- src/bodies.rt:167:1
+put-entries-same-length : (t : ℕ) → put-entries-lts.Need-same-length (
+  token-of-reads.Asked,
+  token-of-reads.Learnt,
+  piece-of-reads.Asked,
+  piece-of-reads.Learnt,
+  put-token-below t,
+  put-token.Post,
+  still-first-reads.Asked,
+  still-first-reads.Learnt,
+  behind-reads.Asked,
+  behind-reads.Learnt,
+) (put-entries-at t) put-entries.Post put-entries-Inv-loop put-entries-μ-loop
+put-entries-same-length t c = ?
+
+-- src/bodies.rt:167:1
+put-entries-returns : (t : ℕ) → put-entries-lts.Need-returns (
+  token-of-reads.Asked,
+  token-of-reads.Learnt,
+  piece-of-reads.Asked,
+  piece-of-reads.Learnt,
+  put-token-below t,
+  put-token.Post,
+  still-first-reads.Asked,
+  still-first-reads.Learnt,
+  behind-reads.Asked,
+  behind-reads.Learnt,
+) (put-entries-at t) put-entries.Post put-entries-Inv-loop put-entries-μ-loop
+put-entries-returns t c = ?
+
+abbrev put-pairs-Inv-loop : put-pairs-lts.InvT-loop
+put-pairs-Inv-loop out₀ at text words count from end i₀ next₀ first₀ due₀ out i next first due = ?
+
+abbrev put-pairs-μ-loop : put-pairs-lts.MeasureT-loop
+put-pairs-μ-loop out₀ at text words count from end i₀ next₀ first₀ due₀ out i next first due = ?
+
+-- src/bodies.rt:211:5
+put-pairs-loop-holds : (t : ℕ) → put-pairs-lts.Need-loop-holds (
+  token-of-reads.Asked,
+  token-of-reads.Learnt,
+  piece-of-reads.Asked,
+  piece-of-reads.Learnt,
+  is-mixed-reads.Asked,
+  is-mixed-reads.Learnt,
+  put-entries-below t,
+  put-entries.Post,
+  put-token-below t,
+  put-token.Post,
+  still-first-reads.Asked,
+  still-first-reads.Learnt,
+  due-after-reads.Asked,
+  due-after-reads.Learnt,
+  behind-reads.Asked,
+  behind-reads.Learnt,
+) (put-pairs-at t) put-pairs.Post put-pairs-Inv-loop put-pairs-μ-loop
+put-pairs-loop-holds t c = ?
+
+-- src/bodies.rt:212:30
+put-pairs-token-of-requires : (t : ℕ) → put-pairs-lts.Need-token-of-requires (
+  token-of-reads.Asked,
+  token-of-reads.Learnt,
+  piece-of-reads.Asked,
+  piece-of-reads.Learnt,
+  is-mixed-reads.Asked,
+  is-mixed-reads.Learnt,
+  put-entries-below t,
+  put-entries.Post,
+  put-token-below t,
+  put-token.Post,
+  still-first-reads.Asked,
+  still-first-reads.Learnt,
+  due-after-reads.Asked,
+  due-after-reads.Learnt,
+  behind-reads.Asked,
+  behind-reads.Learnt,
+) (put-pairs-at t) put-pairs.Post put-pairs-Inv-loop put-pairs-μ-loop
+put-pairs-token-of-requires t c κs = ?
+
+-- src/bodies.rt:212:13
+put-pairs-piece-of-requires : (t : ℕ) → put-pairs-lts.Need-piece-of-requires (
+  token-of-reads.Asked,
+  token-of-reads.Learnt,
+  piece-of-reads.Asked,
+  piece-of-reads.Learnt,
+  is-mixed-reads.Asked,
+  is-mixed-reads.Learnt,
+  put-entries-below t,
+  put-entries.Post,
+  put-token-below t,
+  put-token.Post,
+  still-first-reads.Asked,
+  still-first-reads.Learnt,
+  due-after-reads.Asked,
+  due-after-reads.Learnt,
+  behind-reads.Asked,
+  behind-reads.Learnt,
+) (put-pairs-at t) put-pairs.Post put-pairs-Inv-loop put-pairs-μ-loop
+put-pairs-piece-of-requires t c κs = ?
+
+-- src/bodies.rt:213:12
+put-pairs-is-mixed-requires : (t : ℕ) → put-pairs-lts.Need-is-mixed-requires (
+  token-of-reads.Asked,
+  token-of-reads.Learnt,
+  piece-of-reads.Asked,
+  piece-of-reads.Learnt,
+  is-mixed-reads.Asked,
+  is-mixed-reads.Learnt,
+  put-entries-below t,
+  put-entries.Post,
+  put-token-below t,
+  put-token.Post,
+  still-first-reads.Asked,
+  still-first-reads.Learnt,
+  due-after-reads.Asked,
+  due-after-reads.Learnt,
+  behind-reads.Asked,
+  behind-reads.Learnt,
+) (put-pairs-at t) put-pairs.Post put-pairs-Inv-loop put-pairs-μ-loop
+put-pairs-is-mixed-requires t c κs = ?
+
+-- src/bodies.rt:214:63
+put-pairs-add-put-entries : (t : ℕ) → put-pairs-lts.Need-add-put-entries (
+  token-of-reads.Asked,
+  token-of-reads.Learnt,
+  piece-of-reads.Asked,
+  piece-of-reads.Learnt,
+  is-mixed-reads.Asked,
+  is-mixed-reads.Learnt,
+  put-entries-below t,
+  put-entries.Post,
+  put-token-below t,
+  put-token.Post,
+  still-first-reads.Asked,
+  still-first-reads.Learnt,
+  due-after-reads.Asked,
+  due-after-reads.Learnt,
+  behind-reads.Asked,
+  behind-reads.Learnt,
+) (put-pairs-at t) put-pairs.Post put-pairs-Inv-loop put-pairs-μ-loop
+put-pairs-add-put-entries t c = ?
+
+-- src/bodies.rt:214:13
+put-pairs-put-entries-requires : (t : ℕ) → put-pairs-lts.Need-put-entries-requires (
+  token-of-reads.Asked,
+  token-of-reads.Learnt,
+  piece-of-reads.Asked,
+  piece-of-reads.Learnt,
+  is-mixed-reads.Asked,
+  is-mixed-reads.Learnt,
+  put-entries-below t,
+  put-entries.Post,
+  put-token-below t,
+  put-token.Post,
+  still-first-reads.Asked,
+  still-first-reads.Learnt,
+  due-after-reads.Asked,
+  due-after-reads.Learnt,
+  behind-reads.Asked,
+  behind-reads.Learnt,
+) (put-pairs-at t) put-pairs.Post put-pairs-Inv-loop put-pairs-μ-loop
+put-pairs-put-entries-requires t c κs = ?
+
+-- src/bodies.rt:214:13
+put-pairs-same-length : (t : ℕ) → put-pairs-lts.Need-same-length (
+  token-of-reads.Asked,
+  token-of-reads.Learnt,
+  piece-of-reads.Asked,
+  piece-of-reads.Learnt,
+  is-mixed-reads.Asked,
+  is-mixed-reads.Learnt,
+  put-entries-below t,
+  put-entries.Post,
+  put-token-below t,
+  put-token.Post,
+  still-first-reads.Asked,
+  still-first-reads.Learnt,
+  due-after-reads.Asked,
+  due-after-reads.Learnt,
+  behind-reads.Asked,
+  behind-reads.Learnt,
+) (put-pairs-at t) put-pairs.Post put-pairs-Inv-loop put-pairs-μ-loop
+put-pairs-same-length t c = ?
+
+-- src/bodies.rt:214:13
+put-pairs-returns : (t : ℕ) → put-pairs-lts.Need-returns (
+  token-of-reads.Asked,
+  token-of-reads.Learnt,
+  piece-of-reads.Asked,
+  piece-of-reads.Learnt,
+  is-mixed-reads.Asked,
+  is-mixed-reads.Learnt,
+  put-entries-below t,
+  put-entries.Post,
+  put-token-below t,
+  put-token.Post,
+  still-first-reads.Asked,
+  still-first-reads.Learnt,
+  due-after-reads.Asked,
+  due-after-reads.Learnt,
+  behind-reads.Asked,
+  behind-reads.Learnt,
+) (put-pairs-at t) put-pairs.Post put-pairs-Inv-loop put-pairs-μ-loop
+put-pairs-returns t c = ?
+
+-- src/bodies.rt:216:57
+put-pairs-add-put-token : (t : ℕ) → put-pairs-lts.Need-add-put-token (
+  token-of-reads.Asked,
+  token-of-reads.Learnt,
+  piece-of-reads.Asked,
+  piece-of-reads.Learnt,
+  is-mixed-reads.Asked,
+  is-mixed-reads.Learnt,
+  put-entries-below t,
+  put-entries.Post,
+  put-token-below t,
+  put-token.Post,
+  still-first-reads.Asked,
+  still-first-reads.Learnt,
+  due-after-reads.Asked,
+  due-after-reads.Learnt,
+  behind-reads.Asked,
+  behind-reads.Learnt,
+) (put-pairs-at t) put-pairs.Post put-pairs-Inv-loop put-pairs-μ-loop
+put-pairs-add-put-token t c = ?
+
+-- src/bodies.rt:216:9
+put-pairs-put-token-requires : (t : ℕ) → put-pairs-lts.Need-put-token-requires (
+  token-of-reads.Asked,
+  token-of-reads.Learnt,
+  piece-of-reads.Asked,
+  piece-of-reads.Learnt,
+  is-mixed-reads.Asked,
+  is-mixed-reads.Learnt,
+  put-entries-below t,
+  put-entries.Post,
+  put-token-below t,
+  put-token.Post,
+  still-first-reads.Asked,
+  still-first-reads.Learnt,
+  due-after-reads.Asked,
+  due-after-reads.Learnt,
+  behind-reads.Asked,
+  behind-reads.Learnt,
+) (put-pairs-at t) put-pairs.Post put-pairs-Inv-loop put-pairs-μ-loop
+put-pairs-put-token-requires t c κs = ?
+
+-- src/bodies.rt:217:9
+put-pairs-still-first-requires : (t : ℕ) → put-pairs-lts.Need-still-first-requires (
+  token-of-reads.Asked,
+  token-of-reads.Learnt,
+  piece-of-reads.Asked,
+  piece-of-reads.Learnt,
+  is-mixed-reads.Asked,
+  is-mixed-reads.Learnt,
+  put-entries-below t,
+  put-entries.Post,
+  put-token-below t,
+  put-token.Post,
+  still-first-reads.Asked,
+  still-first-reads.Learnt,
+  due-after-reads.Asked,
+  due-after-reads.Learnt,
+  behind-reads.Asked,
+  behind-reads.Learnt,
+) (put-pairs-at t) put-pairs.Post put-pairs-Inv-loop put-pairs-μ-loop
+put-pairs-still-first-requires t c κs = ?
+
+-- src/bodies.rt:218:9
+put-pairs-due-after-requires : (t : ℕ) → put-pairs-lts.Need-due-after-requires (
+  token-of-reads.Asked,
+  token-of-reads.Learnt,
+  piece-of-reads.Asked,
+  piece-of-reads.Learnt,
+  is-mixed-reads.Asked,
+  is-mixed-reads.Learnt,
+  put-entries-below t,
+  put-entries.Post,
+  put-token-below t,
+  put-token.Post,
+  still-first-reads.Asked,
+  still-first-reads.Learnt,
+  due-after-reads.Asked,
+  due-after-reads.Learnt,
+  behind-reads.Asked,
+  behind-reads.Learnt,
+) (put-pairs-at t) put-pairs.Post put-pairs-Inv-loop put-pairs-μ-loop
+put-pairs-due-after-requires t c κs = ?
+
+-- src/bodies.rt:219:27
+put-pairs-add-behind : (t : ℕ) → put-pairs-lts.Need-add-behind (
+  token-of-reads.Asked,
+  token-of-reads.Learnt,
+  piece-of-reads.Asked,
+  piece-of-reads.Learnt,
+  is-mixed-reads.Asked,
+  is-mixed-reads.Learnt,
+  put-entries-below t,
+  put-entries.Post,
+  put-token-below t,
+  put-token.Post,
+  still-first-reads.Asked,
+  still-first-reads.Learnt,
+  due-after-reads.Asked,
+  due-after-reads.Learnt,
+  behind-reads.Asked,
+  behind-reads.Learnt,
+) (put-pairs-at t) put-pairs.Post put-pairs-Inv-loop put-pairs-μ-loop
+put-pairs-add-behind t c = ?
+
+-- src/bodies.rt:219:9
+put-pairs-behind-requires : (t : ℕ) → put-pairs-lts.Need-behind-requires (
+  token-of-reads.Asked,
+  token-of-reads.Learnt,
+  piece-of-reads.Asked,
+  piece-of-reads.Learnt,
+  is-mixed-reads.Asked,
+  is-mixed-reads.Learnt,
+  put-entries-below t,
+  put-entries.Post,
+  put-token-below t,
+  put-token.Post,
+  still-first-reads.Asked,
+  still-first-reads.Learnt,
+  due-after-reads.Asked,
+  due-after-reads.Learnt,
+  behind-reads.Asked,
+  behind-reads.Learnt,
+) (put-pairs-at t) put-pairs.Post put-pairs-Inv-loop put-pairs-μ-loop
+put-pairs-behind-requires t c κs = ?
+
+-- src/bodies.rt:211:5
+put-pairs-loop-less : (t : ℕ) → put-pairs-lts.Need-loop-less (
+  token-of-reads.Asked,
+  token-of-reads.Learnt,
+  piece-of-reads.Asked,
+  piece-of-reads.Learnt,
+  is-mixed-reads.Asked,
+  is-mixed-reads.Learnt,
+  put-entries-below t,
+  put-entries.Post,
+  put-token-below t,
+  put-token.Post,
+  still-first-reads.Asked,
+  still-first-reads.Learnt,
+  due-after-reads.Asked,
+  due-after-reads.Learnt,
+  behind-reads.Asked,
+  behind-reads.Learnt,
+) (put-pairs-at t) put-pairs.Post put-pairs-Inv-loop put-pairs-μ-loop
+put-pairs-loop-less t c = ?
+
+-- src/bodies.rt:211:5
+put-pairs-loop-again : (t : ℕ) → put-pairs-lts.Need-loop-again (
+  token-of-reads.Asked,
+  token-of-reads.Learnt,
+  piece-of-reads.Asked,
+  piece-of-reads.Learnt,
+  is-mixed-reads.Asked,
+  is-mixed-reads.Learnt,
+  put-entries-below t,
+  put-entries.Post,
+  put-token-below t,
+  put-token.Post,
+  still-first-reads.Asked,
+  still-first-reads.Learnt,
+  due-after-reads.Asked,
+  due-after-reads.Learnt,
+  behind-reads.Asked,
+  behind-reads.Learnt,
+) (put-pairs-at t) put-pairs.Post put-pairs-Inv-loop put-pairs-μ-loop
+put-pairs-loop-again t c = ?
+
+-- src/bodies.rt:194:1
+put-pairs-same-length-2 : (t : ℕ) → put-pairs-lts.Need-same-length-2 (
+  token-of-reads.Asked,
+  token-of-reads.Learnt,
+  piece-of-reads.Asked,
+  piece-of-reads.Learnt,
+  is-mixed-reads.Asked,
+  is-mixed-reads.Learnt,
+  put-entries-below t,
+  put-entries.Post,
+  put-token-below t,
+  put-token.Post,
+  still-first-reads.Asked,
+  still-first-reads.Learnt,
+  due-after-reads.Asked,
+  due-after-reads.Learnt,
+  behind-reads.Asked,
+  behind-reads.Learnt,
+) (put-pairs-at t) put-pairs.Post put-pairs-Inv-loop put-pairs-μ-loop
+put-pairs-same-length-2 t c = ?
+
+-- src/bodies.rt:194:1
+put-pairs-returns-2 : (t : ℕ) → put-pairs-lts.Need-returns-2 (
+  token-of-reads.Asked,
+  token-of-reads.Learnt,
+  piece-of-reads.Asked,
+  piece-of-reads.Learnt,
+  is-mixed-reads.Asked,
+  is-mixed-reads.Learnt,
+  put-entries-below t,
+  put-entries.Post,
+  put-token-below t,
+  put-token.Post,
+  still-first-reads.Asked,
+  still-first-reads.Learnt,
+  due-after-reads.Asked,
+  due-after-reads.Learnt,
+  behind-reads.Asked,
+  behind-reads.Learnt,
+) (put-pairs-at t) put-pairs.Post put-pairs-Inv-loop put-pairs-μ-loop
+put-pairs-returns-2 t c = ?
+
+-- src/bodies.rt:149:25
+put-token-enum-known-piece : (t : ℕ) → put-token-lts.Need-enum-known-piece (
+  put-piece-reads.Asked,
+  put-piece-reads.Learnt,
+  put-lead-reads.Asked,
+  put-lead-reads.Learnt,
+  put-byte-reads.Asked,
+  put-byte-reads.Learnt,
+  put-entries-below t,
+  put-entries.Post,
+  put-pairs-below t,
+  put-pairs.Post,
+) (put-token-at t) put-token.Post
+put-token-enum-known-piece t c = ?
+
+-- src/bodies.rt:150:9
+put-token-put-piece-requires : (t : ℕ) → put-token-lts.Need-put-piece-requires (
+  put-piece-reads.Asked,
+  put-piece-reads.Learnt,
+  put-lead-reads.Asked,
+  put-lead-reads.Learnt,
+  put-byte-reads.Asked,
+  put-byte-reads.Learnt,
+  put-entries-below t,
+  put-entries.Post,
+  put-pairs-below t,
+  put-pairs.Post,
+) (put-token-at t) put-token.Post
+put-token-put-piece-requires t c κs = ?
+
+-- src/bodies.rt:150:9
+put-token-same-length : (t : ℕ) → put-token-lts.Need-same-length (
+  put-piece-reads.Asked,
+  put-piece-reads.Learnt,
+  put-lead-reads.Asked,
+  put-lead-reads.Learnt,
+  put-byte-reads.Asked,
+  put-byte-reads.Learnt,
+  put-entries-below t,
+  put-entries.Post,
+  put-pairs-below t,
+  put-pairs.Post,
+) (put-token-at t) put-token.Post
+put-token-same-length t c = ?
+
+-- src/bodies.rt:150:9
+put-token-returns : (t : ℕ) → put-token-lts.Need-returns (
+  put-piece-reads.Asked,
+  put-piece-reads.Learnt,
+  put-lead-reads.Asked,
+  put-lead-reads.Learnt,
+  put-byte-reads.Asked,
+  put-byte-reads.Learnt,
+  put-entries-below t,
+  put-entries.Post,
+  put-pairs-below t,
+  put-pairs.Post,
+) (put-token-at t) put-token.Post
+put-token-returns t c = ?
+
+-- src/bodies.rt:152:9
+put-token-put-lead-requires : (t : ℕ) → put-token-lts.Need-put-lead-requires (
+  put-piece-reads.Asked,
+  put-piece-reads.Learnt,
+  put-lead-reads.Asked,
+  put-lead-reads.Learnt,
+  put-byte-reads.Asked,
+  put-byte-reads.Learnt,
+  put-entries-below t,
+  put-entries.Post,
+  put-pairs-below t,
+  put-pairs.Post,
+) (put-token-at t) put-token.Post
+put-token-put-lead-requires t c κs = ?
+
+-- src/bodies.rt:153:9
+put-token-put-byte-requires : (t : ℕ) → put-token-lts.Need-put-byte-requires (
+  put-piece-reads.Asked,
+  put-piece-reads.Learnt,
+  put-lead-reads.Asked,
+  put-lead-reads.Learnt,
+  put-byte-reads.Asked,
+  put-byte-reads.Learnt,
+  put-entries-below t,
+  put-entries.Post,
+  put-pairs-below t,
+  put-pairs.Post,
+) (put-token-at t) put-token.Post
+put-token-put-byte-requires t c κs = ?
+
+-- src/bodies.rt:156:37
+put-token-enum-told : (t : ℕ) → put-token-lts.Need-enum-told (
+  put-piece-reads.Asked,
+  put-piece-reads.Learnt,
+  put-lead-reads.Asked,
+  put-lead-reads.Learnt,
+  put-byte-reads.Asked,
+  put-byte-reads.Learnt,
+  put-entries-below t,
+  put-entries.Post,
+  put-pairs-below t,
+  put-pairs.Post,
+) (put-token-at t) put-token.Post
+put-token-enum-told t c = ?
+
+-- src/bodies.rt:156:74
+put-token-cast-put-entries : (t : ℕ) → put-token-lts.Need-cast-put-entries (
+  put-piece-reads.Asked,
+  put-piece-reads.Learnt,
+  put-lead-reads.Asked,
+  put-lead-reads.Learnt,
+  put-byte-reads.Asked,
+  put-byte-reads.Learnt,
+  put-entries-below t,
+  put-entries.Post,
+  put-pairs-below t,
+  put-pairs.Post,
+) (put-token-at t) put-token.Post
+put-token-cast-put-entries t c = ?
+
+-- src/bodies.rt:156:17
+put-token-put-entries-requires : (t : ℕ) → put-token-lts.Need-put-entries-requires (
+  put-piece-reads.Asked,
+  put-piece-reads.Learnt,
+  put-lead-reads.Asked,
+  put-lead-reads.Learnt,
+  put-byte-reads.Asked,
+  put-byte-reads.Learnt,
+  put-entries-below t,
+  put-entries.Post,
+  put-pairs-below t,
+  put-pairs.Post,
+) (put-token-at t) put-token.Post
+put-token-put-entries-requires t c κs = ?
+
+-- src/bodies.rt:157:13
+put-token-put-byte-requires-2 : (t : ℕ) → put-token-lts.Need-put-byte-requires-2 (
+  put-piece-reads.Asked,
+  put-piece-reads.Learnt,
+  put-lead-reads.Asked,
+  put-lead-reads.Learnt,
+  put-byte-reads.Asked,
+  put-byte-reads.Learnt,
+  put-entries-below t,
+  put-entries.Post,
+  put-pairs-below t,
+  put-pairs.Post,
+) (put-token-at t) put-token.Post
+put-token-put-byte-requires-2 t c κs = ?
+
+-- src/bodies.rt:160:35
+put-token-enum-told-2 : (t : ℕ) → put-token-lts.Need-enum-told-2 (
+  put-piece-reads.Asked,
+  put-piece-reads.Learnt,
+  put-lead-reads.Asked,
+  put-lead-reads.Learnt,
+  put-byte-reads.Asked,
+  put-byte-reads.Learnt,
+  put-entries-below t,
+  put-entries.Post,
+  put-pairs-below t,
+  put-pairs.Post,
+) (put-token-at t) put-token.Post
+put-token-enum-told-2 t c = ?
+
+-- src/bodies.rt:160:72
+put-token-cast-put-pairs : (t : ℕ) → put-token-lts.Need-cast-put-pairs (
+  put-piece-reads.Asked,
+  put-piece-reads.Learnt,
+  put-lead-reads.Asked,
+  put-lead-reads.Learnt,
+  put-byte-reads.Asked,
+  put-byte-reads.Learnt,
+  put-entries-below t,
+  put-entries.Post,
+  put-pairs-below t,
+  put-pairs.Post,
+) (put-token-at t) put-token.Post
+put-token-cast-put-pairs t c = ?
+
+-- src/bodies.rt:160:17
+put-token-put-pairs-requires : (t : ℕ) → put-token-lts.Need-put-pairs-requires (
+  put-piece-reads.Asked,
+  put-piece-reads.Learnt,
+  put-lead-reads.Asked,
+  put-lead-reads.Learnt,
+  put-byte-reads.Asked,
+  put-byte-reads.Learnt,
+  put-entries-below t,
+  put-entries.Post,
+  put-pairs-below t,
+  put-pairs.Post,
+) (put-token-at t) put-token.Post
+put-token-put-pairs-requires t c κs = ?
+
+-- src/bodies.rt:161:13
+put-token-put-byte-requires-3 : (t : ℕ) → put-token-lts.Need-put-byte-requires-3 (
+  put-piece-reads.Asked,
+  put-piece-reads.Learnt,
+  put-lead-reads.Asked,
+  put-lead-reads.Learnt,
+  put-byte-reads.Asked,
+  put-byte-reads.Learnt,
+  put-entries-below t,
+  put-entries.Post,
+  put-pairs-below t,
+  put-pairs.Post,
+) (put-token-at t) put-token.Post
+put-token-put-byte-requires-3 t c κs = ?
+
+-- src/bodies.rt:134:1
+put-token-same-length-2 : (t : ℕ) → put-token-lts.Need-same-length-2 (
+  put-piece-reads.Asked,
+  put-piece-reads.Learnt,
+  put-lead-reads.Asked,
+  put-lead-reads.Learnt,
+  put-byte-reads.Asked,
+  put-byte-reads.Learnt,
+  put-entries-below t,
+  put-entries.Post,
+  put-pairs-below t,
+  put-pairs.Post,
+) (put-token-at t) put-token.Post
+put-token-same-length-2 t c = ?
+
+-- src/bodies.rt:134:1
+put-token-returns-2 : (t : ℕ) → put-token-lts.Need-returns-2 (
+  put-piece-reads.Asked,
+  put-piece-reads.Learnt,
+  put-lead-reads.Asked,
+  put-lead-reads.Learnt,
+  put-byte-reads.Asked,
+  put-byte-reads.Learnt,
+  put-entries-below t,
+  put-entries.Post,
+  put-pairs-below t,
+  put-pairs.Post,
+) (put-token-at t) put-token.Post
+put-token-returns-2 t c = ?
+
+-- src/bodies.rt:134:1
+put-token-same-length-3 : (t : ℕ) → put-token-lts.Need-same-length-3 (
+  put-piece-reads.Asked,
+  put-piece-reads.Learnt,
+  put-lead-reads.Asked,
+  put-lead-reads.Learnt,
+  put-byte-reads.Asked,
+  put-byte-reads.Learnt,
+  put-entries-below t,
+  put-entries.Post,
+  put-pairs-below t,
+  put-pairs.Post,
+) (put-token-at t) put-token.Post
+put-token-same-length-3 t c = ?
+
+-- src/bodies.rt:134:1
+put-token-returns-3 : (t : ℕ) → put-token-lts.Need-returns-3 (
+  put-piece-reads.Asked,
+  put-piece-reads.Learnt,
+  put-lead-reads.Asked,
+  put-lead-reads.Learnt,
+  put-byte-reads.Asked,
+  put-byte-reads.Learnt,
+  put-entries-below t,
+  put-entries.Post,
+  put-pairs-below t,
+  put-pairs.Post,
+) (put-token-at t) put-token.Post
+put-token-returns-3 t c = ?
+
+pub +put-entries+put-pairs+put-token-spec : {M : Type 1} → statement M
++put-entries+put-pairs+put-token-spec =
+    close μ-put-entries μ-put-pairs μ-put-token (λ t. put-entries-lts.spec (
+      token-of-reads.Asked,
+      token-of-reads.Learnt,
+      piece-of-reads.Asked,
+      piece-of-reads.Learnt,
+      put-token-below t,
+      put-token.Post,
+      still-first-reads.Asked,
+      still-first-reads.Learnt,
+      behind-reads.Asked,
+      behind-reads.Learnt,
+    )
+    (put-entries-at t)
+    put-entries.Post
+    put-entries-Inv-loop
+    put-entries-μ-loop
+    (put-entries-loop-holds t)
+    (put-entries-token-of-requires t)
+    (put-entries-piece-of-requires t)
+    (put-entries-add-put-token t)
+    (put-entries-put-token-requires t)
+    (put-entries-still-first-requires t)
+    (put-entries-add-behind t)
+    (put-entries-behind-requires t)
+    (put-entries-loop-less t)
+    (put-entries-loop-again t)
+    (put-entries-same-length t)
+    (put-entries-returns t))
+    (λ t. put-pairs-lts.spec (
+      token-of-reads.Asked,
+      token-of-reads.Learnt,
+      piece-of-reads.Asked,
+      piece-of-reads.Learnt,
+      is-mixed-reads.Asked,
+      is-mixed-reads.Learnt,
+      put-entries-below t,
+      put-entries.Post,
+      put-token-below t,
+      put-token.Post,
+      still-first-reads.Asked,
+      still-first-reads.Learnt,
+      due-after-reads.Asked,
+      due-after-reads.Learnt,
+      behind-reads.Asked,
+      behind-reads.Learnt,
+    )
+    (put-pairs-at t)
+    put-pairs.Post
+    put-pairs-Inv-loop
+    put-pairs-μ-loop
+    (put-pairs-loop-holds t)
+    (put-pairs-token-of-requires t)
+    (put-pairs-piece-of-requires t)
+    (put-pairs-is-mixed-requires t)
+    (put-pairs-add-put-entries t)
+    (put-pairs-put-entries-requires t)
+    (put-pairs-same-length t)
+    (put-pairs-returns t)
+    (put-pairs-add-put-token t)
+    (put-pairs-put-token-requires t)
+    (put-pairs-still-first-requires t)
+    (put-pairs-due-after-requires t)
+    (put-pairs-add-behind t)
+    (put-pairs-behind-requires t)
+    (put-pairs-loop-less t)
+    (put-pairs-loop-again t)
+    (put-pairs-same-length-2 t)
+    (put-pairs-returns-2 t))
+    λ t. put-token-lts.spec (
+      put-piece-reads.Asked,
+      put-piece-reads.Learnt,
+      put-lead-reads.Asked,
+      put-lead-reads.Learnt,
+      put-byte-reads.Asked,
+      put-byte-reads.Learnt,
+      put-entries-below t,
+      put-entries.Post,
+      put-pairs-below t,
+      put-pairs.Post,
+    )
+    (put-token-at t)
+    put-token.Post
+    (put-token-enum-known-piece t)
+    (put-token-put-piece-requires t)
+    (put-token-same-length t)
+    (put-token-returns t)
+    (put-token-put-lead-requires t)
+    (put-token-put-byte-requires t)
+    (put-token-enum-told t)
+    (put-token-cast-put-entries t)
+    (put-token-put-entries-requires t)
+    (put-token-put-byte-requires-2 t)
+    (put-token-enum-told-2 t)
+    (put-token-cast-put-pairs t)
+    (put-token-put-pairs-requires t)
+    (put-token-put-byte-requires-3 t)
+    (put-token-same-length-2 t)
+    (put-token-returns-2 t)
+    (put-token-same-length-3 t)
+    (put-token-returns-3 t)

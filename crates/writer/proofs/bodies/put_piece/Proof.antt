@@ -1,0 +1,122 @@
+-- `writer::bodies::put_piece` meets its contract: what stands before it and its own bytes, by its piece.
+-- Assumes nothing.
+use borrow.Author.Needs.{needs}
+use mathlib.Core.Bool.{true, false}
+use Rattle.writer.specs.declared.pieces.Piece.{Piece}
+use Rattle.put.specs.Append.{append}
+use Rattle.put.proofs.Append.{chain, put-empty}
+use Rattle.writer.specs.Pieces.{own-bytes}
+use Rattle.writer.specs.Text.{lead, piece-text}
+use Rattle.writer.proofs.Told.{as-told}
+use Rattle.writer.proofs.bodies.put_piece.Statement.{statement}
+use Rattle.writer.proofs.bodies.put_piece.Tie as tie
+
+enum-known-piece : tie.Need-enum-known-piece
+enum-known-piece c = search needs
+
+put-lead-requires : tie.Need-put-lead-requires
+put-lead-requires c κs = search needs
+
+put-scalar-requires : tie.Need-put-scalar-requires
+put-scalar-requires c κs = search needs
+
+enum-known-piece-2 : tie.Need-enum-known-piece-2
+enum-known-piece-2 c = search needs
+
+put-lead-requires-2 : tie.Need-put-lead-requires-2
+put-lead-requires-2 c κs = search needs
+
+put-scalar-requires-2 : tie.Need-put-scalar-requires-2
+put-scalar-requires-2 c κs = search needs
+
+enum-known-piece-3 : tie.Need-enum-known-piece-3
+enum-known-piece-3 c = search needs
+
+put-lead-requires-3 : tie.Need-put-lead-requires-3
+put-lead-requires-3 c κs = search needs
+
+put-sign-requires : tie.Need-put-sign-requires
+put-sign-requires c κs = search needs
+
+enum-told : tie.Need-enum-told
+enum-told c = search needs
+
+enum-told-2 : tie.Need-enum-told-2
+enum-told-2 c = search needs
+
+enum-told-3 : tie.Need-enum-told-3
+enum-told-3 c = search needs
+
+same-length : tie.Need-same-length
+same-length c = search needs
+
+returns : tie.Need-returns
+unfolding piece-text own-bytes
+returns c =
+    let args = c .before .before .before .before .before .before .before .before .before .before .before .before .before .args in
+    as-told (λ (p : Piece). append (args .out .now) (args .at) (piece-text (args .text .now) (args .first) (args .due) p))
+    (chain _ _ (lead (args .first) (args .due) false) _ (c .before .before .before .before .before .before .put-lead .ensures) (c .before .before .put-scalar .ensures)) (c .before .before .before .before .before .before .before .before .before .piece .given .1)
+
+same-length-2 : tie.Need-same-length-2
+same-length-2 c = search needs
+
+returns-2 : tie.Need-returns-2
+unfolding piece-text own-bytes
+returns-2 c =
+    let args = c .before .before .before .before .before .before .before .before .before .before .before .before .before .args in
+    as-told (λ (p : Piece). append (args .out .now) (args .at) (piece-text (args .text .now) (args .first) (args .due) p))
+    (chain _ _ (lead (args .first) (args .due) false) _ (c .before .before .before .before .before .before .put-lead2 .ensures) (c .before .before .put-scalar2 .ensures)) (c .before .before .before .before .before .before .before .before .before .piece2 .given .1)
+
+same-length-3 : tie.Need-same-length-3
+same-length-3 c = search needs
+
+returns-3 : tie.Need-returns-3
+unfolding piece-text own-bytes
+returns-3 c =
+    let args = c .before .before .before .before .before .before .before .before .before .before .before .before .before .args in
+    as-told (λ (p : Piece). append (args .out .now) (args .at) (piece-text (args .text .now) (args .first) (args .due) p))
+    (chain _ _ (lead (args .first) (args .due) true) _ (c .before .before .before .before .before .before .put-lead3 .ensures) (c .before .before .put-sign .ensures)) (c .before .before .before .before .before .before .before .before .before .piece3 .given .1)
+
+returns-4 : tie.Need-returns-4
+unfolding piece-text own-bytes
+returns-4 c =
+    let args = c .before .before .before .before .args in
+    as-told (λ (p : Piece). append (args .out .now) (args .at) (piece-text (args .text .now) (args .first) (args .due) p)) (put-empty _ _) (c .enum-told .given .1)
+
+returns-5 : tie.Need-returns-5
+unfolding piece-text own-bytes
+returns-5 c =
+    let args = c .before .before .before .before .args in
+    as-told (λ (p : Piece). append (args .out .now) (args .at) (piece-text (args .text .now) (args .first) (args .due) p)) (put-empty _ _) (c .enum-told2 .given .1)
+
+returns-6 : tie.Need-returns-6
+unfolding piece-text own-bytes
+returns-6 c =
+    let args = c .before .before .before .before .args in
+    as-told (λ (p : Piece). append (args .out .now) (args .at) (piece-text (args .text .now) (args .first) (args .due) p)) (put-empty _ _) (c .enum-told3 .given .1)
+
+pub put-piece-spec : {M : Type 1} → statement M
+put-piece-spec =
+    tie.close
+    (tie.spec
+    enum-known-piece
+    put-lead-requires
+    put-scalar-requires
+    enum-known-piece-2
+    put-lead-requires-2
+    put-scalar-requires-2
+    enum-known-piece-3
+    put-lead-requires-3
+    put-sign-requires
+    enum-told
+    enum-told-2
+    enum-told-3
+    same-length
+    returns
+    same-length-2
+    returns-2
+    same-length-3
+    returns-3
+    returns-4
+    returns-5
+    returns-6)
