@@ -63,6 +63,23 @@ sheet-range {n} {ts} s = record {
   opened = λ k o f g p. omega arith;
 }
 
+-- what stands in a container, at whatever depth
+pub opener-range : {n : ℕ} {ts : List Token} → Sheet n ts → (i e : ℕ) → Opens (nth ts i) e → Range ts (i + 1) e
+opener-range {n} {ts} s i e o =
+    let c = s .closed i e o in
+    record {
+      text-length = n;
+      sheet = s;
+      within = omega (arith, c .1);
+      ends = λ o′ e′ f g p. s .nested i e o′ e′ o (omega (arith, f)) g p;
+      opened = λ k o′ f g p.
+          let d = s .opened k o′ p in
+          by-order o′ i
+          (λ l. let y = s .nested o′ k i e (d .1) l (omega (arith, f)) o in absurd (omega (arith, y, g)))
+          (λ z. let y : k ≡ e = one-end (nth ts i) (opens-at ts z (d .1)) o in absurd (omega (arith, y, g)))
+          (λ l. omega (arith, l));
+    }
+
 -- a forest whose tokens stand from i up to j
 pub record Grown (ts : List Token) (i j : ℕ) (f : Forest) : Type 0 where
   pub stands : drop i ts ≡ flat f i ++ drop j ts
@@ -75,22 +92,7 @@ module _ (ts : List Token) where
   -- inside a container, behind it, and behind a token that opens nothing
   module _ (i j e : ℕ) (b : Range ts i j) (h : i < j) (o : Opens (nth ts i) e) where
     pub inside : Range ts (i + 1) e
-    inside =
-        let s = b .sheet in
-        let q = b .ends i e (omega arith) h o in
-        record {
-          text-length = b .text-length;
-          sheet = s;
-          within = omega (arith, q, b .within);
-          ends = λ o′ e′ f g p. s .nested i e o′ e′ o (omega (arith, f)) g p;
-          opened = λ k o′ f g p.
-              let c = s .opened k o′ p in
-              let m = b .opened k o′ (omega (arith, f)) (omega (arith, g, q)) p in
-              by-order o′ i
-              (λ l. absurd (omega (arith, l, m)))
-              (λ z. let y : k ≡ e = one-end (nth ts i) (opens-at ts z (c .1)) o in absurd (omega (arith, y, g)))
-              (λ l. omega (arith, l));
-        }
+    inside = opener-range (b .sheet) i e o
 
     pub behind : Range ts (e + 1) j
     behind =

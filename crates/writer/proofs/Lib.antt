@@ -5,3 +5,4 @@ pub mod Puts
 pub mod Same
 pub mod Left
 pub mod Walks
+pub mod Forms

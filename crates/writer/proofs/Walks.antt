@@ -13,6 +13,7 @@ use Rattle.tape.specs.declared.token.Container.the-variants.{Opened, Nothing}
 use Rattle.tape.specs.declared.shape.Shape as Shape
 use Rattle.tape.specs.Token.{nth, container-of, opener-of}
 use Rattle.tape.specs.Shape.{shape-of}
+use Rattle.tape.specs.Words.{tokens-in, token-in}
 use Rattle.tape.proofs.Makers.{opener-container}
 use Rattle.writer.specs.declared.dues.Due.{Due}
 use Rattle.writer.specs.declared.pieces.Piece.{Piece}
@@ -70,12 +71,20 @@ bare-behind (sign number) next = refl
 bare-behind mixed next = refl
 bare-behind other next = refl
 
-bare-inside : {p : Piece} → Bare p → (ts : List Token) (from : ℕ) → Inside ts from p
+pub bare-inside : {p : Piece} → Bare p → (ts : List Token) (from : ℕ) → Inside ts from p
 bare-inside (scalar quoted offset size) ts from = tt
 bare-inside (heading offset size) ts from = tt
 bare-inside (sign number) ts from = tt
 bare-inside mixed ts from = tt
 bare-inside other ts from = tt
+
+pub bare-sound : {p : Piece} → Bare p → (ts : List Token) (from : ℕ) → inside-form ts from p ≡ true
+unfolding inside-form
+bare-sound (scalar quoted offset size) ts from = refl
+bare-sound (heading offset size) ts from = refl
+bare-sound (sign number) ts from = refl
+bare-sound mixed ts from = refl
+bare-sound other ts from = refl
 
 pub bare-text : {p : Piece} → Bare p → (text : List ℕ) (ts : List Token) (from : ℕ) (first : Bool) (due : Due)
     → token-text text ts from first due p ≡ piece-text text first due p
@@ -138,3 +147,39 @@ module _ (ts : List Token) (i j : ℕ) (b : Range ts i j) (h : i < j) where
       by-token ts i j b h
       (λ kind flag e o l m c inner rest. rw (stretch-box ts i j kind e flag b h o, opener-piece (nth ts i) kind e flag o))
       (λ n rest. rw (stretch-leaf ts i j h n, bare-behind (leaf-bare (nth ts i) n) (i + 1)))
+
+-- ---- the same by what a step of a walk has in hand: the piece that it read, and where it goes on
+pub read-piece : (words : List ℕ) (count i : ℕ) {x : Token} {p : Piece} → x ≡ token-in words count i → p ≡ piece-of x
+    → p ≡ piece-of (nth (tokens-in words count) i)
+unfolding token-in
+read-piece words count i e f = f ∙ ap piece-of e
+
+module _ (ts : List Token) (i j : ℕ) (b : Range ts i j) (h : i < j) (p : Piece) (is : p ≡ piece-of (nth ts i)) where
+  pub step-inside : Inside ts (i + 1) p
+  step-inside = subst (Inside ts (i + 1)) (sym is) (range-inside ts i j b h)
+
+  -- what is due is not there
+  pub step-wrong : (due : Due) {t : Bool} → t ≡ takes due p → t ≡ false → false ≡ body-form (stretch ts i j) due
+  step-wrong due e f = sym (form-on ts i j b h due ∙ rw (← is) (rw (sym e ∙ f)))
+
+  module _ (next : ℕ) (goes : next ≡ behind p (i + 1)) where
+    there : next ≡ on ts i j b h
+    there = goes ∙ ap (λ (q : Piece). behind q (i + 1)) is
+
+    pub step-range : Range ts next j
+    step-range = subst (λ (n : ℕ). Range ts n j) (sym there) (range-behind ts i j b h)
+
+    pub step-ahead : (i < next) × (next ≤ j)
+    step-ahead = rw there (ahead ts i j b h)
+
+    pub step-form : (due : Due) {t : Bool} {after : Due} → t ≡ takes due p → t ≡ true → after ≡ due-after due p
+        → body-form (stretch ts i j) due ≡ body-form (stretch ts next j) after
+    step-form due e f g = form-on ts i j b h due ∙ rw (g, there, ← is) (rw (sym e ∙ f))
+
+    pub step-text : (text : List ℕ) (first : Bool) (due : Due) {still : Bool} {after : Due} → still ≡ still-first first p → after ≡ due-after due p
+        → body-text (stretch ts i j) text first due ≡ token-text text ts (i + 1) first due p ++ body-text (stretch ts next j) text still after
+    step-text text first due e g = text-on ts i j b h text first due ∙ rw (e, g, there, is)
+
+-- the same body by what is due in it under another name
+pub due-as : (f : Forest) {d e : Due} {r : Bool} → r ≡ body-form f d → d ≡ e → r ≡ body-form f e
+due-as f p q = p ∙ ap (body-form f) q

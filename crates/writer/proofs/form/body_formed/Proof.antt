@@ -1,67 +1,99 @@
+-- `writer::form::body_formed` meets its contract. The invariant: what is left of the body decides; the measure is how far its end is.
+-- Assumes nothing.
+use borrow.Author.Needs.{needs}
+use borrow.Author.Tests.{not-true, not-false}
+use Prim.Native.Nat.{_-_}
+use mathlib.Core.Path.{_≡_, refl, sym, _∙_, ap}
+use mathlib.Core.List.{List}
+use Rattle.tape.specs.declared.token.Token.{Token}
+use Rattle.tape.specs.Words.{tokens-in}
+use Rattle.writer.specs.declared.dues.Due.{Due}
+use Rattle.writer.specs.Forest.{stretch, Forest}
+use Rattle.writer.specs.Ranges.{Range, body-form}
+use Rattle.writer.proofs.Grown.{stretch-none}
+use Rattle.writer.proofs.Walks.{read-piece, step-wrong, step-range, step-ahead, step-form}
+use native.Mathlib.Omega.{arith}
 use Rattle.writer.proofs.form.body_formed.Statement.{statement}
 use Rattle.writer.proofs.form.body_formed.Tie as tie
-use Rattle.writer.proofs.form.body_formed.Reads as reads
-use Rattle.writer.proofs.form.body_formed.Lts as lts
-use Rattle.tape.proofs.words.token_of.Reads as token-of-reads
-use Rattle.writer.proofs.dues.due_after.Reads as due-after-reads
-use Rattle.writer.proofs.form.may_end.Reads as may-end-reads
-use Rattle.writer.proofs.form.takes.Reads as takes-reads
-use Rattle.writer.proofs.pieces.piece_of.Reads as piece-of-reads
-use Rattle.writer.proofs.ranges.behind.Reads as behind-reads
 
 abbrev Inv-loop : tie.InvT-loop
-Inv-loop words count from end i₀ due₀ i due = ?
+Inv-loop words count from end i₀ due₀ i due =
+    Range (tokens-in words count) i end
+    × (body-form (stretch (tokens-in words count) from end) due₀ ≡ body-form (stretch (tokens-in words count) i end) due)
 
 abbrev μ-loop : tie.MeasureT-loop
-μ-loop words count from end i₀ due₀ i due = ?
+μ-loop words count from end i₀ due₀ i due = end - i
 
--- src/form.rt:83:5
 loop-holds : tie.Need-loop-holds Inv-loop μ-loop
-loop-holds c = ?
+loop-holds c = (c .before .pre, refl)
 
--- src/form.rt:84:30
 token-of-requires : tie.Need-token-of-requires Inv-loop μ-loop
-token-of-requires c κs = ?
+token-of-requires c κs = search needs
 
--- src/form.rt:84:13
 piece-of-requires : tie.Need-piece-of-requires Inv-loop μ-loop
-piece-of-requires c κs = ?
+piece-of-requires c κs = search needs
 
--- src/form.rt:85:13
 takes-requires : tie.Need-takes-requires Inv-loop μ-loop
-takes-requires c κs = ?
+takes-requires c κs = search needs
 
--- src/form.rt:86:13
 returns : tie.Need-returns Inv-loop μ-loop
-returns c = ?
+returns c =
+    let read = c .before .before in
+    let in-loop = read .before .before in
+    let at-loop = in-loop .before in
+    let args = at-loop .before .before .args in
+    let m = at-loop .loop in
+    let ts : List Token = tokens-in (args .words .now) (args .count) in
+    let is = read-piece _ _ _ (read .before .token-of .ensures) (read .piece-of .ensures) in
+    sym (m .inv .1 ∙ sym (step-wrong ts (m .i) (args .end) (m .inv .0) (in-loop .loop-test .taken) _ is (m .due) (c .before .takes .ensures) (not-true _ (c .if1 .taken))))
 
--- src/form.rt:88:9
 due-after-requires : tie.Need-due-after-requires Inv-loop μ-loop
-due-after-requires c κs = ?
+due-after-requires c κs = search needs
 
--- src/form.rt:89:27
 add-behind : tie.Need-add-behind Inv-loop μ-loop
-add-behind c = ?
+add-behind c = omega arith
 
--- src/form.rt:89:9
 behind-requires : tie.Need-behind-requires Inv-loop μ-loop
-behind-requires c κs = ?
+behind-requires c κs = search needs
 
--- src/form.rt:83:5
 loop-less : tie.Need-loop-less Inv-loop μ-loop
-loop-less c = ?
+loop-less c =
+    let read = c .before .before .before .before in
+    let in-loop = read .before .before in
+    let at-loop = in-loop .before in
+    let args = at-loop .before .before .args in
+    let m = at-loop .loop in
+    let ts : List Token = tokens-in (args .words .now) (args .count) in
+    let is = read-piece _ _ _ (read .before .token-of .ensures) (read .piece-of .ensures) in
+    let on = step-ahead ts (m .i) (args .end) (m .inv .0) (in-loop .loop-test .taken) _ is _ (c .behind .ensures) in
+    omega (arith, on .0)
 
--- src/form.rt:83:5
 loop-again : tie.Need-loop-again Inv-loop μ-loop
-loop-again c = ?
+loop-again c =
+    let read = c .before .before .before .before in
+    let in-loop = read .before .before in
+    let at-loop = in-loop .before in
+    let args = at-loop .before .before .args in
+    let m = at-loop .loop in
+    let ts : List Token = tokens-in (args .words .now) (args .count) in
+    let is = read-piece _ _ _ (read .before .token-of .ensures) (read .piece-of .ensures) in
+    let h = in-loop .loop-test .taken in (
+      step-range ts (m .i) (args .end) (m .inv .0) h _ is _ (c .behind .ensures),
+      m .inv .1 ∙ step-form ts (m .i) (args .end) (m .inv .0) h _ is _ (c .behind .ensures) (m .due) (c .before .before .before .takes .ensures) (not-false _ (c .before .before .if1 .left))
+          (c .before .due-after .ensures),
+    )
 
--- src/form.rt:91:5
 may-end-requires : tie.Need-may-end-requires Inv-loop μ-loop
-may-end-requires c κs = ?
+may-end-requires c κs = search needs
 
--- src/form.rt:77:1
 returns-2 : tie.Need-returns-2 Inv-loop μ-loop
-returns-2 c = ?
+unfolding body-form
+returns-2 c =
+    let at-loop = c .before .before in
+    let args = at-loop .before .before .args in
+    let m = at-loop .loop in
+    let ts : List Token = tokens-in (args .words .now) (args .count) in
+    c .may-end .ensures ∙ sym (m .inv .1 ∙ ap (λ (f : Forest). body-form f (m .due)) (stretch-none ts (m .i) (args .end) (c .before .loop-test .left)))
 
 pub body-formed-spec : {M : Type 1} → statement M
 body-formed-spec =
