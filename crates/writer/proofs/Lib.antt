@@ -6,3 +6,4 @@ pub mod Same
 pub mod Left
 pub mod Walks
 pub mod Forms
+pub mod Putting

@@ -1,3 +1,25 @@
+-- The proof of the cycle of calls {put_entries, put_pairs, put_token}. The invariant: what is left of a body makes all of its text. The
+-- measure is twice the tokens that are left, and for a token that opens a container one more than for what stands in it.
+-- Assumes nothing.
+use borrow.Author.Needs.{needs}
+use mathlib.Core.Path.{sym, _∙_}
+use mathlib.Core.Bool.{true}
+use mathlib.Core.List.{List}
+use Prim.Native.Nat.{_-_}
+use native.Mathlib.Omega.{arith}
+use Rattle.put.specs.Append.{append}
+use Rattle.put.proofs.Append.{same-bytes}
+use Rattle.tape.specs.declared.token.Token.{Token}
+use Rattle.tape.specs.Words.{tokens-in}
+use Rattle.writer.specs.declared.dues.Due.the-variants.{Entry, Key}
+use Rattle.writer.specs.declared.pieces.Piece.{Piece}
+use Rattle.writer.specs.Forest.{stretch}
+use Rattle.writer.specs.Text.{body-text}
+use Rattle.writer.specs.Ranges.{token-text}
+use Rattle.writer.proofs.Told.{as-told}
+use Rattle.writer.proofs.Walks.{bare-text, read-piece, step-inside, step-ahead}
+use Rattle.writer.proofs.Putting.{not-opener, left-in, span, enters, enters-range, opened-as, step-span, mixed-range, entry-stays, put-braced}
+use Rattle.writer.proofs.Putting.{Putting, put-start, put-step, put-rest, put-done}
 use Prim.Native.Nat.{ℕ, _<_}
 use borrow.Fn.Kinds.{In}
 use borrow.Fn.PlainCycle.{Measures, is, falls, and}
@@ -23,13 +45,13 @@ use Rattle.writer.proofs.bodies.+put_entries+put_pairs+put_token.{state
 use Rattle.writer.proofs.bodies.+put_entries+put_pairs+put_token.Tie.{close}
 
 abbrev μ-put-entries : Measures 3 put-entries-kinds.ps ℕ
-μ-put-entries κs a = ?
+μ-put-entries κs a = left-in (a .1 .1 .1 .1 .1 .0) (a .1 .1 .1 .1 .1 .1 .0)
 
 abbrev μ-put-pairs : Measures 3 put-pairs-kinds.ps ℕ
-μ-put-pairs κs a = ?
+μ-put-pairs κs a = left-in (a .1 .1 .1 .1 .1 .0) (a .1 .1 .1 .1 .1 .1 .0)
 
 abbrev μ-put-token : Measures 3 put-token-kinds.ps ℕ
-μ-put-token κs a = ?
+μ-put-token κs a = span (a .1 .1 .1 .1 .1 .1 .1 .1 .0) (a .1 .1 .1 .1 .1 .0)
 
 abbrev put-entries-at : ℕ → In 3 put-entries-kinds.ps
 put-entries-at t =
@@ -54,12 +76,12 @@ put-token-below t =
     and 3 put-token-kinds.ps (falls 3 put-token-kinds.ps _<_ μ-put-token t) put-token.Pre
 
 abbrev put-entries-Inv-loop : put-entries-lts.InvT-loop
-put-entries-Inv-loop out₀ at text words count from end alone i₀ next₀ first₀ out i next first = ?
+put-entries-Inv-loop out₀ at text words count from end alone i₀ next₀ first₀ out i next first =
+    Putting (tokens-in words count) text out₀ at from end (body-text (stretch (tokens-in words count) from end) text alone Entry) out i next first Entry
 
 abbrev put-entries-μ-loop : put-entries-lts.MeasureT-loop
-put-entries-μ-loop out₀ at text words count from end alone i₀ next₀ first₀ out i next first = ?
+put-entries-μ-loop out₀ at text words count from end alone i₀ next₀ first₀ out i next first = end - i
 
--- src/bodies.rt:184:5
 put-entries-loop-holds : (t : ℕ) → put-entries-lts.Need-loop-holds (
   token-of-reads.Asked,
   token-of-reads.Learnt,
@@ -72,9 +94,10 @@ put-entries-loop-holds : (t : ℕ) → put-entries-lts.Need-loop-holds (
   behind-reads.Asked,
   behind-reads.Learnt,
 ) (put-entries-at t) put-entries.Post put-entries-Inv-loop put-entries-μ-loop
-put-entries-loop-holds t c = ?
+put-entries-loop-holds t c =
+    let args = c .before .before .before .args in
+    put-start _ (args .text .now) (args .out .now) (args .at) (args .from) (args .end) (args .alone) Entry (c .before .before .before .pre .1)
 
--- src/bodies.rt:185:30
 put-entries-token-of-requires : (t : ℕ) → put-entries-lts.Need-token-of-requires (
   token-of-reads.Asked,
   token-of-reads.Learnt,
@@ -87,9 +110,8 @@ put-entries-token-of-requires : (t : ℕ) → put-entries-lts.Need-token-of-requ
   behind-reads.Asked,
   behind-reads.Learnt,
 ) (put-entries-at t) put-entries.Post put-entries-Inv-loop put-entries-μ-loop
-put-entries-token-of-requires t c κs = ?
+put-entries-token-of-requires t c κs = search needs
 
--- src/bodies.rt:185:13
 put-entries-piece-of-requires : (t : ℕ) → put-entries-lts.Need-piece-of-requires (
   token-of-reads.Asked,
   token-of-reads.Learnt,
@@ -102,9 +124,8 @@ put-entries-piece-of-requires : (t : ℕ) → put-entries-lts.Need-piece-of-requ
   behind-reads.Asked,
   behind-reads.Learnt,
 ) (put-entries-at t) put-entries.Post put-entries-Inv-loop put-entries-μ-loop
-put-entries-piece-of-requires t c κs = ?
+put-entries-piece-of-requires t c κs = search needs
 
--- src/bodies.rt:186:57
 put-entries-add-put-token : (t : ℕ) → put-entries-lts.Need-add-put-token (
   token-of-reads.Asked,
   token-of-reads.Learnt,
@@ -117,9 +138,8 @@ put-entries-add-put-token : (t : ℕ) → put-entries-lts.Need-add-put-token (
   behind-reads.Asked,
   behind-reads.Learnt,
 ) (put-entries-at t) put-entries.Post put-entries-Inv-loop put-entries-μ-loop
-put-entries-add-put-token t c = ?
+put-entries-add-put-token t c = omega arith
 
--- src/bodies.rt:186:9
 put-entries-put-token-requires : (t : ℕ) → put-entries-lts.Need-put-token-requires (
   token-of-reads.Asked,
   token-of-reads.Learnt,
@@ -132,9 +152,21 @@ put-entries-put-token-requires : (t : ℕ) → put-entries-lts.Need-put-token-re
   behind-reads.Asked,
   behind-reads.Learnt,
 ) (put-entries-at t) put-entries.Post put-entries-Inv-loop put-entries-μ-loop
-put-entries-put-token-requires t c κs = ?
+put-entries-put-token-requires t c =
+    let read = c .before in
+    let in-loop = read .before .before in
+    let at-loop = in-loop .before in
+    let start = at-loop .before .before .before .before in
+    let args = start .args in
+    let m = at-loop .loop in
+    let ts : List Token = tokens-in (args .words .now) (args .count) in
+    let h = in-loop .loop-test .taken in
+    let is = read-piece _ _ _ (read .before .token-of .ensures) (read .piece-of .ensures) in
+    λ κs. (
+      step-span ts (m .i) (args .end) (m .inv .range) h _ is (args .from) (m .inv .past) (start .pre .0),
+      step-inside ts (m .i) (args .end) (m .inv .range) h _ is,
+    )
 
--- src/bodies.rt:187:9
 put-entries-still-first-requires : (t : ℕ) → put-entries-lts.Need-still-first-requires (
   token-of-reads.Asked,
   token-of-reads.Learnt,
@@ -147,9 +179,8 @@ put-entries-still-first-requires : (t : ℕ) → put-entries-lts.Need-still-firs
   behind-reads.Asked,
   behind-reads.Learnt,
 ) (put-entries-at t) put-entries.Post put-entries-Inv-loop put-entries-μ-loop
-put-entries-still-first-requires t c κs = ?
+put-entries-still-first-requires t c κs = search needs
 
--- src/bodies.rt:188:27
 put-entries-add-behind : (t : ℕ) → put-entries-lts.Need-add-behind (
   token-of-reads.Asked,
   token-of-reads.Learnt,
@@ -162,9 +193,8 @@ put-entries-add-behind : (t : ℕ) → put-entries-lts.Need-add-behind (
   behind-reads.Asked,
   behind-reads.Learnt,
 ) (put-entries-at t) put-entries.Post put-entries-Inv-loop put-entries-μ-loop
-put-entries-add-behind t c = ?
+put-entries-add-behind t c = omega arith
 
--- src/bodies.rt:188:9
 put-entries-behind-requires : (t : ℕ) → put-entries-lts.Need-behind-requires (
   token-of-reads.Asked,
   token-of-reads.Learnt,
@@ -177,9 +207,8 @@ put-entries-behind-requires : (t : ℕ) → put-entries-lts.Need-behind-requires
   behind-reads.Asked,
   behind-reads.Learnt,
 ) (put-entries-at t) put-entries.Post put-entries-Inv-loop put-entries-μ-loop
-put-entries-behind-requires t c κs = ?
+put-entries-behind-requires t c κs = search needs
 
--- src/bodies.rt:184:5
 put-entries-loop-less : (t : ℕ) → put-entries-lts.Need-loop-less (
   token-of-reads.Asked,
   token-of-reads.Learnt,
@@ -192,9 +221,19 @@ put-entries-loop-less : (t : ℕ) → put-entries-lts.Need-loop-less (
   behind-reads.Asked,
   behind-reads.Learnt,
 ) (put-entries-at t) put-entries.Post put-entries-Inv-loop put-entries-μ-loop
-put-entries-loop-less t c = ?
+put-entries-loop-less t c =
+    let read = c .before .before .before .before .before .before in
+    let in-loop = read .before .before in
+    let at-loop = in-loop .before in
+    let start = at-loop .before .before .before .before in
+    let args = start .args in
+    let m = at-loop .loop in
+    let ts : List Token = tokens-in (args .words .now) (args .count) in
+    let h = in-loop .loop-test .taken in
+    let is = read-piece _ _ _ (read .before .token-of .ensures) (read .piece-of .ensures) in
+    let on = step-ahead ts (m .i) (args .end) (m .inv .range) h _ is _ (c .behind .ensures) in
+    omega (arith, on .0)
 
--- src/bodies.rt:184:5
 put-entries-loop-again : (t : ℕ) → put-entries-lts.Need-loop-again (
   token-of-reads.Asked,
   token-of-reads.Learnt,
@@ -207,9 +246,19 @@ put-entries-loop-again : (t : ℕ) → put-entries-lts.Need-loop-again (
   behind-reads.Asked,
   behind-reads.Learnt,
 ) (put-entries-at t) put-entries.Post put-entries-Inv-loop put-entries-μ-loop
-put-entries-loop-again t c = ?
+put-entries-loop-again t c =
+    let read = c .before .before .before .before .before .before in
+    let in-loop = read .before .before in
+    let at-loop = in-loop .before in
+    let start = at-loop .before .before .before .before in
+    let args = start .args in
+    let m = at-loop .loop in
+    let ts : List Token = tokens-in (args .words .now) (args .count) in
+    let h = in-loop .loop-test .taken in
+    let is = read-piece _ _ _ (read .before .token-of .ensures) (read .piece-of .ensures) in
+    put-step _ _ _ _ _ _ _ _ _ _ _ _ (m .inv) h _ is _ (c .behind .ensures) (c .before .still-first .ensures) (entry-stays _) _ _
+    (c .before .before .before .before .put-token .ensures) (c .before .before .before .before .put-token .kept .0)
 
--- src/bodies.rt:167:1
 put-entries-same-length : (t : ℕ) → put-entries-lts.Need-same-length (
   token-of-reads.Asked,
   token-of-reads.Learnt,
@@ -222,9 +271,8 @@ put-entries-same-length : (t : ℕ) → put-entries-lts.Need-same-length (
   behind-reads.Asked,
   behind-reads.Learnt,
 ) (put-entries-at t) put-entries.Post put-entries-Inv-loop put-entries-μ-loop
-put-entries-same-length t c = ?
+put-entries-same-length t c = c .before .loop .inv .same
 
--- src/bodies.rt:167:1
 put-entries-returns : (t : ℕ) → put-entries-lts.Need-returns (
   token-of-reads.Asked,
   token-of-reads.Learnt,
@@ -237,15 +285,15 @@ put-entries-returns : (t : ℕ) → put-entries-lts.Need-returns (
   behind-reads.Asked,
   behind-reads.Learnt,
 ) (put-entries-at t) put-entries.Post put-entries-Inv-loop put-entries-μ-loop
-put-entries-returns t c = ?
+put-entries-returns t c = put-done _ _ _ _ _ _ _ _ _ _ _ _ (c .before .loop .inv) (c .loop-test .left)
 
 abbrev put-pairs-Inv-loop : put-pairs-lts.InvT-loop
-put-pairs-Inv-loop out₀ at text words count from end i₀ next₀ first₀ due₀ out i next first due = ?
+put-pairs-Inv-loop out₀ at text words count from end i₀ next₀ first₀ due₀ out i next first due =
+    Putting (tokens-in words count) text out₀ at from end (body-text (stretch (tokens-in words count) from end) text true Key) out i next first due
 
 abbrev put-pairs-μ-loop : put-pairs-lts.MeasureT-loop
-put-pairs-μ-loop out₀ at text words count from end i₀ next₀ first₀ due₀ out i next first due = ?
+put-pairs-μ-loop out₀ at text words count from end i₀ next₀ first₀ due₀ out i next first due = end - i
 
--- src/bodies.rt:211:5
 put-pairs-loop-holds : (t : ℕ) → put-pairs-lts.Need-loop-holds (
   token-of-reads.Asked,
   token-of-reads.Learnt,
@@ -264,9 +312,10 @@ put-pairs-loop-holds : (t : ℕ) → put-pairs-lts.Need-loop-holds (
   behind-reads.Asked,
   behind-reads.Learnt,
 ) (put-pairs-at t) put-pairs.Post put-pairs-Inv-loop put-pairs-μ-loop
-put-pairs-loop-holds t c = ?
+put-pairs-loop-holds t c =
+    let args = c .before .before .before .args in
+    put-start _ (args .text .now) (args .out .now) (args .at) (args .from) (args .end) true Key (c .before .before .before .pre .1)
 
--- src/bodies.rt:212:30
 put-pairs-token-of-requires : (t : ℕ) → put-pairs-lts.Need-token-of-requires (
   token-of-reads.Asked,
   token-of-reads.Learnt,
@@ -285,9 +334,8 @@ put-pairs-token-of-requires : (t : ℕ) → put-pairs-lts.Need-token-of-requires
   behind-reads.Asked,
   behind-reads.Learnt,
 ) (put-pairs-at t) put-pairs.Post put-pairs-Inv-loop put-pairs-μ-loop
-put-pairs-token-of-requires t c κs = ?
+put-pairs-token-of-requires t c κs = search needs
 
--- src/bodies.rt:212:13
 put-pairs-piece-of-requires : (t : ℕ) → put-pairs-lts.Need-piece-of-requires (
   token-of-reads.Asked,
   token-of-reads.Learnt,
@@ -306,9 +354,8 @@ put-pairs-piece-of-requires : (t : ℕ) → put-pairs-lts.Need-piece-of-requires
   behind-reads.Asked,
   behind-reads.Learnt,
 ) (put-pairs-at t) put-pairs.Post put-pairs-Inv-loop put-pairs-μ-loop
-put-pairs-piece-of-requires t c κs = ?
+put-pairs-piece-of-requires t c κs = search needs
 
--- src/bodies.rt:213:12
 put-pairs-is-mixed-requires : (t : ℕ) → put-pairs-lts.Need-is-mixed-requires (
   token-of-reads.Asked,
   token-of-reads.Learnt,
@@ -327,9 +374,8 @@ put-pairs-is-mixed-requires : (t : ℕ) → put-pairs-lts.Need-is-mixed-requires
   behind-reads.Asked,
   behind-reads.Learnt,
 ) (put-pairs-at t) put-pairs.Post put-pairs-Inv-loop put-pairs-μ-loop
-put-pairs-is-mixed-requires t c κs = ?
+put-pairs-is-mixed-requires t c κs = search needs
 
--- src/bodies.rt:214:63
 put-pairs-add-put-entries : (t : ℕ) → put-pairs-lts.Need-add-put-entries (
   token-of-reads.Asked,
   token-of-reads.Learnt,
@@ -348,9 +394,8 @@ put-pairs-add-put-entries : (t : ℕ) → put-pairs-lts.Need-add-put-entries (
   behind-reads.Asked,
   behind-reads.Learnt,
 ) (put-pairs-at t) put-pairs.Post put-pairs-Inv-loop put-pairs-μ-loop
-put-pairs-add-put-entries t c = ?
+put-pairs-add-put-entries t c = omega arith
 
--- src/bodies.rt:214:13
 put-pairs-put-entries-requires : (t : ℕ) → put-pairs-lts.Need-put-entries-requires (
   token-of-reads.Asked,
   token-of-reads.Learnt,
@@ -369,9 +414,21 @@ put-pairs-put-entries-requires : (t : ℕ) → put-pairs-lts.Need-put-entries-re
   behind-reads.Asked,
   behind-reads.Learnt,
 ) (put-pairs-at t) put-pairs.Post put-pairs-Inv-loop put-pairs-μ-loop
-put-pairs-put-entries-requires t c κs = ?
+put-pairs-put-entries-requires t c =
+    let read = c .before .before .before in
+    let in-loop = read .before .before in
+    let at-loop = in-loop .before in
+    let start = at-loop .before .before .before .before in
+    let args = start .args in
+    let m = at-loop .loop in
+    let ts : List Token = tokens-in (args .words .now) (args .count) in
+    let h = in-loop .loop-test .taken in
+    let is = read-piece _ _ _ (read .before .token-of .ensures) (read .piece-of .ensures) in
+    λ κs. (
+      omega (arith, m .inv .past, h, start .pre .0),
+      mixed-range ts (m .i) (args .end) (m .inv .range) h _ is (c .before .before .is-mixed .ensures) (c .before .if1 .taken),
+    )
 
--- src/bodies.rt:214:13
 put-pairs-same-length : (t : ℕ) → put-pairs-lts.Need-same-length (
   token-of-reads.Asked,
   token-of-reads.Learnt,
@@ -390,9 +447,9 @@ put-pairs-same-length : (t : ℕ) → put-pairs-lts.Need-same-length (
   behind-reads.Asked,
   behind-reads.Learnt,
 ) (put-pairs-at t) put-pairs.Post put-pairs-Inv-loop put-pairs-μ-loop
-put-pairs-same-length t c = ?
+put-pairs-same-length t c =
+    c .before .before .put-entries .kept .0 ∙ c .before .before .before .before .before .before .before .before .before .loop .inv .same
 
--- src/bodies.rt:214:13
 put-pairs-returns : (t : ℕ) → put-pairs-lts.Need-returns (
   token-of-reads.Asked,
   token-of-reads.Learnt,
@@ -411,9 +468,18 @@ put-pairs-returns : (t : ℕ) → put-pairs-lts.Need-returns (
   behind-reads.Asked,
   behind-reads.Learnt,
 ) (put-pairs-at t) put-pairs.Post put-pairs-Inv-loop put-pairs-μ-loop
-put-pairs-returns t c = ?
+put-pairs-returns t c =
+    let read = c .before .before .before .before .before .before in
+    let in-loop = read .before .before in
+    let at-loop = in-loop .before in
+    let start = at-loop .before .before .before .before in
+    let args = start .args in
+    let m = at-loop .loop in
+    let ts : List Token = tokens-in (args .words .now) (args .count) in
+    let h = in-loop .loop-test .taken in
+    let is = read-piece _ _ _ (read .before .token-of .ensures) (read .piece-of .ensures) in
+    put-rest _ _ _ _ _ _ _ _ _ _ _ _ (m .inv) h _ is (c .before .before .before .before .before .is-mixed .ensures) (c .before .before .before .before .if1 .taken) (c .before .before .put-entries .ensures)
 
--- src/bodies.rt:216:57
 put-pairs-add-put-token : (t : ℕ) → put-pairs-lts.Need-add-put-token (
   token-of-reads.Asked,
   token-of-reads.Learnt,
@@ -432,9 +498,8 @@ put-pairs-add-put-token : (t : ℕ) → put-pairs-lts.Need-add-put-token (
   behind-reads.Asked,
   behind-reads.Learnt,
 ) (put-pairs-at t) put-pairs.Post put-pairs-Inv-loop put-pairs-μ-loop
-put-pairs-add-put-token t c = ?
+put-pairs-add-put-token t c = omega arith
 
--- src/bodies.rt:216:9
 put-pairs-put-token-requires : (t : ℕ) → put-pairs-lts.Need-put-token-requires (
   token-of-reads.Asked,
   token-of-reads.Learnt,
@@ -453,9 +518,21 @@ put-pairs-put-token-requires : (t : ℕ) → put-pairs-lts.Need-put-token-requir
   behind-reads.Asked,
   behind-reads.Learnt,
 ) (put-pairs-at t) put-pairs.Post put-pairs-Inv-loop put-pairs-μ-loop
-put-pairs-put-token-requires t c κs = ?
+put-pairs-put-token-requires t c =
+    let read = c .before .before .before in
+    let in-loop = read .before .before in
+    let at-loop = in-loop .before in
+    let start = at-loop .before .before .before .before in
+    let args = start .args in
+    let m = at-loop .loop in
+    let ts : List Token = tokens-in (args .words .now) (args .count) in
+    let h = in-loop .loop-test .taken in
+    let is = read-piece _ _ _ (read .before .token-of .ensures) (read .piece-of .ensures) in
+    λ κs. (
+      step-span ts (m .i) (args .end) (m .inv .range) h _ is (args .from) (m .inv .past) (start .pre .0),
+      step-inside ts (m .i) (args .end) (m .inv .range) h _ is,
+    )
 
--- src/bodies.rt:217:9
 put-pairs-still-first-requires : (t : ℕ) → put-pairs-lts.Need-still-first-requires (
   token-of-reads.Asked,
   token-of-reads.Learnt,
@@ -474,9 +551,8 @@ put-pairs-still-first-requires : (t : ℕ) → put-pairs-lts.Need-still-first-re
   behind-reads.Asked,
   behind-reads.Learnt,
 ) (put-pairs-at t) put-pairs.Post put-pairs-Inv-loop put-pairs-μ-loop
-put-pairs-still-first-requires t c κs = ?
+put-pairs-still-first-requires t c κs = search needs
 
--- src/bodies.rt:218:9
 put-pairs-due-after-requires : (t : ℕ) → put-pairs-lts.Need-due-after-requires (
   token-of-reads.Asked,
   token-of-reads.Learnt,
@@ -495,9 +571,8 @@ put-pairs-due-after-requires : (t : ℕ) → put-pairs-lts.Need-due-after-requir
   behind-reads.Asked,
   behind-reads.Learnt,
 ) (put-pairs-at t) put-pairs.Post put-pairs-Inv-loop put-pairs-μ-loop
-put-pairs-due-after-requires t c κs = ?
+put-pairs-due-after-requires t c κs = search needs
 
--- src/bodies.rt:219:27
 put-pairs-add-behind : (t : ℕ) → put-pairs-lts.Need-add-behind (
   token-of-reads.Asked,
   token-of-reads.Learnt,
@@ -516,9 +591,8 @@ put-pairs-add-behind : (t : ℕ) → put-pairs-lts.Need-add-behind (
   behind-reads.Asked,
   behind-reads.Learnt,
 ) (put-pairs-at t) put-pairs.Post put-pairs-Inv-loop put-pairs-μ-loop
-put-pairs-add-behind t c = ?
+put-pairs-add-behind t c = omega arith
 
--- src/bodies.rt:219:9
 put-pairs-behind-requires : (t : ℕ) → put-pairs-lts.Need-behind-requires (
   token-of-reads.Asked,
   token-of-reads.Learnt,
@@ -537,9 +611,8 @@ put-pairs-behind-requires : (t : ℕ) → put-pairs-lts.Need-behind-requires (
   behind-reads.Asked,
   behind-reads.Learnt,
 ) (put-pairs-at t) put-pairs.Post put-pairs-Inv-loop put-pairs-μ-loop
-put-pairs-behind-requires t c κs = ?
+put-pairs-behind-requires t c κs = search needs
 
--- src/bodies.rt:211:5
 put-pairs-loop-less : (t : ℕ) → put-pairs-lts.Need-loop-less (
   token-of-reads.Asked,
   token-of-reads.Learnt,
@@ -558,9 +631,19 @@ put-pairs-loop-less : (t : ℕ) → put-pairs-lts.Need-loop-less (
   behind-reads.Asked,
   behind-reads.Learnt,
 ) (put-pairs-at t) put-pairs.Post put-pairs-Inv-loop put-pairs-μ-loop
-put-pairs-loop-less t c = ?
+put-pairs-loop-less t c =
+    let read = c .before .before .before .before .before .before .before .before .before in
+    let in-loop = read .before .before in
+    let at-loop = in-loop .before in
+    let start = at-loop .before .before .before .before in
+    let args = start .args in
+    let m = at-loop .loop in
+    let ts : List Token = tokens-in (args .words .now) (args .count) in
+    let h = in-loop .loop-test .taken in
+    let is = read-piece _ _ _ (read .before .token-of .ensures) (read .piece-of .ensures) in
+    let on = step-ahead ts (m .i) (args .end) (m .inv .range) h _ is _ (c .behind .ensures) in
+    omega (arith, on .0)
 
--- src/bodies.rt:211:5
 put-pairs-loop-again : (t : ℕ) → put-pairs-lts.Need-loop-again (
   token-of-reads.Asked,
   token-of-reads.Learnt,
@@ -579,9 +662,19 @@ put-pairs-loop-again : (t : ℕ) → put-pairs-lts.Need-loop-again (
   behind-reads.Asked,
   behind-reads.Learnt,
 ) (put-pairs-at t) put-pairs.Post put-pairs-Inv-loop put-pairs-μ-loop
-put-pairs-loop-again t c = ?
+put-pairs-loop-again t c =
+    let read = c .before .before .before .before .before .before .before .before .before in
+    let in-loop = read .before .before in
+    let at-loop = in-loop .before in
+    let start = at-loop .before .before .before .before in
+    let args = start .args in
+    let m = at-loop .loop in
+    let ts : List Token = tokens-in (args .words .now) (args .count) in
+    let h = in-loop .loop-test .taken in
+    let is = read-piece _ _ _ (read .before .token-of .ensures) (read .piece-of .ensures) in
+    put-step _ _ _ _ _ _ _ _ _ _ _ _ (m .inv) h _ is _ (c .behind .ensures) (c .before .before .still-first .ensures) (c .before .due-after .ensures) _ _
+    (c .before .before .before .before .before .put-token .ensures) (c .before .before .before .before .before .put-token .kept .0)
 
--- src/bodies.rt:194:1
 put-pairs-same-length-2 : (t : ℕ) → put-pairs-lts.Need-same-length-2 (
   token-of-reads.Asked,
   token-of-reads.Learnt,
@@ -600,9 +693,8 @@ put-pairs-same-length-2 : (t : ℕ) → put-pairs-lts.Need-same-length-2 (
   behind-reads.Asked,
   behind-reads.Learnt,
 ) (put-pairs-at t) put-pairs.Post put-pairs-Inv-loop put-pairs-μ-loop
-put-pairs-same-length-2 t c = ?
+put-pairs-same-length-2 t c = c .before .loop .inv .same
 
--- src/bodies.rt:194:1
 put-pairs-returns-2 : (t : ℕ) → put-pairs-lts.Need-returns-2 (
   token-of-reads.Asked,
   token-of-reads.Learnt,
@@ -621,9 +713,8 @@ put-pairs-returns-2 : (t : ℕ) → put-pairs-lts.Need-returns-2 (
   behind-reads.Asked,
   behind-reads.Learnt,
 ) (put-pairs-at t) put-pairs.Post put-pairs-Inv-loop put-pairs-μ-loop
-put-pairs-returns-2 t c = ?
+put-pairs-returns-2 t c = put-done _ _ _ _ _ _ _ _ _ _ _ _ (c .before .loop .inv) (c .loop-test .left)
 
--- src/bodies.rt:149:25
 put-token-enum-known-piece : (t : ℕ) → put-token-lts.Need-enum-known-piece (
   put-piece-reads.Asked,
   put-piece-reads.Learnt,
@@ -636,9 +727,8 @@ put-token-enum-known-piece : (t : ℕ) → put-token-lts.Need-enum-known-piece (
   put-pairs-below t,
   put-pairs.Post,
 ) (put-token-at t) put-token.Post
-put-token-enum-known-piece t c = ?
+put-token-enum-known-piece t c = search needs
 
--- src/bodies.rt:150:9
 put-token-put-piece-requires : (t : ℕ) → put-token-lts.Need-put-piece-requires (
   put-piece-reads.Asked,
   put-piece-reads.Learnt,
@@ -651,9 +741,8 @@ put-token-put-piece-requires : (t : ℕ) → put-token-lts.Need-put-piece-requir
   put-pairs-below t,
   put-pairs.Post,
 ) (put-token-at t) put-token.Post
-put-token-put-piece-requires t c κs = ?
+put-token-put-piece-requires t c κs = search needs
 
--- src/bodies.rt:150:9
 put-token-same-length : (t : ℕ) → put-token-lts.Need-same-length (
   put-piece-reads.Asked,
   put-piece-reads.Learnt,
@@ -666,9 +755,8 @@ put-token-same-length : (t : ℕ) → put-token-lts.Need-same-length (
   put-pairs-below t,
   put-pairs.Post,
 ) (put-token-at t) put-token.Post
-put-token-same-length t c = ?
+put-token-same-length t c = search needs
 
--- src/bodies.rt:150:9
 put-token-returns : (t : ℕ) → put-token-lts.Need-returns (
   put-piece-reads.Asked,
   put-piece-reads.Learnt,
@@ -681,9 +769,12 @@ put-token-returns : (t : ℕ) → put-token-lts.Need-returns (
   put-pairs-below t,
   put-pairs.Post,
 ) (put-token-at t) put-token.Post
-put-token-returns t c = ?
+put-token-returns t c =
+    let args = c .before .before .before .before .before .before .before .before .args in
+    let ts : List Token = tokens-in (args .words .now) (args .count) in
+    same-bytes (args .out .now) (args .at) _ _ (c .before .before .put-piece .ensures)
+    (sym (bare-text (not-opener (args .piece) (c .before .before .before .before .match .keys2)) (args .text .now) ts (args .from) (args .first) (args .due)))
 
--- src/bodies.rt:152:9
 put-token-put-lead-requires : (t : ℕ) → put-token-lts.Need-put-lead-requires (
   put-piece-reads.Asked,
   put-piece-reads.Learnt,
@@ -696,9 +787,8 @@ put-token-put-lead-requires : (t : ℕ) → put-token-lts.Need-put-lead-requires
   put-pairs-below t,
   put-pairs.Post,
 ) (put-token-at t) put-token.Post
-put-token-put-lead-requires t c κs = ?
+put-token-put-lead-requires t c κs = search needs
 
--- src/bodies.rt:153:9
 put-token-put-byte-requires : (t : ℕ) → put-token-lts.Need-put-byte-requires (
   put-piece-reads.Asked,
   put-piece-reads.Learnt,
@@ -711,9 +801,8 @@ put-token-put-byte-requires : (t : ℕ) → put-token-lts.Need-put-byte-requires
   put-pairs-below t,
   put-pairs.Post,
 ) (put-token-at t) put-token.Post
-put-token-put-byte-requires t c κs = ?
+put-token-put-byte-requires t c κs = search needs
 
--- src/bodies.rt:156:37
 put-token-enum-told : (t : ℕ) → put-token-lts.Need-enum-told (
   put-piece-reads.Asked,
   put-piece-reads.Learnt,
@@ -726,9 +815,8 @@ put-token-enum-told : (t : ℕ) → put-token-lts.Need-enum-told (
   put-pairs-below t,
   put-pairs.Post,
 ) (put-token-at t) put-token.Post
-put-token-enum-told t c = ?
+put-token-enum-told t c = search needs
 
--- src/bodies.rt:156:74
 put-token-cast-put-entries : (t : ℕ) → put-token-lts.Need-cast-put-entries (
   put-piece-reads.Asked,
   put-piece-reads.Learnt,
@@ -741,9 +829,8 @@ put-token-cast-put-entries : (t : ℕ) → put-token-lts.Need-cast-put-entries (
   put-pairs-below t,
   put-pairs.Post,
 ) (put-token-at t) put-token.Post
-put-token-cast-put-entries t c = ?
+put-token-cast-put-entries t c = search needs
 
--- src/bodies.rt:156:17
 put-token-put-entries-requires : (t : ℕ) → put-token-lts.Need-put-entries-requires (
   put-piece-reads.Asked,
   put-piece-reads.Learnt,
@@ -756,9 +843,12 @@ put-token-put-entries-requires : (t : ℕ) → put-token-lts.Need-put-entries-re
   put-pairs-below t,
   put-pairs.Post,
 ) (put-token-at t) put-token.Post
-put-token-put-entries-requires t c κs = ?
+put-token-put-entries-requires t c =
+    let args = c .before .before .before .before .before .before .before .before .before .before .before .before .before .before .before .before .before .args in
+    let ts : List Token = tokens-in (args .words .now) (args .count) in
+    let opened = c .before .before .before .before .before .before .before .before .before .before .before .before .piece .given .1 in
+    λ κs. (enters (args .piece) (args .from) opened (c .before .before .before .before .before .before .before .before .before .before .before .before .before .before .before .before .before .pre .0), enters-range ts (args .piece) (args .from) opened (c .before .before .before .before .before .before .before .before .before .before .before .before .before .before .before .before .before .pre .1))
 
--- src/bodies.rt:157:13
 put-token-put-byte-requires-2 : (t : ℕ) → put-token-lts.Need-put-byte-requires-2 (
   put-piece-reads.Asked,
   put-piece-reads.Learnt,
@@ -771,9 +861,8 @@ put-token-put-byte-requires-2 : (t : ℕ) → put-token-lts.Need-put-byte-requir
   put-pairs-below t,
   put-pairs.Post,
 ) (put-token-at t) put-token.Post
-put-token-put-byte-requires-2 t c κs = ?
+put-token-put-byte-requires-2 t c κs = search needs
 
--- src/bodies.rt:160:35
 put-token-enum-told-2 : (t : ℕ) → put-token-lts.Need-enum-told-2 (
   put-piece-reads.Asked,
   put-piece-reads.Learnt,
@@ -786,9 +875,8 @@ put-token-enum-told-2 : (t : ℕ) → put-token-lts.Need-enum-told-2 (
   put-pairs-below t,
   put-pairs.Post,
 ) (put-token-at t) put-token.Post
-put-token-enum-told-2 t c = ?
+put-token-enum-told-2 t c = search needs
 
--- src/bodies.rt:160:72
 put-token-cast-put-pairs : (t : ℕ) → put-token-lts.Need-cast-put-pairs (
   put-piece-reads.Asked,
   put-piece-reads.Learnt,
@@ -801,9 +889,8 @@ put-token-cast-put-pairs : (t : ℕ) → put-token-lts.Need-cast-put-pairs (
   put-pairs-below t,
   put-pairs.Post,
 ) (put-token-at t) put-token.Post
-put-token-cast-put-pairs t c = ?
+put-token-cast-put-pairs t c = search needs
 
--- src/bodies.rt:160:17
 put-token-put-pairs-requires : (t : ℕ) → put-token-lts.Need-put-pairs-requires (
   put-piece-reads.Asked,
   put-piece-reads.Learnt,
@@ -816,9 +903,12 @@ put-token-put-pairs-requires : (t : ℕ) → put-token-lts.Need-put-pairs-requir
   put-pairs-below t,
   put-pairs.Post,
 ) (put-token-at t) put-token.Post
-put-token-put-pairs-requires t c κs = ?
+put-token-put-pairs-requires t c =
+    let args = c .before .before .before .before .before .before .before .before .before .before .before .before .before .before .before .before .before .args in
+    let ts : List Token = tokens-in (args .words .now) (args .count) in
+    let opened = c .before .before .before .before .before .before .before .before .before .before .before .before .piece .given .1 in
+    λ κs. (enters (args .piece) (args .from) opened (c .before .before .before .before .before .before .before .before .before .before .before .before .before .before .before .before .before .pre .0), enters-range ts (args .piece) (args .from) opened (c .before .before .before .before .before .before .before .before .before .before .before .before .before .before .before .before .before .pre .1))
 
--- src/bodies.rt:161:13
 put-token-put-byte-requires-3 : (t : ℕ) → put-token-lts.Need-put-byte-requires-3 (
   put-piece-reads.Asked,
   put-piece-reads.Learnt,
@@ -831,9 +921,8 @@ put-token-put-byte-requires-3 : (t : ℕ) → put-token-lts.Need-put-byte-requir
   put-pairs-below t,
   put-pairs.Post,
 ) (put-token-at t) put-token.Post
-put-token-put-byte-requires-3 t c κs = ?
+put-token-put-byte-requires-3 t c κs = search needs
 
--- src/bodies.rt:134:1
 put-token-same-length-2 : (t : ℕ) → put-token-lts.Need-same-length-2 (
   put-piece-reads.Asked,
   put-piece-reads.Learnt,
@@ -846,9 +935,8 @@ put-token-same-length-2 : (t : ℕ) → put-token-lts.Need-same-length-2 (
   put-pairs-below t,
   put-pairs.Post,
 ) (put-token-at t) put-token.Post
-put-token-same-length-2 t c = ?
+put-token-same-length-2 t c = search needs
 
--- src/bodies.rt:134:1
 put-token-returns-2 : (t : ℕ) → put-token-lts.Need-returns-2 (
   put-piece-reads.Asked,
   put-piece-reads.Learnt,
@@ -861,9 +949,15 @@ put-token-returns-2 : (t : ℕ) → put-token-lts.Need-returns-2 (
   put-pairs-below t,
   put-pairs.Post,
 ) (put-token-at t) put-token.Post
-put-token-returns-2 t c = ?
+unfolding token-text
+put-token-returns-2 t c =
+    let args = c .before .before .before .before .before .before .before .before .before .before .before .before .before .before .before .before .before .before .before .before .before .before .before .before .args in
+    let ts : List Token = tokens-in (args .words .now) (args .count) in
+    let opened = opened-as (c .before .before .before .before .before .before .before .before .before .before .before .before .before .before .before .before .before .before .before .piece .given .1) (c .before .before .before .before .before .before .before .before .enum-told .given .1) in
+    as-told (λ (p : Piece). append (args .out .now) (args .at) (token-text (args .text .now) ts (args .from) (args .first) (args .due) p))
+    (put-braced (args .out .now) (args .at) _ _ (c .before .before .before .before .before .before .before .before .before .before .before .before .before .before .before .before .put-lead .ensures) (c .before .before .before .before .before .before .before .before .before .before .before .before .put-byte .ensures) (c .before .before .before .before .before .before .put-entries .ensures) (c .before .before .put-byte2 .ensures))
+    opened
 
--- src/bodies.rt:134:1
 put-token-same-length-3 : (t : ℕ) → put-token-lts.Need-same-length-3 (
   put-piece-reads.Asked,
   put-piece-reads.Learnt,
@@ -876,9 +970,8 @@ put-token-same-length-3 : (t : ℕ) → put-token-lts.Need-same-length-3 (
   put-pairs-below t,
   put-pairs.Post,
 ) (put-token-at t) put-token.Post
-put-token-same-length-3 t c = ?
+put-token-same-length-3 t c = search needs
 
--- src/bodies.rt:134:1
 put-token-returns-3 : (t : ℕ) → put-token-lts.Need-returns-3 (
   put-piece-reads.Asked,
   put-piece-reads.Learnt,
@@ -891,7 +984,14 @@ put-token-returns-3 : (t : ℕ) → put-token-lts.Need-returns-3 (
   put-pairs-below t,
   put-pairs.Post,
 ) (put-token-at t) put-token.Post
-put-token-returns-3 t c = ?
+unfolding token-text
+put-token-returns-3 t c =
+    let args = c .before .before .before .before .before .before .before .before .before .before .before .before .before .before .before .before .before .before .before .before .before .before .before .before .args in
+    let ts : List Token = tokens-in (args .words .now) (args .count) in
+    let opened = opened-as (c .before .before .before .before .before .before .before .before .before .before .before .before .before .before .before .before .before .before .before .piece .given .1) (c .before .before .before .before .before .before .before .before .enum-told2 .given .1) in
+    as-told (λ (p : Piece). append (args .out .now) (args .at) (token-text (args .text .now) ts (args .from) (args .first) (args .due) p))
+    (put-braced (args .out .now) (args .at) _ _ (c .before .before .before .before .before .before .before .before .before .before .before .before .before .before .before .before .put-lead .ensures) (c .before .before .before .before .before .before .before .before .before .before .before .before .put-byte .ensures) (c .before .before .before .before .before .before .put-pairs .ensures) (c .before .before .put-byte3 .ensures))
+    opened
 
 pub +put-entries+put-pairs+put-token-spec : {M : Type 1} → statement M
 +put-entries+put-pairs+put-token-spec =

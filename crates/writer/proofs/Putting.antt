@@ -1,0 +1,167 @@
+-- What the routines for pairs and for entries come to, a token at a time, and that the tokens that are left grow fewer.
+-- Assumes nothing.
+use mathlib.Core.Path.{_≡_, refl, sym, _∙_, ap, subst}
+use mathlib.Core.Bool.{Bool, true, false, false≢true}
+use mathlib.Core.List.{List, [], _∷_, _++_}
+use mathlib.Core.Logic.{⊎-elim}
+use Prim.Native.Nat.{ℕ, _+_, _-_, _*_, _≤_, _<_}
+use native.Mathlib.Omega.{arith}
+use lib.ListN.{length}
+use types.Run.{OneOf}
+use denote.Enum.Declared.{tagOf}
+use Rattle.data.specs.Bytes.{brace-open, brace-close}
+use Rattle.put.specs.Append.{wrote, append}
+use Rattle.put.proofs.Append.{chain, put-empty, put-on}
+use Rattle.tape.specs.declared.token.Token.{Token}
+use Rattle.tape.specs.declared.token.ContainerKind.{ContainerKind}
+use Rattle.tape.specs.Token.{nth}
+use Rattle.writer.proofs.pieces.Piece.{the-type}
+use Rattle.writer.specs.declared.dues.Due.{Due}
+use Rattle.writer.specs.declared.dues.Due.the-variants.{Entry}
+use Rattle.writer.specs.declared.pieces.Piece.{Piece}
+use Rattle.writer.specs.declared.pieces.Piece.the-variants.{Scalar, Heading, Sign, Mixed, Opener, Other}
+use Rattle.writer.specs.Forest.{Forest, stretch}
+use Rattle.writer.specs.Pieces.{is-mixed, piece-of}
+use Rattle.writer.specs.Dues.{due-after}
+use Rattle.writer.specs.Text.{still-first, braced, body-text}
+use Rattle.writer.specs.Ranges.{Range, behind, Inside, token-text}
+use Rattle.writer.proofs.Grown.{stretch-none}
+use Rattle.writer.proofs.Walks.{Bare, scalar, heading, sign, mixed, other, step-inside, step-range, step-ahead, step-text}
+
+-- ---- a piece by its tag: one that is not an opener's opens nothing
+abbrev bare-tags : List ℕ
+bare-tags = 0 ∷ 1 ∷ 2 ∷ 3 ∷ 5 ∷ []
+
+not-its-tag : OneOf bare-tags 4 → ⊥
+not-its-tag h = ⊎-elim (λ e. omega (arith, e)) (⊎-elim (λ e. omega (arith, e)) (⊎-elim (λ e. omega (arith, e)) (⊎-elim (λ e. omega (arith, e)) (λ e. omega (arith, e))))) h
+
+pub not-opener : (p : Piece) → OneOf bare-tags (tagOf the-type p) → Bare p
+not-opener (Scalar quoted offset size) h = scalar quoted offset size
+not-opener (Heading offset size) h = heading offset size
+not-opener (Sign number) h = sign number
+not-opener Mixed h = mixed
+not-opener (Opener kind end) h = absurd (not-its-tag h)
+not-opener Other h = other
+
+-- ---- the measures: twice the tokens that are left, and for a container one more than for what stands in it
+abbrev pub left-in : ℕ → ℕ → ℕ
+left-in from end = 2 * (end - from)
+
+abbrev pub span : Piece → ℕ → ℕ
+span (Scalar quoted offset size) from = 0
+span (Heading offset size) from = 0
+span (Sign number) from = 0
+span Mixed from = 0
+span (Opener kind end) from = left-in from end + 1
+span Other from = 0
+
+-- into a container
+pub enters : (p : Piece) (from : ℕ) {kind : ContainerKind} {e t : ℕ} → p ≡ Opener kind e → span p from ≡ t → left-in from e < t
+enters p from {kind} {e} told m = let z : span p from ≡ left-in from e + 1 = rw told in omega (arith, z, m)
+
+pub enters-range : (ts : List Token) (p : Piece) (from : ℕ) {kind : ContainerKind} {e : ℕ} → p ≡ Opener kind e → Inside ts from p → Range ts from e
+enters-range ts p from told h = subst (Inside ts from) told h .0
+
+-- of a kind that is known
+pub opened-as : {p : Piece} {kind is : ContainerKind} {e : ℕ} → p ≡ Opener kind e → kind ≡ is → p ≡ Opener is e
+opened-as {p} {kind} {is} {e} told known = told ∙ ap (λ (k : ContainerKind). Opener k e) known
+
+-- to a token of a body
+span-short : (ts : List Token) (from j : ℕ) (p : Piece) → Inside ts from p → behind p from ≤ j → from ≤ j → span p from ≤ left-in from j
+unfolding behind
+span-short ts from j (Scalar quoted offset size) h g f = omega arith
+span-short ts from j (Heading offset size) h g f = omega arith
+span-short ts from j (Sign number) h g f = omega arith
+span-short ts from j Mixed h g f = omega arith
+span-short ts from j (Opener kind e) h g f = let u = h .1 in omega arith
+span-short ts from j Other h g f = omega arith
+
+module _ (ts : List Token) (i j : ℕ) (b : Range ts i j) (h : i < j) (p : Piece) (is : p ≡ piece-of (nth ts i)) where
+  pub step-span : (from : ℕ) {t : ℕ} → from ≤ i → left-in from j ≡ t → span p (i + 1) < t
+  step-span from u m =
+      let on = step-ahead ts i j b h p is _ refl in
+      let s = span-short ts (i + 1) j p (step-inside ts i j b h p is) (on .1) (omega (arith, h)) in
+      omega (arith, s, u, h, m)
+
+  -- a MixedContainer writes nothing and takes no space, and behind it entries follow as in an array
+  mixed-is : is-mixed p ≡ true → p ≡ Mixed
+  mixed-is e = go p e
+    where
+      go : (q : Piece) → is-mixed q ≡ true → q ≡ Mixed
+      go (Scalar quoted offset size) t = absurd (false≢true t)
+      go (Heading offset size) t = absurd (false≢true t)
+      go (Sign number) t = absurd (false≢true t)
+      go Mixed t = refl
+      go (Opener kind end) t = absurd (false≢true t)
+      go Other t = absurd (false≢true t)
+
+  pub mixed-range : {r : Bool} → r ≡ is-mixed p → r ≡ true → Range ts (i + 1) j
+  unfolding behind
+  mixed-range e f =
+      let m = mixed-is (sym e ∙ f) in
+      step-range ts i j b h p is (i + 1) (ap (λ (q : Piece). behind q (i + 1)) (sym m))
+
+  pub mixed-text : (text : List ℕ) (first : Bool) (due : Due) {r : Bool} → r ≡ is-mixed p → r ≡ true
+      → body-text (stretch ts i j) text first due ≡ body-text (stretch ts (i + 1) j) text first Entry
+  unfolding behind token-text due-after
+  mixed-text text first due e f =
+      let m = mixed-is (sym e ∙ f) in
+      step-text ts i j b h p is (i + 1) (ap (λ (q : Piece). behind q (i + 1)) (sym m)) text first due
+      (ap (still-first first) (sym m)) (ap (due-after due) (sym m))
+      ∙ ap (λ (q : Piece). token-text text ts (i + 1) first due q ++ body-text (stretch ts (i + 1) j) text first Entry) m
+
+-- ---- entries stay entries
+pub entry-stays : (p : Piece) → Entry ≡ due-after Entry p
+unfolding due-after
+entry-stays (Scalar quoted offset size) = refl
+entry-stays (Heading offset size) = refl
+entry-stays (Sign number) = refl
+entry-stays Mixed = refl
+entry-stays (Opener kind end) = refl
+entry-stays Other = refl
+
+-- ---- a container: what stands before it, and its braces round what stands in it
+pub put-braced : (out : List ℕ) (at : ℕ) (lead body : List ℕ) {a b c d : List ℕ} {q r s t : ℕ} → wrote q a ≡ append out at lead
+    → wrote r b ≡ append a q (brace-open ∷ []) → wrote s c ≡ append b r body → wrote t d ≡ append c s (brace-close ∷ [])
+    → wrote t d ≡ append out at (lead ++ braced body)
+put-braced out at lead body e f g h =
+    chain out at lead (braced body) e
+    (chain _ _ (brace-open ∷ []) (body ++ (brace-close ∷ [])) f (chain _ _ body (brace-close ∷ []) g h))
+
+-- ---- the walk over a body: what is left of it, put from here on, makes all that is to be put
+pub record Putting (ts : List Token) (text out₀ : List ℕ) (at from end : ℕ) (whole : List ℕ) (out : List ℕ) (i next : ℕ) (first : Bool) (due : Due) : Type 0 where
+  pub range : Range ts i end
+  pub past : from ≤ i
+  pub left : append out₀ at whole ≡ append out next (body-text (stretch ts i end) text first due)
+  pub same : length out ≡ length out₀
+
+module _ (ts : List Token) (text out₀ : List ℕ) (at from end : ℕ) (whole out : List ℕ) (i next : ℕ) (first : Bool) (due : Due)
+    (w : Putting ts text out₀ at from end whole out i next first due) where
+  -- one token is put
+  pub put-step : (h : i < end) (p : Piece) (is : p ≡ piece-of (nth ts i)) (on : ℕ) → on ≡ behind p (i + 1) → {still : Bool} {after : Due}
+      → still ≡ still-first first p → after ≡ due-after due p → (r : ℕ) (o : List ℕ)
+      → wrote r o ≡ append out next (token-text text ts (i + 1) first due p) → length o ≡ length out
+      → Putting ts text out₀ at from end whole o on r still after
+  put-step h p is on goes e f r o put kept =
+      record {
+        range = step-range ts i end (w .range) h p is on goes;
+        past = omega (arith, step-ahead ts i end (w .range) h p is on goes .0, w .past);
+        left = w .left
+            ∙ put-on out next _ (token-text text ts (i + 1) first due p) _ (step-text ts i end (w .range) h p is on goes text first due e f) put;
+        same = kept ∙ w .same;
+      }
+
+  -- none is left
+  pub put-done : end ≤ i → wrote next out ≡ append out₀ at whole
+  unfolding body-text
+  put-done h = put-empty out next ∙ sym (w .left ∙ ap (λ (f : Forest). append out next (body-text f text first due)) (stretch-none ts i end h))
+
+  -- the rest is put as entries
+  pub put-rest : (h : i < end) (p : Piece) → p ≡ piece-of (nth ts i) → {m : Bool} → m ≡ is-mixed p → m ≡ true → {r : ℕ} {o : List ℕ}
+      → wrote r o ≡ append out next (body-text (stretch ts (i + 1) end) text first Entry) → wrote r o ≡ append out₀ at whole
+  put-rest h p is e f put = put ∙ sym (w .left ∙ ap (append out next) (mixed-text ts i end (w .range) h p is text first due e f))
+
+-- at the start all is left
+pub put-start : (ts : List Token) (text out : List ℕ) (at from end : ℕ) (first : Bool) (due : Due) → Range ts from end
+    → Putting ts text out at from end (body-text (stretch ts from end) text first due) out from at first due
+put-start ts text out at from end first due b = record { range = b; past = omega arith; left = refl; same = refl }
