@@ -7,3 +7,4 @@ pub mod Left
 pub mod Walks
 pub mod Forms
 pub mod Putting
+pub mod Scanned

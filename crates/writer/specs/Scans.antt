@@ -9,6 +9,8 @@ use Rattle.tape.specs.declared.shape.Link.{Link}
 use Rattle.tape.specs.declared.shape.Link.the-variants.{ToEnd, ToOpener, Nothing}
 use Rattle.tape.specs.Shape.{link-of}
 use Rattle.parse.specs.Parse.{text-limit}
+use Rattle.writer.specs.declared.levels.Sunk.{Sunk}
+use Rattle.writer.specs.declared.levels.Sunk.the-variants.{To, TooDeep}
 use Rattle.writer.specs.declared.measure.Measured.{Measured}
 use Rattle.writer.specs.declared.measure.Measured.the-variants.{Size, Over}
 use Rattle.writer.specs.declared.dues.Due.the-variants.{Entry}
@@ -18,15 +20,16 @@ use Rattle.writer.specs.Pieces.{piece-of}
 use Rattle.writer.specs.Text.{lead, still-first, piece-text}
 
 -- ---- levels: an opener goes one down, an End one up
--- whether more than the levels that may be are open somewhere
+-- the levels behind a token, unless they are more than may be
+unfoldable pub sunk : ℕ → Link → Sunk
+sunk level (ToEnd end) = elim (ltb level most-levels) [ true ↦ To (level + 1) | false ↦ TooDeep ]
+sunk level (ToOpener opener) = To (level - 1)
+sunk level Nothing = To level
+
+-- whether more than may be are open somewhere
 unfoldable pub sinks : List Token → ℕ → Bool
 sinks [] level = false
-sinks (x ∷ xs) level =
-    elim (link-of x) [
-      | ToEnd end ↦ elim (ltb level most-levels) [ true ↦ sinks xs (level + 1) | false ↦ true ]
-      | ToOpener opener ↦ sinks xs (level - 1)
-      | Nothing ↦ sinks xs level
-    ]
+sinks (x ∷ xs) level = elim (sunk level (link-of x)) [ To next ↦ sinks xs next | TooDeep ↦ true ]
 
 -- ---- bytes: the byte before a token is one, whichever it is, unless the token is the first of its body
 -- those of a token by its link: an opening brace with what stands before it, a closing one, or those of a piece

@@ -1,66 +1,79 @@
+-- `writer::levels::sinks_too_deep` meets its contract. The invariant: what is left decides, with the levels that are open.
+-- Assumes nothing.
+use borrow.Author.Needs.{needs}
+use Prim.Native.Nat.{_-_, _≤_, _<_}
+use mathlib.Core.Path.{_≡_, refl, sym, _∙_}
+use lib.ListN.{length, drop}
+use Rattle.tape.specs.Words.{tokens-in}
+use Rattle.writer.specs.Levels.{most-levels}
+use Rattle.writer.specs.Scans.{sinks}
+use Rattle.writer.proofs.Forms.{whole-count}
+use Rattle.writer.proofs.Scanned.{deep-told, sinks-on, sinks-now, sinks-none, sunk-within, read-sunk}
+use native.Mathlib.Omega.{arith}
 use Rattle.writer.proofs.levels.sinks_too_deep.Statement.{statement}
 use Rattle.writer.proofs.levels.sinks_too_deep.Tie as tie
-use Rattle.writer.proofs.levels.sinks_too_deep.Reads as reads
-use Rattle.writer.proofs.levels.sinks_too_deep.Lts as lts
-use Rattle.tape.proofs.shape.link_of.Reads as link-of-reads
-use Rattle.tape.proofs.words.token_of.Reads as token-of-reads
 
 abbrev Inv-loop : tie.InvT-loop
-Inv-loop words count level₀ i₀ level i = ?
+Inv-loop words count level₀ i₀ level i =
+    (sinks (tokens-in words count) 0 ≡ sinks (drop i (tokens-in words count)) level) × (level ≤ most-levels)
 
 abbrev μ-loop : tie.MeasureT-loop
-μ-loop words count level₀ i₀ level i = ?
+μ-loop words count level₀ i₀ level i = count - i
 
--- src/levels.rt:20:5
 loop-holds : tie.Need-loop-holds Inv-loop μ-loop
-loop-holds c = ?
+loop-holds c = (refl, omega arith)
 
--- src/levels.rt:21:30
 token-of-requires : tie.Need-token-of-requires Inv-loop μ-loop
-token-of-requires c κs = ?
+token-of-requires c κs = search needs
 
--- src/levels.rt:21:15
 link-of-requires : tie.Need-link-of-requires Inv-loop μ-loop
-link-of-requires c κs = ?
+link-of-requires c κs = search needs
 
--- src/levels.rt:23:20
+sink-requires : tie.Need-sink-requires Inv-loop μ-loop
+sink-requires c κs = c .before .before .before .loop .inv .1
+
+enum-known-next : tie.Need-enum-known-next Inv-loop μ-loop
+enum-known-next c = search needs
+
 enum-told : tie.Need-enum-told Inv-loop μ-loop
-enum-told c = ?
+enum-told c = search needs
 
--- src/levels.rt:24:21
 returns : tie.Need-returns Inv-loop μ-loop
-returns c = ?
+returns c =
+    let told = c .before .before in
+    let in-loop = told .before .before .before in
+    let at-loop = in-loop .before in
+    let args = at-loop .before .before .args in
+    let whole = at-loop .before .before .pre in
+    let m = at-loop .loop in
+    let read = read-sunk (args .words .now) (args .count) (m .i) (m .level) (told .before .before .token-of .ensures) (told .before .link-of .ensures) (told .sink .ensures) in
+    let inside : m .i < length (tokens-in (args .words .now) (args .count)) = omega (arith, whole-count whole, in-loop .loop-test .taken) in
+    sym (sym (deep-told whole) ∙ m .inv .0 ∙ sinks-now _ (m .i) (m .level) inside read (c .enum-told .given .1))
 
--- src/levels.rt:26:17
-add-level : tie.Need-add-level Inv-loop μ-loop
-add-level c = ?
-
--- src/levels.rt:29:20
-enum-told-2 : tie.Need-enum-told-2 Inv-loop μ-loop
-enum-told-2 c = ?
-
--- src/levels.rt:30:21
-sub-level : tie.Need-sub-level Inv-loop μ-loop
-sub-level c = ?
-
-enum-told-3 : tie.Need-enum-told-3 Inv-loop μ-loop
-enum-told-3 c = ?
-
--- src/levels.rt:35:9
 add-i : tie.Need-add-i Inv-loop μ-loop
-add-i c = ?
+add-i c = omega arith
 
--- src/levels.rt:20:5
 loop-less : tie.Need-loop-less Inv-loop μ-loop
-loop-less c = ?
+loop-less c = omega arith
 
--- src/levels.rt:20:5
 loop-again : tie.Need-loop-again Inv-loop μ-loop
-loop-again c = ?
+loop-again c =
+    let told = c .before .before .before in
+    let in-loop = told .before .before .before in
+    let at-loop = in-loop .before in
+    let args = at-loop .before .before .args in
+    let whole = at-loop .before .before .pre in
+    let m = at-loop .loop in
+    let read = read-sunk (args .words .now) (args .count) (m .i) (m .level) (told .before .before .token-of .ensures) (told .before .link-of .ensures) (told .sink .ensures) in
+    let inside : m .i < length (tokens-in (args .words .now) (args .count)) = omega (arith, whole-count whole, in-loop .loop-test .taken) in
+    let next = c .before .next .given .1 in
+    (m .inv .0 ∙ sinks-on _ (m .i) (m .level) inside read next, sunk-within (m .level) _ (m .inv .1) (sym read ∙ next))
 
--- src/levels.rt:14:1
 returns-2 : tie.Need-returns-2 Inv-loop μ-loop
-returns-2 c = ?
+returns-2 c =
+    let at-loop = c .before in
+    let whole = at-loop .before .before .pre in
+    sym (sym (deep-told whole) ∙ at-loop .loop .inv .0 ∙ sinks-none _ (at-loop .loop .i) (at-loop .loop .level) (omega (arith, whole-count whole)))
 
 pub sinks-too-deep-spec : {M : Type 1} → statement M
 sinks-too-deep-spec =
@@ -71,12 +84,10 @@ sinks-too-deep-spec =
     loop-holds
     token-of-requires
     link-of-requires
+    sink-requires
+    enum-known-next
     enum-told
     returns
-    add-level
-    enum-told-2
-    sub-level
-    enum-told-3
     add-i
     loop-less
     loop-again
