@@ -2,10 +2,10 @@
 // bytes and a body of that length; numbers have their larger bytes first. Input is read and answers are written in large blocks.
 use libc::STDIN_FILENO;
 use libc::STDOUT_FILENO;
+use put::front;
 use report::limits::DUMP_BYTES;
 use report::limits::MOST_INPUT;
 use report::limits::TAPE_WORDS;
-use put::front;
 use tape::words::WORDS_PER_TOKEN;
 ghost use Prim.Native.Nat.{_+_, _≤_, _<_};
 ghost use lib.ListN.{length};

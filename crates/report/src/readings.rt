@@ -2,8 +2,8 @@
 use crate::numbers::put_decimal;
 use crate::numbers::put_hex;
 use crate::numbers::put_integer;
-use put::put_byte;
 use crate::tokens::bit;
+use put::put_byte;
 use scalar::BoolRead;
 use scalar::F64Read;
 use scalar::I64Read;

@@ -8,3 +8,4 @@ pub mod Walks
 pub mod Forms
 pub mod Putting
 pub mod Scanned
+pub mod Weighing

@@ -124,7 +124,7 @@ module _ (text other words tape : List ℕ) (count found : ℕ) (fits : words-fo
     found-short e f =
         let short = leb-false (words-for count) (length tape) (sym e ∙ f) in
         let fewer : length (tokens-in words count) ≡ length (tokens-in tape count) → ⊥ =
-            λ z. omega (arith, z, short, tokens-counted words count fits, tokens-length tape count) in
+        λ z. omega (arith, z, short, tokens-counted words count fits, tokens-length tape count) in
         sym (counted ∙ other-count text other _ _ fewer)
 
 -- what is left of both from i on decides

@@ -65,14 +65,7 @@ fn same_token(text: &[u8], other: &[u8], x: Token, y: Token) -> bool
 }
 
 // Whether so many tokens that were found are a sheet's, each over its own text.
-fn alike(
-    text: &[u8],
-    other: &[u8],
-    words: &[u32],
-    count: usize,
-    tape: &[u32],
-    found: usize,
-) -> bool
+fn alike(text: &[u8], other: &[u8], words: &[u32], count: usize, tape: &[u32], found: usize) -> bool
     requires { ⌜ words-for count ≤ length (now words) ⌝ }
     ensures { λ r. ⌜ r ≡ found-alike (now (text .entry)) (now (other .entry)) (tokens-in (now (words .entry)) count) found (now (tape .entry)) ⌝ }
 {

@@ -63,14 +63,7 @@ fn put_sign(out: &mut [u8], at: usize, number: u32) -> usize
 }
 
 // Puts a part of the text, in quotes or as it is.
-fn put_scalar(
-    out: &mut [u8],
-    at: usize,
-    text: &[u8],
-    quoted: bool,
-    offset: u32,
-    size: u32,
-) -> usize
+fn put_scalar(out: &mut [u8], at: usize, text: &[u8], quoted: bool, offset: u32, size: u32) -> usize
     ensures { λ r. ⌜ wrote r (now (out .exit)) ≡ append (now (out .entry)) at (quote-if quoted (view-of (now (text .entry)) offset size)) ⌝ }
 {
     let bytes = part(text, offset as usize, size as usize);
@@ -183,7 +176,17 @@ fn put_entries(
     let mut first = alone;
     while i < end {
         let piece = piece_of(words::token_of(words, count, i));
-        next = put_token(out, next, text, words, count, i + 1, first, Due::Entry, piece);
+        next = put_token(
+            out,
+            next,
+            text,
+            words,
+            count,
+            i + 1,
+            first,
+            Due::Entry,
+            piece,
+        );
         first = still_first(first, piece);
         i = behind(piece, i + 1);
     }

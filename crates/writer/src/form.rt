@@ -123,7 +123,12 @@ pub(crate) fn all_formed(words: &[u32], count: usize) -> bool
     }
     let mut i = 0;
     while i < count {
-        if !inside_formed(words, count, i + 1, piece_of(words::token_of(words, count, i))) {
+        if !inside_formed(
+            words,
+            count,
+            i + 1,
+            piece_of(words::token_of(words, count, i)),
+        ) {
             return false;
         }
         i += 1;

@@ -114,11 +114,17 @@ fn refuse(out: &mut [u8], scratch: &mut [u32], r: Refusal) -> Written
 }
 
 // Writes a sheet that fits, and reads it back.
-fn write_fitting(text: &[u8], words: &[u32], count: usize, out: &mut [u8], scratch: &mut [u32]) -> Written
+fn write_fitting(
+    text: &[u8],
+    words: &[u32],
+    count: usize,
+    out: &mut [u8],
+    scratch: &mut [u32],
+) -> Written
     requires { ⌜ Whole (now words) count × (length (text-of (now text) (tokens-in (now words) count)) ≤ length (now out)) ⌝ }
     ensures { λ r. ⌜ left r (now (out .exit)) (now (scratch .exit))
         ≡ read-back (now (text .entry)) (tokens-in (now (words .entry)) count) (length (now (out .entry))) (length (now (scratch .entry)))
-            (text-of (now (text .entry)) (tokens-in (now (words .entry)) count)) ⌝ }
+        (text-of (now (text .entry)) (tokens-in (now (words .entry)) count)) ⌝ }
 {
     let size = put_pairs(out, 0, text, words, count, 0, count);
     put::clear_from(out, size);

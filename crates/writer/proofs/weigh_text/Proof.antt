@@ -1,42 +1,52 @@
+-- `writer::weigh_text` meets its contract: the measured length decides, then the buffer, then the scratch.
+-- Assumes nothing.
 use borrow.Author.Needs.{needs}
+use mathlib.Core.List.{List}
+use lib.ListN.{length}
+use Rattle.tape.specs.declared.token.Token.{Token}
+use Rattle.tape.specs.Words.{tokens-in}
+use Rattle.writer.proofs.Forms.{whole-count}
+use Rattle.writer.proofs.Weighing.{text-over, text-no-room, scratch-no-room, text-fits}
 use Rattle.writer.proofs.weigh_text.Statement.{statement}
 use Rattle.writer.proofs.weigh_text.Tie as tie
-use Rattle.writer.proofs.weigh_text.Reads as reads
-use Rattle.writer.proofs.weigh_text.Lts as lts
-use Rattle.tape.proofs.words.capacity.Reads as capacity-reads
-use Rattle.writer.proofs.measure.measure.Reads as measure-reads
 
--- src/lib.rt:76:11
 measure-requires : tie.Need-measure-requires
-measure-requires c κs = search needs
+measure-requires c κs = c .before .before .before .pre
 
--- src/lib.rt:77:24
 enum-known-size : tie.Need-enum-known-size
 enum-known-size c = search needs
 
--- src/lib.rt:79:17
 returns : tie.Need-returns
-returns c = ?
+returns c =
+    let args = c .before .before .before .before .before .before .before .before .args in
+    let ts : List Token = tokens-in (args .words .now) (args .count) in
+    text-no-room (args .room) _ ts _ (c .before .before .before .before .measure .ensures) (c .before .before .size .given .1) (c .if1 .taken)
 
--- src/lib.rt:81:16
 capacity-requires : tie.Need-capacity-requires
 capacity-requires c κs = search needs
 
--- src/lib.rt:82:17
 returns-2 : tie.Need-returns-2
-returns-2 c = ?
+returns-2 c =
+    let args = c .before .before .before .before .before .before .before .before .before .before .args in
+    let ts : List Token = tokens-in (args .words .now) (args .count) in
+    let asked = c .before .before in
+    scratch-no-room (args .room) _ ts _ (asked .before .before .before .before .measure .ensures) (asked .before .before .size .given .1) (asked .if1 .left) (whole-count (c .before .before .before .before .before .before .before .before .before .before .pre)) (c .before .capacity .ensures) (c .if2 .taken)
 
--- src/lib.rt:86:44
 enum-told : tie.Need-enum-told
 enum-told c = search needs
 
--- src/lib.rt:71:1
 returns-3 : tie.Need-returns-3
-returns-3 c = ?
+returns-3 c =
+    let args = c .before .before .before .before .before .before .before .before .before .before .args in
+    let ts : List Token = tokens-in (args .words .now) (args .count) in
+    let asked = c .before .before in
+    text-fits (args .room) _ ts _ (asked .before .before .before .before .measure .ensures) (asked .before .before .size .given .1) (asked .if1 .left) (whole-count (c .before .before .before .before .before .before .before .before .before .before .pre)) (c .before .capacity .ensures) (c .if2 .left)
 
--- src/lib.rt:71:1
 returns-4 : tie.Need-returns-4
-returns-4 c = ?
+returns-4 c =
+    let args = c .before .before .before .before .before .before .args in
+    let ts : List Token = tokens-in (args .words .now) (args .count) in
+    text-over (args .room) _ ts _ (c .before .before .measure .ensures) (c .enum-told .given .1)
 
 pub weigh-text-spec : {M : Type 1} → statement M
 weigh-text-spec =

@@ -1,56 +1,75 @@
+-- `writer::write_fitting` meets its contract: the text is put and read back, and what does not read the same is cleared.
+-- Assumes nothing.
 use borrow.Author.Needs.{needs}
+use mathlib.Core.Path.{_∙_, ap}
+use mathlib.Core.List.{List}
+use Prim.Native.Nat.{ℕ}
+use lib.ListN.{length}
+use Rattle.put.specs.Append.{append}
+use Rattle.tape.specs.declared.token.Token.{Token}
+use Rattle.tape.specs.Words.{tokens-in}
+use Rattle.writer.specs.Write.{text-of}
+use Rattle.writer.proofs.Forms.{whole-range}
+use Rattle.writer.proofs.Left.{buffer-cleared}
+use Rattle.writer.proofs.Weighing.{whole-text, put-size, put-cleared, put-front, reads-back, reads-otherwise}
 use Rattle.writer.proofs.write_fitting.Statement.{statement}
 use Rattle.writer.proofs.write_fitting.Tie as tie
-use Rattle.writer.proofs.write_fitting.Reads as reads
-use Rattle.writer.proofs.write_fitting.Lts as lts
-use Rattle.put.proofs.clear_from.Reads as clear-from-reads
-use Rattle.put.proofs.front.Reads as front-reads
-use Rattle.writer.proofs.back.comes_back.Reads as comes-back-reads
-use Rattle.writer.proofs.bodies.put_pairs.Reads as put-pairs-reads
 
--- src/lib.rt:123:9
 put-pairs-requires : tie.Need-put-pairs-requires
-put-pairs-requires c κs = ?
+put-pairs-requires c κs = whole-range (c .before .before .before .before .before .pre .0)
 
--- src/lib.rt:124:5
 clear-from-requires : tie.Need-clear-from-requires
 clear-from-requires c κs = search needs
 
--- src/lib.rt:125:45
 front-requires : tie.Need-front-requires
 front-requires c κs = search needs
 
--- src/lib.rt:125:8
 comes-back-requires : tie.Need-comes-back-requires
-comes-back-requires c κs = search needs
+comes-back-requires c κs =
+    c .before .before .before .before .before .before .before .before .before .before .before .before .before .before .before .pre .0 .sound .fits
 
--- src/lib.rt:126:9
 same-length : tie.Need-same-length
 same-length c = search needs
 
--- src/lib.rt:126:9
 same-length-2 : tie.Need-same-length-2
 same-length-2 c = search needs
 
--- src/lib.rt:126:9
 returns : tie.Need-returns
-returns c = ?
+returns c =
+    let back = c .before .before .before in
+    let cleared = c .before .before .before .before .before .before .before .before .before in
+    let start = c .before .before .before .before .before .before .before .before .before .before .before .before .before .before .before .before .before .before .before in
+    let args = start .args in
+    let ts : List Token = tokens-in (args .words .now) (args .count) in
+    let bytes : List ℕ = text-of (args .text .now) ts in
+    let put = c .before .before .before .before .before .before .before .before .before .before .before .before .before .put-pairs .ensures ∙ ap (append (args .out .now) 0) (whole-text (start .pre .0) (args .text .now)) in
+    let fits = start .pre .1 in
+    let front = put-front (args .out .now) bytes fits put (cleared .clear-from .ensures) (c .before .before .before .before .before .front .ensures .0) in
+    reads-back (args .text .now) ts (length (args .out .now)) (length (args .scratch .now)) bytes front (back .comes-back .ensures .0) (back .comes-back .ensures .1)
+    (c .if1 .taken) (put-size (args .out .now) bytes fits put) (put-cleared (args .out .now) bytes fits put (cleared .clear-from .ensures))
 
--- src/lib.rt:128:5
 clear-from-requires-2 : tie.Need-clear-from-requires-2
 clear-from-requires-2 c κs = search needs
 
--- src/lib.rt:117:1
 same-length-3 : tie.Need-same-length-3
 same-length-3 c = search needs
 
--- src/lib.rt:117:1
 same-length-4 : tie.Need-same-length-4
 same-length-4 c = search needs
 
--- src/lib.rt:117:1
 returns-2 : tie.Need-returns-2
-returns-2 c = ?
+returns-2 c =
+    let back = c .before .before .before .before .before .before .before in
+    let cleared = c .before .before .before .before .before .before .before .before .before .before .before .before .before in
+    let start = c .before .before .before .before .before .before .before .before .before .before .before .before .before .before .before .before .before .before .before .before .before .before .before in
+    let args = start .args in
+    let ts : List Token = tokens-in (args .words .now) (args .count) in
+    let bytes : List ℕ = text-of (args .text .now) ts in
+    let put = c .before .before .before .before .before .before .before .before .before .before .before .before .before .before .before .before .before .put-pairs .ensures ∙ ap (append (args .out .now) 0) (whole-text (start .pre .0) (args .text .now)) in
+    let fits = start .pre .1 in
+    let front = put-front (args .out .now) bytes fits put (cleared .clear-from .ensures) (c .before .before .before .before .before .before .before .before .before .front .ensures .0) in
+    reads-otherwise (args .text .now) ts (length (args .out .now)) (length (args .scratch .now)) bytes front (back .comes-back .ensures .0) (back .comes-back .ensures .1)
+    (c .before .before .before .before .if1 .left) (buffer-cleared (cleared .clear-from .last .0) (c .before .before .clear-from2 .ensures) (cleared .clear-from .kept .0 ∙ c .before .before .before .before .before .before .before .before .before .before .before .before .before .before .before .before .before .put-pairs .kept .0))
 
 pub write-fitting-spec : {M : Type 1} → statement M
 write-fitting-spec =
