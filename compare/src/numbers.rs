@@ -21,6 +21,13 @@ pub const LONGEST: usize = 32_768;
 /// The dump's room in tokens, and the most that a record asks for.
 pub const MOST_TOKENS: u16 = 5_000;
 
+/// The most bytes of room that a record lends for a text that is written, and the most words of scratch.
+pub const MOST_ROOM: usize = 32_768;
+pub const MOST_SCRATCH: usize = 16_384;
+
+/// How many containers a text that is written may have one in another.
+pub const MOST_LEVELS: usize = 64;
+
 /// Words that are room for every text of so many bytes: 2n + 1 tokens.
 pub fn room_for(bytes: usize) -> usize {
     WORDS * (2 * bytes + 1)
@@ -76,6 +83,11 @@ pub fn is_quoted(code: u32) -> bool {
     QUOTED_CODES.contains(&code)
 }
 
+/// The codes of the scalars that request W5 writes out as a key or as an entry by itself.
+pub fn is_written(code: u32) -> bool {
+    code == UNQUOTED || is_quoted(code)
+}
+
 pub fn is_opener(code: u32) -> bool {
     OPENER_CODES.contains(&code)
 }
@@ -96,6 +108,14 @@ pub const EXACT: u32 = 6;
 pub const EQUAL: u32 = 7;
 pub const EXISTS: u32 = 8;
 
+/// An operator's sign in a text, in the order of the numbers.
+pub const SIGNS: [&str; 8] = ["<", "<=", ">", ">=", "!=", "==", "=", "?="];
+
+/// The sign of the operator with this number, which is one of the eight.
+pub fn sign(operator: u32) -> &'static str {
+    SIGNS[(operator - LESS_THAN) as usize]
+}
+
 // ---- Refusals ----
 
 pub const TOO_LONG: u8 = 1;
@@ -114,6 +134,14 @@ pub const ALL_DIGITS: u8 = 21;
 pub const OVERFLOW: u8 = 22;
 pub const INVALID_BOOL: u8 = 23;
 pub const PRECISION_LOSS: u8 = 24;
+
+/// Those of request W5, which holds them against a sheet in the order 41, 46, 42, 43, 44, 45.
+pub const NOT_SOUND: u8 = 41;
+pub const TOO_DEEP: u8 = 42;
+pub const TEXT_TOO_LONG: u8 = 43;
+pub const NO_ROOM: u8 = 44;
+pub const READS_DIFFERENTLY: u8 = 45;
+pub const OTHER_FORM: u8 = 46;
 
 // ---- Reading kinds ----
 

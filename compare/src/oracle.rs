@@ -2,7 +2,7 @@
 
 use crate::numbers::*;
 use crate::record::{self, Question, bits, reading};
-use crate::sheet;
+use crate::{sheet, writer};
 use jomini::text::Operator;
 use jomini::{ErrorKind, Scalar, ScalarError, TextTape, TextToken};
 
@@ -149,5 +149,6 @@ pub fn answer(question: Question<'_>, out: &mut String) {
         Question::View { index, count, words, text } => {
             record::write_view(out, sheet::view(text, &words, count, index));
         }
+        Question::Write(asked) => record::write_written(out, writer::write(&asked)),
     }
 }

@@ -34,6 +34,16 @@ impl Record {
         Record { kind: b'V', capacity: 0, body }
     }
 
+    /// A sheet to be written out, with `room` bytes for its text and a scratch of so many words.
+    pub fn write(room: u16, scratch: u16, count: u32, words: &[u32], text: &[u8]) -> Self {
+        let mut body = scratch.to_be_bytes().to_vec();
+        body.extend(count.to_be_bytes());
+        body.extend((words.len() as u16).to_be_bytes());
+        body.extend(words.iter().flat_map(|w| w.to_be_bytes()));
+        body.extend(text);
+        Record { kind: b'W', capacity: room, body }
+    }
+
     pub fn bytes(&self) -> Vec<u8> {
         let mut bytes = vec![self.kind];
         bytes.extend(self.capacity.to_be_bytes());
@@ -49,6 +59,16 @@ pub enum Question<'r> {
     Scalar { bytes: &'r [u8] },
     Check { length: u32, count: u32, words: Vec<u32> },
     View { index: u32, count: u32, words: Vec<u32>, text: &'r [u8] },
+    Write(ToWrite<'r>),
+}
+
+/// A sheet that is to be written out: the room for its text in bytes, the scratch in words.
+pub struct ToWrite<'r> {
+    pub room: usize,
+    pub scratch: usize,
+    pub count: u32,
+    pub words: Vec<u32>,
+    pub text: &'r [u8],
 }
 
 fn words(bytes: &[u8]) -> Vec<u32> {
@@ -82,6 +102,19 @@ impl Record {
                 let (sheet, text) = rest.split_at_checked(bytes)?;
                 let head = words(&head[..8]);
                 Some(Question::View { index: head[0], count: head[1], words: words(sheet), text })
+            }
+            b'W' => {
+                let (head, rest) = body.split_first_chunk::<8>()?;
+                let &[s0, s1, c0, c1, c2, c3, w0, w1] = head;
+                let bytes = 4 * usize::from(u16::from_be_bytes([w0, w1]));
+                let (sheet, text) = rest.split_at_checked(bytes)?;
+                Some(Question::Write(ToWrite {
+                    room: usize::from(self.capacity),
+                    scratch: usize::from(u16::from_be_bytes([s0, s1])),
+                    count: u32::from_be_bytes([c0, c1, c2, c3]),
+                    words: words(sheet),
+                    text,
+                }))
             }
             _ => None,
         }
@@ -152,12 +185,23 @@ pub fn bits(float: f64) -> String {
 pub fn write_view<E>(out: &mut String, view: Result<&[u8], E>) {
     match view {
         Err(_) => writeln!(out, "refused {NO_SCALAR}").unwrap(),
-        Ok(bytes) => {
-            out.push_str("view ");
-            bytes.iter().for_each(|b| write!(out, "{b:02x}").unwrap());
-            out.push('\n');
-        }
+        Ok(bytes) => write_hex(out, "view", bytes),
     }
+}
+
+/// One line for a sheet's text, or for the refusal to write it.
+pub fn write_written(out: &mut String, written: Result<Vec<u8>, u8>) {
+    match written {
+        Err(number) => writeln!(out, "refused {number}").unwrap(),
+        Ok(bytes) => write_hex(out, "text", &bytes),
+    }
+}
+
+/// A word, a space, and the bytes in hex: none leave the space at the line's end.
+fn write_hex(out: &mut String, word: &str, bytes: &[u8]) {
+    write!(out, "{word} ").unwrap();
+    bytes.iter().for_each(|b| write!(out, "{b:02x}").unwrap());
+    out.push('\n');
 }
 
 pub fn write_sound(out: &mut String, sound: bool) {
@@ -181,11 +225,12 @@ mod tests {
             Record::scalar(Vec::new()),
             Record::check(0, 0, &[]),
             Record::view(0, 0, &[1], b""),
+            Record::write(0, 0, u32::MAX, &[1], b""),
             Record { capacity: 65_535, ..Record::scalar(Vec::new()) },
         ];
         let input: Vec<u8> = good.iter().flat_map(Record::bytes).collect();
         assert_eq!(served(&input), "answer\n".repeat(good.len()));
-        assert_eq!(served(&input[..input.len() - 1]), "answer\n".repeat(4) + "bad record\n");
+        assert_eq!(served(&input[..input.len() - 1]), "answer\n".repeat(5) + "bad record\n");
     }
 
     #[test]
@@ -198,8 +243,10 @@ mod tests {
             body(b'C', 7),
             body(b'C', 9),
             body(b'V', 9),
+            body(b'W', 7),
             Record::text(Vec::new(), MOST_TOKENS + 1),
             Record { body: vec![0, 0, 0, 0, 0, 0, 0, 0, 0, 1, 0, 0, 0], ..body(b'V', 0) },
+            Record { body: vec![0, 0, 0, 0, 0, 0, 0, 1, 0, 0, 0], ..body(b'W', 0) },
         ] {
             let input = [good.bytes(), bad.bytes(), good.bytes()].concat();
             assert_eq!(served(&input), "answer\nbad record\n");

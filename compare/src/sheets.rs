@@ -6,14 +6,15 @@ use crate::record::Record;
 use crate::rng::Rng;
 use crate::texts;
 
-struct Sheet {
-    text: Vec<u8>,
-    words: Vec<u32>,
-    count: u32,
+#[derive(Clone)]
+pub struct Sheet {
+    pub text: Vec<u8>,
+    pub words: Vec<u32>,
+    pub count: u32,
 }
 
 /// The sheet of some text that parses. What the Rust laid before a refusal counts as one, too.
-fn parsed(rng: &mut Rng) -> Sheet {
+pub fn parsed(rng: &mut Rng) -> Sheet {
     loop {
         let text = texts::any(rng);
         let parsed = oracle::parse(&text);
@@ -73,7 +74,7 @@ pub fn view(rng: &mut Rng) -> Record {
 }
 
 /// Words behind the tokens, which are ignored, or words that are missing.
-fn spare(rng: &mut Rng, sheet: &mut Sheet) {
+pub fn spare(rng: &mut Rng, sheet: &mut Sheet) {
     match rng.below(12) {
         0 => sheet.words.resize(sheet.words.len() + rng.between(1, 7), 0),
         1 => (0..rng.between(1, 4)).for_each(|_| sheet.words.push(rng.word() as u32)),
@@ -83,7 +84,7 @@ fn spare(rng: &mut Rng, sheet: &mut Sheet) {
 }
 
 /// A number beside this one, or one that three times makes run over.
-fn near(rng: &mut Rng, number: u32) -> u32 {
+pub fn near(rng: &mut Rng, number: u32) -> u32 {
     match rng.below(8) {
         0 => 0,
         1 => number.saturating_add(1),
@@ -106,7 +107,7 @@ fn small(rng: &mut Rng) -> u32 {
 }
 
 /// One word becomes another: beside it, out of the sheet, or out of all bounds.
-fn change(rng: &mut Rng, sheet: &mut Sheet) {
+pub fn change(rng: &mut Rng, sheet: &mut Sheet) {
     if sheet.words.is_empty() {
         sheet.words.extend(token(small(rng), rng.below(3) as u32, rng.below(3) as u32));
         sheet.count = 1;
@@ -124,7 +125,7 @@ fn change(rng: &mut Rng, sheet: &mut Sheet) {
 }
 
 /// One token is bent where its kind can be: just past a limit, or to its neighbour.
-fn bend(rng: &mut Rng, sheet: &mut Sheet) {
+pub fn bend(rng: &mut Rng, sheet: &mut Sheet) {
     if sheet.words.is_empty() {
         return;
     }

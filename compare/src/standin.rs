@@ -1,6 +1,7 @@
 //! The model's answers, for testing the comparison, and the faults that it can be given.
 
 use crate::model::{self, F64Refusal, Refusal};
+use crate::model_writer::{self, Fault as WriterFault};
 use crate::numbers::*;
 use crate::record::{self, Question, bits, reading};
 
@@ -15,7 +16,12 @@ fn readings(bytes: &[u8]) -> String {
     format!("{yes} {whole} {signed} {float} {}\n", model::kind(bytes))
 }
 
-pub fn answer(question: Question<'_>, out: &mut String) {
+/// The model's answer, or that of a wrong program.
+pub fn answer(question: Question<'_>, fault: Option<Fault>, out: &mut String) {
+    let writer_fault = match fault {
+        Some((_, Wrong::Writer(fault))) => Some(fault),
+        _ => None,
+    };
     match question {
         Question::Text { text, capacity } => {
             let mut tape = vec![u32::MAX; WORDS * capacity + capacity % WORDS];
@@ -31,24 +37,66 @@ pub fn answer(question: Question<'_>, out: &mut String) {
         Question::View { index, count, words, text } => {
             record::write_view(out, model::view(text, &words, count, index));
         }
+        Question::Write(asked) => {
+            record::write_written(out, model_writer::write(&asked, writer_fault));
+        }
+    }
+    if let Some((_, Wrong::Answer(spoilt))) = fault {
+        *out = spoilt(out);
     }
 }
 
-/// A wrong program, by its name and what it makes of a right answer.
-pub type Fault = (&'static str, fn(&str) -> String);
+/// What is wrong with a program: what it makes of a right answer, or how it writes a sheet.
+#[derive(Clone, Copy)]
+pub enum Wrong {
+    Answer(fn(&str) -> String),
+    Writer(WriterFault),
+}
 
-pub const FAULTS: [Fault; 11] = [
-    ("exists_is_equal", |right| right.replace(&operator(EXISTS), &operator(EQUAL))),
-    ("not_equal_is_exact", |right| right.replace(&operator(NOT_EQUAL), &operator(EXACT))),
-    ("place_of_7_at_it", |right| shift_place(right, NOTHING_BEFORE_OPERATOR)),
-    ("place_of_8_at_it", |right| shift_place(right, UNKNOWN_OPERATOR)),
-    ("place_of_10_one_on", |right| shift_place(right, OPEN_PARAMETER_NAME)),
-    ("minus_zero_lost", |right| right.replace("=8000000000000000", "=0000000000000000")),
-    ("ties_away", |right| right.replace(&loss(SAFE), &loss(SAFE + 1))),
-    ("bom_forgotten", |right| right.replace(" bom 1\n", " bom 0\n")),
-    ("escape_lost", |right| right.replace(&named(QUOTED_ESCAPE), &named(QUOTED))),
-    ("escape_everywhere", |right| right.replace(&named(QUOTED), &named(QUOTED_ESCAPE))),
-    ("empty_view_refused", |right| right.replace("view \n", &format!("refused {NO_SCALAR}\n"))),
+/// A wrong program and its name.
+pub type Fault = (&'static str, Wrong);
+
+/// The fault of this name.
+pub fn fault(name: &str) -> Option<Fault> {
+    FAULTS.into_iter().find(|fault| fault.0 == name)
+}
+
+pub const FAULTS: [Fault; 23] = [
+    ("exists_is_equal", Wrong::Answer(|right| right.replace(&operator(EXISTS), &operator(EQUAL)))),
+    (
+        "not_equal_is_exact",
+        Wrong::Answer(|right| right.replace(&operator(NOT_EQUAL), &operator(EXACT))),
+    ),
+    ("place_of_7_at_it", Wrong::Answer(|right| shift_place(right, NOTHING_BEFORE_OPERATOR))),
+    ("place_of_8_at_it", Wrong::Answer(|right| shift_place(right, UNKNOWN_OPERATOR))),
+    ("place_of_10_one_on", Wrong::Answer(|right| shift_place(right, OPEN_PARAMETER_NAME))),
+    (
+        "minus_zero_lost",
+        Wrong::Answer(|right| right.replace("=8000000000000000", "=0000000000000000")),
+    ),
+    ("ties_away", Wrong::Answer(|right| right.replace(&loss(SAFE), &loss(SAFE + 1)))),
+    ("bom_forgotten", Wrong::Answer(|right| right.replace(" bom 1\n", " bom 0\n"))),
+    ("escape_lost", Wrong::Answer(|right| right.replace(&named(QUOTED_ESCAPE), &named(QUOTED)))),
+    (
+        "escape_everywhere",
+        Wrong::Answer(|right| right.replace(&named(QUOTED), &named(QUOTED_ESCAPE))),
+    ),
+    (
+        "empty_view_refused",
+        Wrong::Answer(|right| right.replace("view \n", &format!("refused {NO_SCALAR}\n"))),
+    ),
+    ("form_to_level_64", Wrong::Writer(WriterFault::FormTo64)),
+    ("room_before_depth", Wrong::Writer(WriterFault::RoomBeforeDepth)),
+    ("escape_without_quotes", Wrong::Writer(WriterFault::EscapeBare)),
+    ("space_in_braces", Wrong::Writer(WriterFault::SpaceInBraces)),
+    ("mixed_with_a_space", Wrong::Writer(WriterFault::MixedSpaced)),
+    ("flag_not_compared", Wrong::Writer(WriterFault::FlagForgotten)),
+    ("equal_with_spaces", Wrong::Writer(WriterFault::EqualSpaced)),
+    ("root_is_a_level", Wrong::Writer(WriterFault::RootIsLevel)),
+    ("header_is_a_level", Wrong::Writer(WriterFault::HeaderIsLevel)),
+    ("empty_is_no_level", Wrong::Writer(WriterFault::EmptyIsNoLevel)),
+    ("operator_7_is_none", Wrong::Writer(WriterFault::SevenIsNone)),
+    ("scratch_not_measured", Wrong::Writer(WriterFault::ScratchForgotten)),
 ];
 
 /// A name as it stands in a line of the dump.

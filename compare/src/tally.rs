@@ -1,9 +1,10 @@
 //! What a run reached: cases by kind, refusals, token codes, operators, escapes, readings, faults of
-//! sheets.
+//! sheets, and what sheets that were to be written out came to.
 
 use crate::numbers::*;
-use crate::record::{Question, Record};
+use crate::record::{Question, Record, ToWrite};
 use crate::sheet::{self, FAULTS, NoScalar};
+use crate::writer::{self, Judged};
 use std::collections::BTreeMap;
 use std::fmt;
 
@@ -67,7 +68,7 @@ const CAUSES: [NoScalar; 4] = [
 /// All that records can reach. Refusal 1 needs a text longer than a record holds.
 fn expected() -> Vec<Feature> {
     let mut all: Vec<Feature> = Vec::new();
-    all.extend(["T", "S", "C", "V"].map(|kind| ("cases", kind.to_string())));
+    all.extend(["T", "S", "C", "V", "W"].map(|kind| ("cases", kind.to_string())));
     all.extend((EOF..=FULL).map(|number| ("refusals", number.to_string())));
     all.extend(NAMES.map(|(_, name)| ("tokens", name.to_string())));
     all.extend((LESS_THAN..=EXISTS).map(|kind| ("operators", kind.to_string())));
@@ -86,8 +87,31 @@ fn expected() -> Vec<Feature> {
     all.extend(FAULTS.map(|fault| ("failing this alone", format!("{fault:?}"))));
     all.extend(["empty", "bytes"].map(|view| ("views", view.to_string())));
     all.extend(CAUSES.map(|cause| ("no view for", format!("{cause:?}"))));
+    all.extend(["empty", "bytes", "plain"].map(|text| ("written", text.to_string())));
+    all.extend(writer::CAUSES.map(|cause| ("not written for", format!("{cause:?}"))));
+    all.extend(AT_ONCE.map(|(first, then)| ("two refusals", format!("{first} and {then}"))));
+    let written = NAMES.iter().filter(|(code, _)| ![PARAMETER, UNDEFINED_PARAMETER].contains(code));
+    all.extend(written.map(|(_, name)| ("written tokens", name.to_string())));
+    all.extend((LESS_THAN..=EXISTS).map(|kind| ("written operators", kind.to_string())));
+    for rooms in ["bytes", "words"] {
+        all.extend(["one less", "the need", "one more"].map(|room| (rooms, room.to_string())));
+    }
+    for levels in MOST_LEVELS - 1..=MOST_LEVELS + 2 {
+        let answer = if levels > MOST_LEVELS { "refused" } else { "written" };
+        all.push(("levels", format!("{levels} {answer}")));
+    }
     all
 }
+
+/// Refusals to write that are looked for together, the one that is given first.
+const AT_ONCE: [(u8, u8); 6] = [
+    (NOT_SOUND, NO_ROOM),
+    (OTHER_FORM, TOO_DEEP),
+    (OTHER_FORM, NO_ROOM),
+    (TOO_DEEP, NO_ROOM),
+    (TOO_DEEP, READS_DIFFERENTLY),
+    (NO_ROOM, READS_DIFFERENTLY),
+];
 
 /// What one case shows.
 pub fn features(record: &Record, answer: &str) -> Vec<Feature> {
@@ -113,6 +137,64 @@ pub fn features(record: &Record, answer: &str) -> Vec<Feature> {
                 Err(cause) => ("no view for", format!("{cause:?}")),
             });
         }
+        Some(Question::Write(asked)) => found.extend(write_features(&asked)),
+    }
+    found
+}
+
+/// What a sheet that is to be written out shows: what was written, or why it was not and what else stood
+/// against it, and how near the room and the depth came to their limits.
+fn write_features(asked: &ToWrite<'_>) -> Vec<Feature> {
+    let judged = writer::judge(asked);
+    let mut found: Vec<Feature> = Vec::new();
+    match judged.causes.first() {
+        None => {
+            let text =
+                if judged.text.as_ref().is_some_and(Vec::is_empty) { "empty" } else { "bytes" };
+            found.push(("written", text.to_string()));
+            found.extend(judged.plain.then(|| ("written", "plain".to_string())));
+            found.extend(written_tokens(asked));
+        }
+        Some(first) => {
+            found.push(("not written for", format!("{first:?}")));
+            let others = judged.causes.iter().map(|cause| cause.number());
+            let other = others.filter(|number| *number != first.number());
+            found.extend(other.map(|n| ("two refusals", format!("{} and {n}", first.number()))));
+        }
+    }
+    found.extend(near_limits(asked, &judged));
+    found
+}
+
+/// The tokens and operators that came back from the text that was written.
+fn written_tokens(asked: &ToWrite<'_>) -> Vec<Feature> {
+    let mut found = Vec::new();
+    for token in asked.words.chunks_exact(WORDS).take(asked.count as usize) {
+        found.push(("written tokens", name(token[0]).to_string()));
+        if token[0] == OPERATOR {
+            found.push(("written operators", token[1].to_string()));
+        }
+    }
+    found
+}
+
+/// A buffer, a scratch or a depth that is just at its limit or beside it.
+fn near_limits(asked: &ToWrite<'_>, judged: &Judged) -> Vec<Feature> {
+    let beside = |room: usize, need: usize| match (room + 1).checked_sub(need) {
+        Some(0) => Some("one less"),
+        Some(1) => Some("the need"),
+        Some(2) => Some("one more"),
+        _ => None,
+    };
+    let bytes = judged.text.as_ref().and_then(|text| beside(asked.room, text.len()));
+    let words =
+        judged.text.as_ref().and_then(|_| beside(asked.scratch, WORDS * asked.count as usize));
+    let mut found: Vec<Feature> = Vec::new();
+    found.extend(bytes.map(|room| ("bytes", room.to_string())));
+    found.extend(words.map(|room| ("words", room.to_string())));
+    if (MOST_LEVELS - 1..=MOST_LEVELS + 2).contains(&judged.levels) {
+        let answer = if judged.causes.is_empty() { "written" } else { "refused" };
+        found.push(("levels", format!("{} {answer}", judged.levels)));
     }
     found
 }

@@ -6,14 +6,8 @@ use std::{env, io};
 fn main() -> io::Result<()> {
     let mut input = io::BufReader::with_capacity(1 << 16, io::stdin().lock());
     let mut output = io::BufWriter::with_capacity(1 << 16, io::stdout().lock());
-    let fault = env::args().nth(1).map(|name| {
-        let known = standin::FAULTS.iter().find(|fault| fault.0 == name);
-        known.unwrap_or_else(|| panic!("no fault {name}")).1
-    });
-    record::serve(&mut input, &mut output, |question, out| {
-        standin::answer(question, out);
-        if let Some(fault) = fault {
-            *out = fault(out);
-        }
-    })
+    let fault = env::args()
+        .nth(1)
+        .map(|name| standin::fault(&name).unwrap_or_else(|| panic!("no fault {name}")));
+    record::serve(&mut input, &mut output, |question, out| standin::answer(question, fault, out))
 }
