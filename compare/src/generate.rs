@@ -1,10 +1,11 @@
 //! Cases by seed: document 01's own at the head of a run, then the short ones in order and among
 //! them a mix.
 
-use crate::numbers::{LONGEST, MOST_TOKENS, UNQUOTED, token};
+use crate::numbers::{LONGEST, MOST_ROOM, MOST_SCRATCH, MOST_TOKENS, UNQUOTED, WORDS, token};
 use crate::record::Record;
 use crate::rng::Rng;
-use crate::{domain, edges, oracle, scalars, sheets, texts};
+use crate::sheets::Sheet;
+use crate::{domain, edges, edits, oracle, scalars, sheets, texts, writer};
 
 /// All cases of one seed, one after another.
 pub struct Generator {
@@ -14,17 +15,87 @@ pub struct Generator {
     texts: usize,
     scalars: usize,
     sheets: usize,
-    /// Texts that were made and lie outside the domain.
-    pub left_out: usize,
+    writes: Writes,
+    pub left_out: LeftOut,
+}
+
+/// What was made and lies outside the domain: texts to parse, and sheets by the text that they write.
+#[derive(Clone, Copy, Default)]
+pub struct LeftOut {
+    pub texts: usize,
+    pub sheets: usize,
 }
 
 /// At the head every second case is one of the short ones, later every fourth.
 const HEAD: usize = 16_000;
 
+/// How many of a hundred cases are sheets to write out.
+const WRITES: usize = 34;
+
+/// The sheets to write out of one seed. They have a chance of their own, so that they do not change which
+/// other cases a seed has.
+struct Writes {
+    rng: Rng,
+    made: usize,
+    short: usize,
+}
+
+impl Writes {
+    /// A sheet to write out. One whose text lies outside the domain is left out: it is read back by our
+    /// thirteen bytes, and the Rust does not tell how.
+    fn record(&mut self, left_out: &mut usize) -> Record {
+        let every = if self.made < HEAD { 2 } else { 4 };
+        self.made += 1;
+        let mut short = self.made.is_multiple_of(every);
+        loop {
+            let small = if short { edits::short(self.short) } else { None };
+            self.short += usize::from(small.is_some());
+            short = small.is_some();
+            let sheet = small.unwrap_or_else(|| edits::any(&mut self.rng));
+            let text = writer::text_of(&sheet.text, &sheet.words, sheet.count);
+            if text.as_ref().is_none_or(|text| domain::inside(text)) {
+                let record = self.with_room(&sheet, text.map(|text| text.len()));
+                if record.body.len() <= LONGEST {
+                    return record;
+                }
+            } else {
+                *left_out += 1;
+            }
+        }
+    }
+
+    /// A sheet with a buffer and a scratch of just what it needs, of one less or one more, or of anything.
+    fn with_room(&mut self, sheet: &Sheet, length: Option<usize>) -> Record {
+        let rng = &mut self.rng;
+        let need = length.unwrap_or(sheet.text.len());
+        let room = match rng.weighted(&[40, 30, 10, 8, 5, 1]) {
+            0 => MOST_ROOM,
+            1 => need,
+            2 => need.saturating_sub(1),
+            3 => need + 1,
+            4 => rng.below(need + 1),
+            _ => 0,
+        };
+        let need = (sheet.count as usize).saturating_mul(WORDS);
+        let scratch = match rng.weighted(&[40, 35, 6, 8, 3, 1]) {
+            0 => MOST_SCRATCH,
+            1 => need,
+            2 => need.saturating_sub(1),
+            3 => need + rng.between(1, WORDS),
+            4 => need.saturating_sub(rng.between(1, 2 * WORDS)),
+            _ => rng.below(need.min(MOST_SCRATCH) + 1),
+        };
+        let (room, scratch) = (room.min(MOST_ROOM) as u16, scratch.min(MOST_SCRATCH) as u16);
+        Record::write(room, scratch, sheet.count, &sheet.words, &sheet.text)
+    }
+}
+
 impl Generator {
     pub fn new(seed: u64) -> Self {
         let (rng, edges) = (Rng::new(seed), edges::records().into_iter());
-        Generator { rng, edges, made: 0, texts: 0, scalars: 0, sheets: 0, left_out: 0 }
+        let writes = Writes { rng: Rng::new(seed ^ u64::from(b'W')), made: 0, short: 0 };
+        let left_out = LeftOut::default();
+        Generator { rng, edges, made: 0, texts: 0, scalars: 0, sheets: 0, writes, left_out }
     }
 
     fn take(number: &mut usize) -> usize {
@@ -42,7 +113,7 @@ impl Generator {
                 if domain::inside(&text) {
                     return Some(self.with_room(text));
                 }
-                self.left_out += 1;
+                self.left_out.texts += 1;
             },
         }
     }
@@ -58,7 +129,7 @@ impl Generator {
             if text.len() <= LONGEST && domain::inside(&text) {
                 return self.with_room(text);
             }
-            self.left_out += 1;
+            self.left_out.texts += 1;
         }
     }
 
@@ -85,6 +156,9 @@ impl Iterator for Generator {
         if let Some(edge) = self.edges.next() {
             return Some(edge);
         }
+        if self.writes.rng.chance(WRITES) {
+            return Some(self.writes.record(&mut self.left_out.sheets));
+        }
         let every = if self.made < HEAD { 2 } else { 4 };
         self.made += 1;
         if self.made.is_multiple_of(every)
@@ -105,7 +179,7 @@ impl Iterator for Generator {
 /// comes behind.
 pub fn bad(rng: &mut Rng) -> Vec<u8> {
     let good = Record::text(texts::any(rng), 100);
-    let mut bytes = match rng.below(8) {
+    let mut bytes = match rng.below(10) {
         // cut short: these end the input
         0 => {
             let mut bytes = good.bytes();
@@ -129,6 +203,12 @@ pub fn bad(rng: &mut Rng) -> Vec<u8> {
             Record { kind: b'C', capacity: 0, body: vec![0; length] }.bytes()
         }
         6 => Record { kind: b'V', capacity: 0, body: vec![0; rng.below(10)] }.bytes(),
+        7 => Record { kind: b'W', capacity: 0, body: vec![0; rng.below(8)] }.bytes(),
+        8 => {
+            let mut record = Record::write(9, 9, 1, &token(UNQUOTED, 0, 1), b"");
+            record.body.pop();
+            record.bytes()
+        }
         _ => {
             let mut record = Record::view(0, 1, &token(UNQUOTED, 0, 1), b"");
             record.body.pop();

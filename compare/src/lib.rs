@@ -2,6 +2,7 @@
 
 pub mod domain;
 pub mod edges;
+pub mod edits;
 pub mod generate;
 pub mod model;
 pub mod model_writer;

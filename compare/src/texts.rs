@@ -58,7 +58,7 @@ pub const PIECES: &[&str] = &[
 pub const FIRST_PIECES: usize = 16;
 
 /// Counts through all sequences of `length` signs out of `base`: the sequence with this number.
-fn sequence(mut number: usize, base: usize, length: usize) -> impl Iterator<Item = usize> {
+pub fn sequence(mut number: usize, base: usize, length: usize) -> impl Iterator<Item = usize> {
     (0..length).map(move |_| {
         let sign = number % base;
         number /= base;

@@ -1,6 +1,6 @@
 //! The Rust and our program beside each other: see `compare/run`.
 
-use compare::generate::{self, Generator};
+use compare::generate::{self, Generator, LeftOut};
 use compare::model::boundary;
 use compare::pipe::{answers, ask, from_hex, hex};
 use compare::record::Record;
@@ -101,7 +101,7 @@ fn first_difference(
     seed: u64,
     cases: usize,
     tally: &mut Tally,
-) -> io::Result<(usize, Option<(usize, Difference)>)> {
+) -> io::Result<(LeftOut, Option<(usize, Difference)>)> {
     let mut generator = Generator::new(seed);
     let mut chance = Rng::new(!seed);
     let mut done = 0;
@@ -137,7 +137,11 @@ fn compare(ours: &[String], seed: u64, cases: usize) -> io::Result<bool> {
     }
     let seconds = start.elapsed().as_secs();
     println!("seed {seed}: {cases} cases, no difference, {seconds} s");
-    println!("a bad record after each {BATCH}; {left_out} texts outside the domain left out");
+    let LeftOut { texts, sheets } = left_out;
+    println!(
+        "a bad record after each {BATCH}; left out as outside the domain: {texts} texts to parse, {sheets} \
+         sheets by the text that they write"
+    );
     Ok(true)
 }
 
