@@ -1,8 +1,9 @@
-//! Document 01's own cases, 'Both sides of each edge', and both sides of its other sentences: every
-//! run and the sample begin with them.
+//! Document 01's own cases, 'Both sides of each edge', and both sides of its other sentences, and behind
+//! them those of request W5: every run and the sample begin with them.
 
 use crate::numbers::*;
 use crate::record::Record;
+use crate::write_edges;
 
 const TEXTS: [&[u8]; 37] = [
     b"a={b c=d}\n",
@@ -218,5 +219,6 @@ pub fn records() -> Vec<Record> {
             records.push(Record::view(index, count, &tokens.concat(), b"ab"));
         }
     }
+    records.extend(write_edges::cases().into_iter().map(|(record, _)| record));
     records
 }

@@ -18,4 +18,5 @@ pub mod standin;
 pub mod tally;
 pub mod texts;
 pub mod tree;
+pub mod write_edges;
 pub mod writer;
