@@ -1,14 +1,15 @@
 //! Chooses the sample of recorded answers: `record FOLDER` writes FOLDER/stdin and FOLDER/stdout.
 //!
-//! Document 01's own cases, the limits of a record, and then cases of seed 1 in order: each that
+//! The edges, the limits of a record, and then cases of seed 1 in order: each that
 //! shows something that fewer than enough of those before it showed, and some at random. A record
 //! of an unknown kind is the last that is answered.
 
 use compare::generate::Generator;
-use compare::numbers::{LONGEST, MOST_TOKENS};
-use compare::record::{Record, serve};
+use compare::numbers::*;
+use compare::record::{Question, Record, serve};
 use compare::rng::Rng;
 use compare::tally::{Tally, features};
+use compare::tree::{self, scalar};
 use compare::{edges, oracle};
 use std::collections::{BTreeSet, HashMap};
 use std::path::Path;
@@ -49,12 +50,22 @@ fn main() -> io::Result<()> {
     fs::write(Path::new(&folder).join("stdout"), output)
 }
 
-/// Texts at the limits of a record: as many bytes and as many tokens as it may have.
+/// Texts and sheets at the limits of a record: as many bytes and as many tokens as it may have.
 fn limits() -> Vec<Record> {
     let longest = [b"a=".as_slice(), &[b'b'; LONGEST - 2]].concat();
     let just_room = b"a=b ".repeat(usize::from(MOST_TOKENS) / 2);
     let one_over = [just_room.as_slice(), b"a"].concat();
-    [longest, just_room, one_over].map(|text| Record::text(text, MOST_TOKENS)).into()
+    let texts = [longest, just_room, one_over].map(|text| Record::text(text, MOST_TOKENS));
+    let token_bytes = 4 * WORDS;
+    let (head, a) = (8, scalar(UNQUOTED, b"a"));
+    let most_tokens = vec![a.clone(); (LONGEST - head) / (token_bytes + 1)];
+    let longest = vec![a, scalar(QUOTED, &vec![b'b'; LONGEST - head - 2 * token_bytes - 1])];
+    let sheets = [most_tokens, longest].map(|root| {
+        let sheet = tree::laid(&root, b"");
+        let (room, scratch) = (MOST_ROOM as u16, MOST_SCRATCH as u16);
+        Record::write(room, scratch, sheet.count, &sheet.words, &sheet.text)
+    });
+    texts.into_iter().chain(sheets).collect()
 }
 
 fn answer(record: &Record) -> String {
@@ -72,10 +83,26 @@ fn shown(record: &Record) -> BTreeSet<(String, usize)> {
         vec![found.iter().map(|(_, name)| name.as_str()).collect::<Vec<_>>().join(" ")]
     } else {
         let tokens: Vec<&str> = answer.lines().filter_map(|line| line.split(' ').nth(1)).collect();
-        tokens.windows(2).map(|pair| pair.join(" then ")).collect()
+        tokens
+            .windows(2)
+            .map(|pair| pair.join(" then "))
+            .chain(written_forms(record, &answer))
+            .collect()
     };
     let features = found.iter().map(|(heading, name)| (format!("{heading} {name}"), ENOUGH));
     features.chain(forms.into_iter().map(|form| (form, ENOUGH_OF_A_FORM))).collect()
+}
+
+/// Which tokens stand beside each other in a sheet whose text was written.
+fn written_forms(record: &Record, answer: &str) -> Vec<String> {
+    match record.question() {
+        Some(Question::Write(asked)) if answer.starts_with("text ") => {
+            let tokens = asked.words.chunks_exact(WORDS).take(asked.count as usize);
+            let names: Vec<&str> = tokens.map(|token| name(token[0])).collect();
+            names.windows(2).map(|pair| format!("written {}", pair.join(" then "))).collect()
+        }
+        _ => Vec::new(),
+    }
 }
 
 fn shows_more(record: &Record, seen: &HashMap<String, usize>) -> bool {
