@@ -419,12 +419,12 @@ fn bottom(rng: &mut Rng) -> Vec<Node> {
     }
 }
 
-/// A plain sheet of a thousand tokens and more.
+/// A plain sheet of many keys and arrays: some seven hundred to two thousand tokens.
 fn large(rng: &mut Rng) -> Sheet {
-    let tokens = rng.between(1_000, 2_000);
+    let nodes = rng.between(300, 900);
     let mut root = Vec::new();
     let mut inside = Vec::new();
-    while root.len() + inside.len() < tokens {
+    while root.len() < nodes {
         if rng.chance(60) {
             inside.push(plain_scalar(rng));
         } else {

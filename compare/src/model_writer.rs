@@ -22,6 +22,8 @@ pub enum Fault {
     MixedSpaced,
     /// Forgets the flag when it holds what was read back against the sheet.
     FlagForgotten,
+    /// Holds the lengths of the scalars against each other, and not their bytes.
+    BytesForgotten,
     /// Writes `=` with a space on each side.
     EqualSpaced,
     /// Counts the root as a level.
@@ -289,6 +291,9 @@ impl Writer<'_> {
         };
         if code != read[0] {
             return false;
+        }
+        if is_scalar(code) && self.has(Fault::BytesForgotten) {
+            return b == read[2];
         }
         if is_scalar(code) {
             return bytes(self.asked.text, a, b) == bytes(&self.text, read[1], read[2]);

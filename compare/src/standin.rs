@@ -61,7 +61,7 @@ pub fn fault(name: &str) -> Option<Fault> {
     FAULTS.into_iter().find(|fault| fault.0 == name)
 }
 
-pub const FAULTS: [Fault; 23] = [
+pub const FAULTS: [Fault; 24] = [
     ("exists_is_equal", Wrong::Answer(|right| right.replace(&operator(EXISTS), &operator(EQUAL)))),
     (
         "not_equal_is_exact",
@@ -91,6 +91,7 @@ pub const FAULTS: [Fault; 23] = [
     ("space_in_braces", Wrong::Writer(WriterFault::SpaceInBraces)),
     ("mixed_with_a_space", Wrong::Writer(WriterFault::MixedSpaced)),
     ("flag_not_compared", Wrong::Writer(WriterFault::FlagForgotten)),
+    ("bytes_not_compared", Wrong::Writer(WriterFault::BytesForgotten)),
     ("equal_with_spaces", Wrong::Writer(WriterFault::EqualSpaced)),
     ("root_is_a_level", Wrong::Writer(WriterFault::RootIsLevel)),
     ("header_is_a_level", Wrong::Writer(WriterFault::HeaderIsLevel)),

@@ -22,7 +22,7 @@ type Told = Result<&'static [u8], u8>;
 const DIFFERS: Told = Err(READS_DIFFERENTLY);
 
 /// Texts that parse, and what their sheets come to.
-const PARSED: [(&[u8], Told); 29] = [
+const PARSED: [(&[u8], Told); 31] = [
     (b"", Ok(b"")),
     (b"a=b", Ok(b"a=b")),
     (b"a={b c=d}\n", Ok(b"a={b c = d}")),
@@ -55,6 +55,8 @@ const PARSED: [(&[u8], Told); 29] = [
     (b"a b{}c=d", DIFFERS),
     (b"a= =", DIFFERS),
     (b"a=b{{}}", DIFFERS),
+    (b"a={{{}}}", DIFFERS),
+    (b"\xef\xbb\xbf\xef\xbb\xbfa=b", DIFFERS),
     // a parameter
     (b"[[x]y]", Err(OTHER_FORM)),
     (b"a={[[!x]b=c]}", Err(OTHER_FORM)),
@@ -145,6 +147,8 @@ fn of_the_form() -> Vec<(Vec<Node>, Answer)> {
         (vec![unquoted(b"\xef\xbb\xbfa"), b.clone()], differs()),
         (vec![a.clone(), unquoted(b"\xef\xbb\xbfb")], written(b"a=\xef\xbb\xbfb")),
         (vec![unquoted(b"\"a\""), b.clone()], differs()),
+        // a blank for a key: `;={}` has the key `=`, so that nothing but its byte is another
+        (vec![unquoted(b";"), array(Vec::new())], differs()),
         // quoted bytes and the code that they have
         (vec![a.clone(), scalar(QUOTED, b"{ = # }")], written(b"a=\"{ = # }\"")),
         (vec![a.clone(), scalar(QUOTED, b"b\"c")], differs()),

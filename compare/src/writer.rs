@@ -23,11 +23,12 @@ pub enum Cause {
     OtherCount,
     OtherCode,
     OtherWord,
+    OtherLength,
     OtherBytes,
 }
 
 /// All but TooLong, which needs a text longer than a record holds.
-pub const CAUSES: [Cause; 12] = [
+pub const CAUSES: [Cause; 13] = [
     Cause::NotSound,
     Cause::Parameter,
     Cause::NoKey,
@@ -39,6 +40,7 @@ pub const CAUSES: [Cause; 12] = [
     Cause::OtherCount,
     Cause::OtherCode,
     Cause::OtherWord,
+    Cause::OtherLength,
     Cause::OtherBytes,
 ];
 
@@ -55,6 +57,7 @@ impl Cause {
             | Cause::OtherCount
             | Cause::OtherCode
             | Cause::OtherWord
+            | Cause::OtherLength
             | Cause::OtherBytes => READS_DIFFERENTLY,
         }
     }
@@ -243,15 +246,19 @@ fn difference(text: &[u8], words: &[u32], written: &[u8]) -> Option<Cause> {
     if read.words.len() != words.len() {
         return Some(Cause::OtherCount);
     }
-    words.chunks_exact(WORDS).zip(read.words.chunks_exact(WORDS)).find_map(|(given, read)| {
-        if given[0] != read[0] {
-            Some(Cause::OtherCode)
-        } else if is_scalar(given[0]) {
-            (view(text, given) != view(written, read)).then_some(Cause::OtherBytes)
-        } else {
-            (given[1..] != read[1..]).then_some(Cause::OtherWord)
-        }
-    })
+    let tokens = || words.chunks_exact(WORDS).zip(read.words.chunks_exact(WORDS));
+    let scalars = || tokens().filter(|(given, _)| is_scalar(given[0]));
+    let mut others = tokens().filter(|(given, _)| !is_scalar(given[0]));
+    if tokens().any(|(given, read)| given[0] != read[0]) {
+        Some(Cause::OtherCode)
+    } else if others.any(|(given, read)| given[1..] != read[1..]) {
+        Some(Cause::OtherWord)
+    } else if scalars().any(|(given, read)| given[2] != read[2]) {
+        Some(Cause::OtherLength)
+    } else {
+        let differ = scalars().any(|(given, read)| view(text, given) != view(written, read));
+        differ.then_some(Cause::OtherBytes)
+    }
 }
 
 /// A scalar's bytes.
