@@ -1,4 +1,4 @@
-/* Tackacorn: the text of a save as a tape of tokens, and the readings of its scalars.
+/* Tackacorn: the text of a save as a tape of tokens, the readings of its scalars, and the way back to text.
  *
  * BEFORE YOU BOOK FROM A SAVE
  *
@@ -17,8 +17,11 @@
  *    spaces over that line, so that every offset stays the file's; or pass the text behind the line and
  *    add the line's length to every offset and place. (The command `tackacorn` does the former.)
  *  - A call that refuses still writes: tackacorn_parse leaves the whole tape, the count and the BOM zero
- *    and tells the place, the readings leave their value zero. What stood there before is gone, and a 0
- *    that is left is no number that was read. Look at the answer of every call.
+ *    and tells the place, tackacorn_write leaves buffer, scratch and length zero, the readings leave their
+ *    value zero. What stood there before is gone, and a 0 that is left is no number that was read. Look at
+ *    the answer of every call.
+ *  - Not every save that parses can be written back, and what is written may be read otherwise by another
+ *    program. See tackacorn_write before you hand its text to the game.
  *
  * WHAT IS PROMISED, AND WHAT YOU PROMISE
  *
@@ -27,15 +30,18 @@
  * is the one that the format's definition gives (docs/FORMAT.md in the sources). What C's types cannot
  * say, and nothing checks, is the caller's part:
  *
- *  - A text, a scalar, a tape or words are a pointer and how many elements (bytes, or 32-bit words, not
- *    bytes of words) stand there. All of them must be there to read, and for a tape to write. The
- *    pointer is not NULL and is aligned for its type, also where the length is 0.
+ *  - A text, a scalar, a tape, words, a buffer or a scratch are a pointer and how many elements (bytes, or
+ *    32-bit words, not bytes of words) stand there. All of them must be there to read, and for a tape, a
+ *    buffer and a scratch to write. The pointer is not NULL and is aligned for its type, also where the
+ *    length is 0.
  *  - A pointer to a single number points to one number of that type, which is written and never read.
- *  - What a call writes (the tape, each single number) overlaps nothing else that it is passed, and no
- *    other thread reads or writes it during the call. What a call only reads may be shared.
+ *  - What a call writes (the tape, the buffer, the scratch, each single number) overlaps nothing else that
+ *    it is passed, and no other thread reads or writes it during the call. What a call only reads may be
+ *    shared.
  *
  * Nothing is kept and nothing is allocated: all memory is the caller's, before, during and after a call.
- * A call takes less than 2 KB of stack. The library is for x86-64 Linux, and needs nothing but memset.
+ * A call takes less than 2 KB of stack, but for tackacorn_write, which goes down into the containers, to
+ * 64 levels, and takes less than 64 KB. The library is for x86-64 Linux, and needs nothing but memset.
  *
  * Refusals are numbers, 0 for none, and every number that a call writes is written on a refusal too.
  */
@@ -53,11 +59,14 @@ extern "C" {
 /* The version of this header, as words and as a number that rises: 10000 * first + 100 * second + third.
  * The first part rises where a program that was built with an older header would read a tape wrongly, and
  * with it the name of the shared library; the second where something is added; the third else. */
-#define TACKACORN_VERSION "2.0.0"
-#define TACKACORN_VERSION_NUMBER 20000
+#define TACKACORN_VERSION "2.1.0"
+#define TACKACORN_VERSION_NUMBER 20100
 
 /* The most bytes that a text may have. */
 #define TACKACORN_TEXT_LIMIT 16777215
+
+/* How deep containers may stand in each other for tackacorn_write. */
+#define TACKACORN_LEVEL_LIMIT 64
 
 /* How many words a token takes on a tape. */
 #define TACKACORN_WORDS_PER_TOKEN 3
@@ -65,7 +74,12 @@ extern "C" {
 /* Words that are room enough for any text of so many bytes: 2 * bytes + 1 tokens. */
 #define TACKACORN_WORDS_FOR(bytes) (TACKACORN_WORDS_PER_TOKEN * (2 * (size_t)(bytes) + 1))
 
-/* Why a text, a view or a reading is refused. tackacorn_refusal_text has these in words. */
+/* Bytes that are room enough for what tackacorn_write makes of any sheet of so many tokens over a text of so
+ * many bytes: the views are parts of the text that do not overlap, and a token adds at most 3 bytes to its
+ * view (one before it, and two quotes or an operator's sign). More than TACKACORN_TEXT_LIMIT is never wanted. */
+#define TACKACORN_BYTES_FOR(bytes, count) ((size_t)(bytes) + 3 * (size_t)(count))
+
+/* Why a text, a view, a reading or a sheet is refused. tackacorn_refusal_text has these in words. */
 enum tackacorn_refusal {
     TACKACORN_OK = 0,
     TACKACORN_TOO_LONG = 1,          /* the text has more than TACKACORN_TEXT_LIMIT bytes */
@@ -83,7 +97,13 @@ enum tackacorn_refusal {
     TACKACORN_ALL_DIGITS = 21,       /* the bytes are no number of this form */
     TACKACORN_OVERFLOW = 22,         /* the number is too large */
     TACKACORN_INVALID_BOOL = 23,     /* neither 'yes' nor 'no' */
-    TACKACORN_PRECISION_LOSS = 24    /* no double is this number: the nearest is given */
+    TACKACORN_PRECISION_LOSS = 24,   /* no double is this number: the nearest is given */
+    TACKACORN_NOT_SOUND = 41,        /* tackacorn_check says no */
+    TACKACORN_TOO_DEEP = 42,         /* containers stand in each other deeper than TACKACORN_LEVEL_LIMIT */
+    TACKACORN_WRITTEN_TOO_LONG = 43, /* the text to write has more than TACKACORN_TEXT_LIMIT bytes */
+    TACKACORN_NO_ROOM = 44,          /* the buffer is under the text, or the scratch under the tokens */
+    TACKACORN_READS_OTHERWISE = 45,  /* the text to write does not parse to the sheet */
+    TACKACORN_OTHER_FORM = 46        /* a parameter, or pairs that are none: see tackacorn_write */
 };
 
 /* What a token is: the first of its three words. a and b are the second and the third. */
@@ -169,6 +189,57 @@ void tackacorn_token(const uint32_t *words, size_t words_length, size_t count, s
  * words_length, the token is no scalar (codes 4, 5, 6, 7, 10, 11), or it reaches out of the text. */
 uint32_t tackacorn_view(const uint8_t *text, size_t text_length, const uint32_t *words, size_t words_length,
                         size_t count, size_t index, size_t *offset, size_t *size);
+
+/* Writes a sheet as save text: the first count tokens of the words, whose views lie in the text.
+ *
+ * Reads the text and the words. Writes every byte of the buffer out and every word of the scratch, whatever
+ * stood there: on success the text written, from the first byte on, and zeros behind it; on a refusal zeros.
+ * The scratch is zero afterwards, whatever is answered: the text written is parsed on it once more.
+ *
+ * Answers TACKACORN_OK: *written is the length of the text written. It parses, by tackacorn_parse, to a
+ * tape with the same codes, the same links, flags and operators, and the same bytes in each scalar; offsets
+ * are its own. Or answers a refusal, and *written is 0. Each is looked for in the whole sheet before the next:
+ *
+ *   NOT_SOUND         tackacorn_check(text_length, words, words_length, count) is false
+ *   OTHER_FORM        a token is a Parameter or an UndefinedParameter; or at the top level or in an object,
+ *                     before its first MixedContainer, a key is no Unquoted, Quoted or QuotedEscape, or no
+ *                     entry follows a key and at most one operator
+ *   TOO_DEEP          containers stand in each other more than 64 deep, an empty one counted
+ *   WRITTEN_TOO_LONG  the text written would have more than TACKACORN_TEXT_LIMIT bytes
+ *   NO_ROOM           out_length is under the text, or scratch_length / 3 is under count
+ *   READS_OTHERWISE   the text written would be refused by tackacorn_parse, or parse to something else
+ *
+ * What is written: at the top level and in an object each key, '=' or a space, the operator's sign and a space,
+ * and the entry, up to a MixedContainer, which writes nothing and behind which entries follow as in an array;
+ * in an array each entry, and an operator's sign as one. One space stands between entries or pairs. A Header,
+ * a space and its container are one entry. Braces stand round containers, quotes round Quoted and
+ * QuotedEscape, whose escapes stand as they are: GER={name="Luftwaffe" depot={3 12 reserve = yes}}.
+ *
+ * TACKACORN_BYTES_FOR(text_length, count) bytes and TACKACORN_WORDS_PER_TOKEN * count words are always enough
+ * for out and scratch, so that NO_ROOM does not come. text, words, out, scratch and written must not overlap.
+ *
+ * BEFORE YOU HAND THE TEXT TO THE GAME
+ *
+ *  - Some saves parse and cannot be written back: those with parameters (OTHER_FORM), deep ones (TOO_DEEP),
+ *    and by READS_OTHERWISE those with pairs behind a mixed part of the same object or of the top level
+ *    ("a b{}c=d"), with a scalar that is one boundary byte ("a= ="), and with a Header whose container lost
+ *    its only content ("a=b{{}}"). Never refused by READS_OTHERWISE is a plain sheet: key and entry in turn,
+ *    no operator, MixedContainer, flag, Header or QuotedEscape, unquoted bytes only letters, digits, '_', '.'
+ *    and '-', quoted bytes any but quote and backslash, no empty object, no array that begins with an empty
+ *    container.
+ *  - A save that was cut short is written with its last object closed, and nothing shows any more that it
+ *    was: "GER={ fighter=19" becomes "GER={fighter=19}".
+ *  - Nothing is written but the tokens. A BOM, comments, blanks, line ends and the line "HOI4txt" of the file
+ *    are gone, no LF ends the text, and a program that wants them must write them itself.
+ *  - The text reads the same for this parser. A key or value in which a '!' stands, as "a!", is written as
+ *    it is, and "a!=b" is the key "a!" here, but "a" with the operator "!=" to the Rust, and perhaps to the
+ *    game. Look for '!', 0x0b and 0x0c in unquoted scalars that come from a stranger.
+ *  - A view must lie in the text, behind the view before it. A new value is therefore put into a copy of
+ *    the text and the views behind it are moved; a name in quotes with a backslash in it is code 11, and
+ *    code 5 without. examples/edit_order.c shows how. */
+uint32_t tackacorn_write(const uint8_t *text, size_t text_length, const uint32_t *words, size_t words_length,
+                         size_t count, uint8_t *out, size_t out_length, uint32_t *scratch,
+                         size_t scratch_length, size_t *written);
 
 /* The readings of a scalar's bytes. Each reads the bytes and writes *value: what it reads, or 0 on a
  * refusal, but for PRECISION_LOSS. They answer as the Rust does, also where that surprises:

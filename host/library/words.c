@@ -30,6 +30,12 @@ const char *tackacorn_refusal_text(uint32_t number) {
     case TACKACORN_OVERFLOW: return "the number is too large";
     case TACKACORN_INVALID_BOOL: return "neither 'yes' nor 'no'";
     case TACKACORN_PRECISION_LOSS: return "no double is this number: the nearest is given";
+    case TACKACORN_NOT_SOUND: return "the sheet is not sound";
+    case TACKACORN_TOO_DEEP: return "containers stand in each other over " WORDS_OF(TACKACORN_LEVEL_LIMIT) " deep";
+    case TACKACORN_WRITTEN_TOO_LONG: return "the text to write has more than " WORDS_OF(TACKACORN_TEXT_LIMIT) " bytes";
+    case TACKACORN_NO_ROOM: return "no room for the text to write, or for its tokens";
+    case TACKACORN_READS_OTHERWISE: return "the text to write would read differently";
+    case TACKACORN_OTHER_FORM: return "a parameter, or pairs that are none, which cannot be written";
     default: return "no such refusal";
     }
 }
