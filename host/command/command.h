@@ -10,7 +10,7 @@
 /* How the command ends. Of several files the greatest counts. */
 enum status {
     STATUS_WELL = 0,      /* all was well */
-    STATUS_REFUSED = 1,   /* a save is refused */
+    STATUS_REFUSED = 1,   /* a save is refused, or cannot be written */
     STATUS_CALL = 2,      /* the command was called wrongly */
     STATUS_SYSTEM = 3,    /* the system refused: a missing file, no memory, a full disk */
     STATUS_NOT_FOUND = 4  /* get: the save is well, and has no such value */
@@ -45,7 +45,8 @@ enum status wrong_call(const char *word, const char *what);
 void print_overview(void);
 void print_subcommand(const struct subcommand *subcommand);
 
-/* A save: its bytes, the tape that is lent to the parser, and what the parser answered. */
+/* A save: its bytes, the tape that is lent to the parser, and what the parser answered; or the writer, whose
+ * refusals have no place. */
 struct save {
     const char *name;
     uint8_t *text;
@@ -85,6 +86,7 @@ enum status worse(enum status one, enum status other);
 enum status look(const struct call *call);
 enum status check(const struct call *call);
 enum status get(const struct call *call);
+enum status write_back(const struct call *call); /* `write` is the C library's */
 enum status help(const struct call *call);
 
 #endif

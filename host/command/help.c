@@ -23,7 +23,8 @@ static void print_common(void) {
            "'--' ends them:\n"
            "  --raw      leave the first line to the parser\n"
            "  --numbers  print a refusal as 'refused NUMBER PLACE' on standard output, not in words\n\n"
-           "A refusal is one line of standard error: FILE:LINE:COLUMN: refusal NUMBER: WORDS\n\n"
+           "A refusal is one line of standard error: FILE:LINE:COLUMN: refusal NUMBER: WORDS, and of\n"
+           "write, where the save parses, FILE: refusal NUMBER: WORDS\n\n"
            "Status: 0 all was well; 1 a save is refused; 2 a wrong call; 3 the system refused (a file\n"
            "is missing or unreadable, no memory, the output cannot be written); 4 get found nothing.\n",
            TACKACORN_TEXT_LIMIT);
@@ -31,7 +32,7 @@ static void print_common(void) {
 
 /* Prints what the command does. */
 void print_overview(void) {
-    fputs("tackacorn looks at text saves, checks them, and gets values out of them.\n\n", stdout);
+    fputs("tackacorn looks at text saves, checks them, gets values out of them, and writes them back.\n\n", stdout);
     print_warning();
     for (size_t i = 0; i < subcommand_count; i++) {
         printf("  tackacorn %s %s\n      %s\n", subcommands[i].name, subcommands[i].usage, subcommands[i].about);

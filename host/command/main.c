@@ -1,4 +1,4 @@
-/* tackacorn: looks at saves, checks them, and gets values out of them.
+/* tackacorn: looks at saves, checks them, gets values out of them, and writes them back.
  *
  * A call is 'tackacorn SUBCOMMAND [OPTION..] [WORD..]'. The table below has a line for each subcommand. */
 #include "command.h"
@@ -29,6 +29,14 @@ const struct subcommand subcommands[] = {
      "byte, without the quotes if it has some. A control byte is printed as \\x0a. Status 4 says that\n"
      "the save is well and nothing stands there.\n",
      2, ANY_NUMBER, get},
+    {"write", OPTIONS " [FILE]", "write a save's tokens as save text again",
+     "Prints the text and nothing more: keys, '=' or an operator, values and braces, one space between\n"
+     "them and no line ends, not at the end either. Comments, blanks, a BOM and a first line like\n"
+     "HOI4txt are gone: a game that wants that line must get it from you. The text parses to the same\n"
+     "tokens, or it is not written: refusal 45, as for pairs behind a mixed part ('a b{}c=d'), a value\n"
+     "that is one sign ('a= =') and a header without content ('a=b{{}}'). Parameters are refusal 46,\n"
+     "and containers over 64 deep 42. A save that was cut short is written as if it were whole.\n",
+     0, 1, write_back},
     {"help", "[SUBCOMMAND]", "print this, or more about a subcommand", "", 0, 1, help},
 };
 const size_t subcommand_count = sizeof subcommands / sizeof subcommands[0];
@@ -99,7 +107,7 @@ static enum status run(const struct subcommand *subcommand, char **words, size_t
 /* Finds the subcommand that is called. */
 static enum status dispatch(char **words, size_t count) {
     if (count == 0) {
-        return wrong_call("no subcommand", "look, check, get or help is wanted");
+        return wrong_call("no subcommand", "look, check, get, write or help is wanted");
     }
     if (asks_for_help(words[0])) {
         print_overview();

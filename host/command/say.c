@@ -50,7 +50,13 @@ enum status finish(enum status status) {
 static bool place_shown(const struct save *save, size_t *place) {
     switch (save->refusal) {
     case TACKACORN_TOO_LONG:
-    case TACKACORN_FULL: return false;
+    case TACKACORN_FULL:
+    case TACKACORN_NOT_SOUND:
+    case TACKACORN_TOO_DEEP:
+    case TACKACORN_WRITTEN_TOO_LONG:
+    case TACKACORN_NO_ROOM:
+    case TACKACORN_READS_OTHERWISE:
+    case TACKACORN_OTHER_FORM: return false;
     case TACKACORN_EOF: *place = save->length; return true;
     case TACKACORN_NOTHING_PRECEDES:
     case TACKACORN_UNKNOWN_OPERATOR: *place = save->place + 1; return true;

@@ -5,6 +5,7 @@ extern FILE *stdin, *stdout, *stderr;
 FILE *fopen(const char *name, const char *mode);
 int fclose(FILE *file);
 size_t fread(void *into, size_t size, size_t count, FILE *file);
+size_t fwrite(const void *from, size_t size, size_t count, FILE *file);
 int ferror(FILE *file);
 int fflush(FILE *file);
 int fputs(const char *words, FILE *file);
