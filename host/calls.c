@@ -107,9 +107,119 @@ static void refused(void) {
     expect("words for a text", TACKACORN_WORDS_FOR(TACKACORN_TEXT_LIMIT) / TACKACORN_WORDS_PER_TOKEN == 2 * (uint64_t)TACKACORN_TEXT_LIMIT + 1);
 }
 
+enum { MOST = 64 };
+
+/* What a write is lent, with something in it, and what it tells. */
+struct lent {
+    uint8_t out[MOST];
+    uint32_t scratch[ROOM];
+    size_t written;
+};
+
+/* Writes a sheet into lent memory that is not zero, with room for so many bytes and words. */
+static uint32_t write_words(struct lent *lent, const char *text, const uint32_t *words, size_t count, size_t bytes_lent, size_t words_lent) {
+    memset(lent, 255, sizeof *lent);
+    return tackacorn_write(bytes(text), strlen(text), words, ROOM, count, lent->out, bytes_lent, lent->scratch, words_lent,
+                           &lent->written);
+}
+
+/* Parses a text and writes it, with all the room there is. */
+static uint32_t write_text(struct lent *lent, const char *text) {
+    uint32_t tape[ROOM], count = 0, bom;
+    size_t place;
+    expect("a text to write", tackacorn_parse(bytes(text), strlen(text), tape, ROOM, &count, &bom, &place) == TACKACORN_OK);
+    return write_words(lent, text, tape, count, MOST, ROOM);
+}
+
+/* Whether so many bytes are zero. */
+static bool zero(const void *from, size_t size) {
+    const uint8_t *byte = from;
+    for (size_t i = 0; i < size; i++) {
+        if (byte[i] != 0) {
+            return false;
+        }
+    }
+    return true;
+}
+
+/* Whether a write left its text, zeros behind it, and the scratch zero. */
+static bool left(const struct lent *lent, const char *text) {
+    const size_t size = strlen(text);
+    return lent->written == size && memcmp(lent->out, text, size) == 0 && zero(lent->out + size, MOST - size)
+           && zero(lent->scratch, sizeof lent->scratch);
+}
+
+/* Sheets that are written: the text, the zeros behind it, and the edges of the room. */
+static void written(void) {
+    struct lent lent;
+    const uint32_t pair[ROOM] = {4, 0, 1, 5, 2, 3};
+    expect("a write", write_text(&lent, " a = { b c=\"d\" } e = f #") == TACKACORN_OK && left(&lent, "a={b c = \"d\"} e=f"));
+    expect("a write with an operator", write_text(&lent, "a<={b>=c}") == TACKACORN_OK && left(&lent, "a <= {b >= c}"));
+    expect("a write of nothing", write_text(&lent, " ") == TACKACORN_OK && left(&lent, ""));
+    expect("a write with an escape", write_text(&lent, "a=\"b\\\"\"") == TACKACORN_OK && left(&lent, "a=\"b\\\"\""));
+    expect("a write with a header", write_text(&lent, "a=rgb{1}") == TACKACORN_OK && left(&lent, "a=rgb {1}"));
+    expect("a write with just room enough", write_words(&lent, "k v w", pair, 2, 7, 6) == TACKACORN_OK && lent.written == 7
+                                                && memcmp(lent.out, "k=\"v w\"", 7) == 0 && lent.out[7] == 255
+                                                && zero(lent.scratch, 6 * sizeof lent.scratch[0]) && lent.scratch[6] == UINT32_MAX);
+    expect("bytes for a sheet", TACKACORN_BYTES_FOR(5, 2) == 11 && write_words(&lent, "k v w", pair, 2, TACKACORN_BYTES_FOR(5, 2), 6) == TACKACORN_OK);
+}
+
+/* Whether a write is refused with a number, and leaves nothing. */
+static bool refuses(uint32_t number, uint32_t answer, const struct lent *lent) {
+    return answer == number && left(lent, "");
+}
+
+/* Sheets that are not written, each reason before the next, and what they leave. */
+static void unwritten(void) {
+    struct lent lent;
+    const uint32_t pair[ROOM] = {4, 0, 1, 5, 2, 3}, key[ROOM] = {4, 0, 1}, falling[ROOM] = {4, 2, 1, 4, 0, 1};
+    const uint32_t equal[ROOM] = {4, 0, 1, 8, 7, 0, 4, 2, 1}, blank[ROOM] = {4, 0, 3, 4, 4, 1};
+    expect("not sound", refuses(TACKACORN_NOT_SOUND, write_words(&lent, "k v", falling, 2, MOST, ROOM), &lent)
+                            && refuses(TACKACORN_NOT_SOUND, write_words(&lent, "k v", pair, 2, MOST, ROOM), &lent)
+                            && refuses(TACKACORN_NOT_SOUND, write_words(&lent, "k v w", pair, SIZE_MAX, MOST, ROOM), &lent));
+    expect("another form", refuses(TACKACORN_OTHER_FORM, write_words(&lent, "k", key, 1, MOST, ROOM), &lent)
+                               && refuses(TACKACORN_OTHER_FORM, write_text(&lent, "[[x] y]"), &lent));
+    expect("no room for the text", write_words(&lent, "k v w", pair, 2, 6, ROOM) == TACKACORN_NO_ROOM && lent.written == 0
+                                       && zero(lent.out, 6) && lent.out[6] == 255 && zero(lent.scratch, sizeof lent.scratch));
+    expect("no room for the tokens", write_words(&lent, "k v w", pair, 2, MOST, 5) == TACKACORN_NO_ROOM && lent.written == 0
+                                         && zero(lent.out, MOST) && zero(lent.scratch, 5 * sizeof lent.scratch[0]) && lent.scratch[5] == UINT32_MAX);
+    expect("another form before no room", write_words(&lent, "k", key, 1, 0, 0) == TACKACORN_OTHER_FORM && lent.written == 0);
+    expect("an Equal behind a key", write_words(&lent, "k v", equal, 3, 4, ROOM) == TACKACORN_NO_ROOM
+                                           && refuses(TACKACORN_READS_OTHERWISE, write_words(&lent, "k v", equal, 3, MOST, ROOM), &lent));
+    expect("pairs behind a mixed part", refuses(TACKACORN_READS_OTHERWISE, write_text(&lent, "a b{}c=d"), &lent));
+    expect("a boundary byte", refuses(TACKACORN_READS_OTHERWISE, write_text(&lent, "a= ="), &lent));
+    expect("a header without content", refuses(TACKACORN_READS_OTHERWISE, write_text(&lent, "a=b{{}}"), &lent));
+    expect("a key with a blank", refuses(TACKACORN_READS_OTHERWISE, write_words(&lent, "k v w", blank, 2, MOST, ROOM), &lent));
+}
+
+enum { OVER = TACKACORN_LEVEL_LIMIT + 1, DEEP_BYTES = 2 * OVER + 3, DEEP_WORDS = (2 * OVER + 2) * TACKACORN_WORDS_PER_TOKEN };
+
+/* Parses a key and so many arrays in each other, and writes them. */
+static uint32_t write_nested(size_t levels, size_t *size) {
+    uint8_t text[DEEP_BYTES], out[DEEP_BYTES];
+    uint32_t tape[DEEP_WORDS], scratch[DEEP_WORDS], count = 0, bom;
+    const size_t length = 2 * levels + 3;
+    size_t place;
+    memcpy(text, "k=", 2);
+    memset(text + 2, '{', levels);
+    text[2 + levels] = 'a';
+    memset(text + 3 + levels, '}', levels);
+    expect("a deep text", tackacorn_parse(text, length, tape, DEEP_WORDS, &count, &bom, &place) == TACKACORN_OK);
+    const uint32_t refusal = tackacorn_write(text, length, tape, DEEP_WORDS, count, out, length, scratch, DEEP_WORDS, size);
+    expect("a deep text, written", refusal != TACKACORN_OK || memcmp(out, text, length) == 0);
+    return refusal;
+}
+
+/* Both sides of the deepest that is written. */
+static void depth(void) {
+    size_t size = 7;
+    expect("64 levels", write_nested(TACKACORN_LEVEL_LIMIT, &size) == TACKACORN_OK && size == 2 * TACKACORN_LEVEL_LIMIT + 3);
+    expect("65 levels", write_nested(OVER, &size) == TACKACORN_TOO_DEEP && size == 0);
+}
+
 /* Each refusal has words of its own, and a number that is none is told so. */
 static void words(void) {
-    const uint32_t numbers[] = {0, 1, 2, 3, 4, 5, 6, 7, 8, 9, 10, 11, 12, 21, 22, 23, 24};
+    const uint32_t numbers[] = {0, 1, 2, 3, 4, 5, 6, 7, 8, 9, 10, 11, 12, 21, 22, 23, 24, 41, 42, 43, 44, 45, 46};
     const size_t count = sizeof numbers / sizeof numbers[0];
     expect("the version", strcmp(tackacorn_version(), TACKACORN_VERSION) == 0);
     expect("words", strcmp(tackacorn_refusal_text(TACKACORN_NO_VALUE), "a '}' where a value is due") == 0);
@@ -127,6 +237,9 @@ int main(void) {
     surprises();
     tokens();
     refused();
+    written();
+    unwritten();
+    depth();
     words();
     if (!wrong) {
         puts("every call answers as it should");

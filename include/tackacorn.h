@@ -222,8 +222,9 @@ uint32_t tackacorn_view(const uint8_t *text, size_t text_length, const uint32_t 
  *
  *  - Some saves parse and cannot be written back: those with parameters (OTHER_FORM), deep ones (TOO_DEEP),
  *    and by READS_OTHERWISE those with pairs behind a mixed part of the same object or of the top level
- *    ("a b{}c=d"), with a scalar that is one boundary byte ("a= ="), and with a Header whose container lost
- *    its only content ("a=b{{}}"). Never refused by READS_OTHERWISE is a plain sheet: key and entry in turn,
+ *    ("a b{}c=d"), most with a scalar that is one boundary byte ("a= ="), those where a container lost its
+ *    only content behind a Header ("a=b{{}}") or at the begin of an array ("a={{{}}}"), and those whose first
+ *    key begins with a second BOM. Never refused by READS_OTHERWISE is a plain sheet: key and entry in turn,
  *    no operator, MixedContainer, flag, Header or QuotedEscape, unquoted bytes only letters, digits, '_', '.'
  *    and '-', quoted bytes any but quote and backslash, no empty object, no array that begins with an empty
  *    container.

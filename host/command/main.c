@@ -34,8 +34,9 @@ const struct subcommand subcommands[] = {
      "them and no line ends, not at the end either. Comments, blanks, a BOM and a first line like\n"
      "HOI4txt are gone: a game that wants that line must get it from you. The text parses to the same\n"
      "tokens, or it is not written: refusal 45, as for pairs behind a mixed part ('a b{}c=d'), a value\n"
-     "that is one sign ('a= =') and a header without content ('a=b{{}}'). Parameters are refusal 46,\n"
-     "and containers over 64 deep 42. A save that was cut short is written as if it were whole.\n",
+     "that is one sign ('a= =') and a container that lost its only content ('a=b{{}}', 'a={{{}}}').\n"
+     "Parameters are refusal 46, and containers over 64 deep 42. A save that was cut short is written\n"
+     "as if it were whole.\n",
      0, 1, write_back},
     {"help", "[SUBCOMMAND]", "print this, or more about a subcommand", "", 0, 1, help},
 };
