@@ -41,6 +41,18 @@ mod library {
             offset: *mut usize,
             size: *mut usize,
         ) -> u32;
+        pub fn tackacorn_write(
+            text: *const u8,
+            text_length: usize,
+            words: *const u32,
+            words_length: usize,
+            count: usize,
+            out: *mut u8,
+            out_length: usize,
+            scratch: *mut u32,
+            scratch_length: usize,
+            written: *mut usize,
+        ) -> u32;
         pub fn tackacorn_to_bool(scalar: *const u8, length: usize, value: *mut u32) -> u32;
         pub fn tackacorn_to_u64(scalar: *const u8, length: usize, value: *mut u64) -> u32;
         pub fn tackacorn_to_i64(scalar: *const u8, length: usize, value: *mut i64) -> u32;
@@ -101,6 +113,34 @@ pub(crate) fn view(text: &[u8], words: &[u32], count: usize, index: usize) -> (u
     (refusal, offset, size)
 }
 
+/// A refusal's number, and the length of the text written.
+pub(crate) fn write(
+    text: &[u8],
+    words: &[u32],
+    count: usize,
+    out: &mut [u8],
+    scratch: &mut [u32],
+) -> (u32, usize) {
+    let mut written = 0;
+    // SAFETY: `text` and `words` may be read, `out` and `scratch` read and written, for as many elements
+    // as are passed; the number is ours alone and lives through the call.
+    let refusal = unsafe {
+        library::tackacorn_write(
+            text.as_ptr(),
+            text.len(),
+            words.as_ptr(),
+            words.len(),
+            count,
+            out.as_mut_ptr(),
+            out.len(),
+            scratch.as_mut_ptr(),
+            scratch.len(),
+            &mut written,
+        )
+    };
+    (refusal, written)
+}
+
 pub(crate) fn to_bool(scalar: &[u8]) -> (u32, bool) {
     let mut value = 0;
     // SAFETY: `scalar` may be read for its length; `value` is ours alone and lives through the call.
@@ -140,7 +180,7 @@ pub(crate) fn refusal_text(number: u32) -> &'static str {
     unsafe { words_at(library::tackacorn_refusal_text(number)) }
 }
 
-/// The version of the library that this crate is linked with, as `2.0.0`.
+/// The version of the library that this crate is linked with, as `2.1.0`.
 pub fn version() -> &'static str {
     // SAFETY: it takes nothing, and the words that answer stay and end in a zero.
     unsafe { words_at(library::tackacorn_version()) }

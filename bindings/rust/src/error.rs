@@ -1,4 +1,4 @@
-//! Why a text or a view is refused.
+//! Why a text, a view or a sheet is refused.
 
 use crate::calls;
 use std::fmt;
@@ -87,17 +87,19 @@ impl fmt::Display for ErrorKind {
     }
 }
 
+/// Ends the program where the library answers what it should not.
+fn unknown(number: u32) -> ! {
+    panic!(
+        "the library answers {number}, which no version that this crate knows does: {}",
+        calls::version()
+    )
+}
+
 impl Error {
     /// The refusal of this number, which the library has answered.
     pub(crate) fn new(number: u32, place: usize) -> Self {
         let kind = KINDS.into_iter().find(|kind| kind.number() == number);
-        let kind = kind.unwrap_or_else(|| {
-            panic!(
-                "the library answers {number}, which no version that this crate knows does: {}",
-                calls::version()
-            )
-        });
-        Error { kind, place }
+        Error { kind: kind.unwrap_or_else(|| unknown(number)), place }
     }
 
     /// Which refusal it is.
@@ -159,3 +161,69 @@ impl fmt::Display for Error {
 }
 
 impl std::error::Error for Error {}
+
+/// Why a sheet is not written. Each is looked for in the whole sheet before the next, in this order.
+///
+/// ```
+/// use tackacorn::{TextTape, WriteError};
+///
+/// let refused = |save: &[u8]| TextTape::from_slice(save).unwrap().write().unwrap_err();
+/// assert_eq!(refused(b"[[x] y]"), WriteError::OtherForm);
+/// assert_eq!(refused(b"a b{}c=d"), WriteError::ReadsOtherwise);
+/// assert_eq!(refused(b"a= =").number(), 45);
+/// assert_eq!(refused(b"a= =").to_string(), "refusal 45: the text to write would read differently");
+/// ```
+#[derive(Clone, Copy, Debug, PartialEq, Eq, Hash)]
+#[non_exhaustive]
+pub enum WriteError {
+    /// The sheet is not sound: see [`sheet::is_sound`](crate::sheet::is_sound).
+    NotSound = 41,
+    /// A parameter; or, at the top level or in an object before its first `MixedContainer`, what stands
+    /// for a key is none, or a key has no entry.
+    OtherForm = 46,
+    /// Containers stand in each other deeper than [`LEVEL_LIMIT`](crate::LEVEL_LIMIT).
+    TooDeep = 42,
+    /// The text to write has more than [`TEXT_LIMIT`](crate::TEXT_LIMIT) bytes.
+    TooLong = 43,
+    /// A buffer that was lent is under the text, or a scratch under the tokens. Memory of the crate's own
+    /// is always enough.
+    NoRoom = 44,
+    /// The text to write would be refused, or read as something else: pairs behind a mixed part of the
+    /// same object, a scalar with bytes that end it, a quote in a quoted one, and so on.
+    ReadsOtherwise = 45,
+}
+
+const WRITE_ERRORS: [WriteError; 6] = [
+    WriteError::NotSound,
+    WriteError::OtherForm,
+    WriteError::TooDeep,
+    WriteError::TooLong,
+    WriteError::NoRoom,
+    WriteError::ReadsOtherwise,
+];
+
+impl WriteError {
+    /// The refusal of this number, which the library has answered.
+    pub(crate) fn new(number: u32) -> Self {
+        let error = WRITE_ERRORS.into_iter().find(|error| error.number() == number);
+        error.unwrap_or_else(|| unknown(number))
+    }
+
+    /// The refusal's number, from 41 to 46.
+    pub fn number(self) -> u32 {
+        self as u32
+    }
+
+    /// The refusal in words, without a full stop.
+    pub fn words(self) -> &'static str {
+        calls::refusal_text(self.number())
+    }
+}
+
+impl fmt::Display for WriteError {
+    fn fmt(&self, f: &mut fmt::Formatter<'_>) -> fmt::Result {
+        write!(f, "refusal {}: {}", self.number(), self.words())
+    }
+}
+
+impl std::error::Error for WriteError {}

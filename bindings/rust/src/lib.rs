@@ -14,8 +14,8 @@ pub mod text;
 mod token;
 
 pub use calls::version;
-pub use error::{Error, ErrorKind};
-pub use numbers::{TEXT_LIMIT, WORDS_PER_TOKEN, words_for};
+pub use error::{Error, ErrorKind, WriteError};
+pub use numbers::{LEVEL_LIMIT, TEXT_LIMIT, WORDS_PER_TOKEN, bytes_for, words_for};
 pub use scalar::{ReadingKind, Scalar, ScalarError};
 pub use tape::{TextTape, TextTapeParser};
 pub use token::TextToken;

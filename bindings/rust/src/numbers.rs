@@ -5,12 +5,22 @@
 /// [`ErrorKind::TooLong`](crate::ErrorKind::TooLong).
 pub const TEXT_LIMIT: usize = 16_777_215;
 
+/// How deep containers may stand in each other to be written. Deeper ones are refused with
+/// [`WriteError::TooDeep`](crate::WriteError::TooDeep).
+pub const LEVEL_LIMIT: usize = 64;
+
 /// How many words a token takes on a tape of words: its code, a and b.
 pub const WORDS_PER_TOKEN: usize = 3;
 
 /// How many words are room for every text of so many bytes: those of 2n + 1 tokens.
 pub const fn words_for(bytes: usize) -> usize {
     WORDS_PER_TOKEN * (2 * bytes + 1)
+}
+
+/// How many bytes are room for what is written of every sheet of so many tokens over a text of so many
+/// bytes: the views are parts of the text that do not overlap, and a token adds at most 3 bytes to its own.
+pub const fn bytes_for(bytes: usize, count: usize) -> usize {
+    bytes + 3 * count
 }
 
 pub(crate) const ARRAY: u32 = 1;
@@ -42,7 +52,7 @@ pub(crate) const PRECISION_LOSS: u32 = 24;
 #[cfg(test)]
 mod tests {
     use super::*;
-    use crate::{ErrorKind, ReadingKind};
+    use crate::{ErrorKind, ReadingKind, WriteError};
 
     /// Every `TACKACORN_NAME = NUMBER` and `#define TACKACORN_NAME NUMBER` of the header.
     fn header() -> Vec<(String, u64)> {
@@ -65,6 +75,7 @@ mod tests {
             assert_eq!(found.map(|named| named.1), Some(number), "TACKACORN_{name}");
         };
         same("TEXT_LIMIT", TEXT_LIMIT as u64);
+        same("LEVEL_LIMIT", LEVEL_LIMIT as u64);
         same("WORDS_PER_TOKEN", WORDS_PER_TOKEN as u64);
         let codes = [
             ("ARRAY", ARRAY),
@@ -105,6 +116,14 @@ mod tests {
             ("FULL", ErrorKind::Full),
             ("NO_SCALAR", ErrorKind::NoScalar),
         ];
+        let writes = [
+            ("NOT_SOUND", WriteError::NotSound),
+            ("TOO_DEEP", WriteError::TooDeep),
+            ("WRITTEN_TOO_LONG", WriteError::TooLong),
+            ("NO_ROOM", WriteError::NoRoom),
+            ("READS_OTHERWISE", WriteError::ReadsOtherwise),
+            ("OTHER_FORM", WriteError::OtherForm),
+        ];
         let readings = [
             ("BOOL", ReadingKind::Bool),
             ("WHOLE", ReadingKind::Whole),
@@ -113,9 +132,10 @@ mod tests {
         ];
         codes.iter().for_each(|&(name, number)| same(name, number.into()));
         kinds.iter().for_each(|&(name, kind)| same(name, kind.number().into()));
+        writes.iter().for_each(|&(name, error)| same(name, error.number().into()));
         readings.iter().for_each(|&(name, kind)| same(name, kind as u64));
-        // and it has no other besides the version: the two sizes, OK and NOTHING
-        let known = 4 + codes.len() + kinds.len() + readings.len();
+        // and it has no other besides the version: the three sizes, OK and NOTHING
+        let known = 5 + codes.len() + kinds.len() + writes.len() + readings.len();
         let others = header.iter().filter(|named| !named.0.starts_with("VERSION"));
         assert_eq!(others.count(), known, "{header:?}");
     }

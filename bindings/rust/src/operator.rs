@@ -63,6 +63,20 @@ impl Operator {
         }
     }
 
+    /// The operator's number, as a token's words have it.
+    pub(crate) fn number(self) -> u32 {
+        match self {
+            Operator::LessThan => LESS_THAN,
+            Operator::LessThanEqual => LESS_THAN_EQUAL,
+            Operator::GreaterThan => GREATER_THAN,
+            Operator::GreaterThanEqual => GREATER_THAN_EQUAL,
+            Operator::NotEqual => NOT_EQUAL,
+            Operator::Exact => EXACT,
+            Operator::Equal => EQUAL,
+            Operator::Exists => EXISTS,
+        }
+    }
+
     /// The operator of a number, as a token's words have it.
     pub(crate) fn numbered(number: u32) -> Option<Self> {
         Some(match number {

@@ -1,9 +1,9 @@
 //! Tapes of words, as the library lays them: three words a token, in memory of the caller. A *sheet* is
 //! the words of some tokens beside the text that they view. Sheets can be stored and exchanged; the check
-//! says whether one that comes from elsewhere is sound.
+//! says whether one that comes from elsewhere is sound, and one that is can be written as text again.
 
-use crate::numbers::{WORDS_PER_TOKEN, words_for};
-use crate::{Error, ErrorKind, Scalar, TextToken, calls};
+use crate::numbers::{TEXT_LIMIT, WORDS_PER_TOKEN, bytes_for, words_for};
+use crate::{Error, ErrorKind, Scalar, TextToken, WriteError, calls};
 
 /// What a parse answers: how many tokens it laid, and whether the text began with the bytes ef bb bf.
 #[derive(Clone, Copy, Debug, PartialEq, Eq)]
@@ -117,6 +117,68 @@ pub fn view<'t>(
     }
 }
 
+/// Writes the sheet of the first `count` tokens of the words as save text into a buffer that is lent, and
+/// answers how many bytes it has.
+///
+/// Writes every byte of the buffer, whatever stood there: the text and zeros behind it, or zeros after a
+/// refusal. The text is read back on the scratch, which is zero afterwards. [`bytes_for`] says how many bytes
+/// are room enough; of the scratch it is [`WORDS_PER_TOKEN`] words for each token.
+///
+/// ```
+/// use tackacorn::{WriteError, sheet};
+///
+/// let (text, words) = (b"k v w", [4, 0, 1, 5, 2, 3]);
+/// let (mut out, mut scratch) = ([7; 8], [7; 6]);
+/// assert_eq!(sheet::write_into(text, &words, 2, &mut out, &mut scratch), Ok(7));
+/// assert_eq!((&out, scratch), (b"k=\"v w\"\0", [0; 6]));
+///
+/// let no_room = sheet::write_into(text, &words, 2, &mut out[..6], &mut scratch);
+/// assert_eq!((no_room, &out[..6]), (Err(WriteError::NoRoom), &[0; 6][..]));
+/// ```
+pub fn write_into(
+    text: &[u8],
+    words: &[u32],
+    count: usize,
+    out: &mut [u8],
+    scratch: &mut [u32],
+) -> Result<usize, WriteError> {
+    match calls::write(text, words, count, out, scratch) {
+        (0, written) => Ok(written),
+        (number, _) => Err(WriteError::new(number)),
+    }
+}
+
+/// Writes the sheet of the first `count` tokens of the words as save text.
+///
+/// At the top level and in an object each key is followed by `=`, or by an operator with a space on either
+/// side, and by its entry; one space stands between pairs and between the entries of an array, and no line
+/// end anywhere. The text parses to the same tokens, with the same bytes in each scalar, or it is refused.
+///
+/// # Before you hand the text to the game
+///
+/// Some saves parse and cannot be written: see [`WriteError`]. No BOM, comment or first line like `HOI4txt`
+/// is written. A save that was cut short is written with its last object closed. A name with a `!` in it
+/// is written as it is, and jomini may read `a!=b` as an operator, where this crate has the key `a!`.
+///
+/// ```
+/// use tackacorn::sheet;
+///
+/// let text = b"GER = { fighter = 19 # as sent\n depot = { 3 12 } }";
+/// let mut words = Vec::new();
+/// let parsed = sheet::parse(text, &mut words).unwrap();
+/// let written = sheet::write(text, &words, parsed.count).unwrap();
+/// assert_eq!(written, b"GER={fighter=19 depot={3 12}}");
+/// ```
+pub fn write(text: &[u8], words: &[u32], count: usize) -> Result<Vec<u8>, WriteError> {
+    // where the words of so many tokens are not there, the library says so, and needs no room for that
+    let tokens = if count <= words.len() / WORDS_PER_TOKEN { count } else { 0 };
+    let mut out = vec![0; bytes_for(text.len(), tokens).min(TEXT_LIMIT)];
+    let mut scratch = vec![0; WORDS_PER_TOKEN * tokens];
+    let written = write_into(text, words, count, &mut out, &mut scratch)?;
+    out.truncate(written);
+    Ok(out)
+}
+
 /// The tokens of words that are known to be a sound sheet of this text.
 pub(crate) fn tokens_of<'t>(
     text: &'t [u8],
@@ -193,5 +255,18 @@ impl<'t, 'w> Sheet<'t, 'w> {
     /// The view of a token, or [`ErrorKind::NoScalar`].
     pub fn view(&self, index: usize) -> Result<Scalar<'t>, Error> {
         view(self.text, self.words, self.len(), index)
+    }
+
+    /// The sheet as save text: see [`write()`].
+    ///
+    /// ```
+    /// use tackacorn::sheet::Sheet;
+    ///
+    /// let (text, words) = (b"a=rgb{1}", [4, 0, 1, 10, 2, 3, 1, 4, 0, 4, 6, 1, 9, 2, 0]);
+    /// let sheet = Sheet::new(text, &words, 5).expect("it is sound");
+    /// assert_eq!(sheet.write().unwrap(), b"a=rgb {1}");
+    /// ```
+    pub fn write(&self) -> Result<Vec<u8>, WriteError> {
+        write(self.text, self.words, self.len())
     }
 }

@@ -1,6 +1,6 @@
 //! A save's tokens in memory of their own, as jomini's tape has them.
 
-use crate::{Error, TextToken, sheet};
+use crate::{Error, TextToken, WriteError, sheet};
 use std::fmt;
 
 /// The tokens of a text.
@@ -85,6 +85,29 @@ impl<'a> TextTape<'a> {
     /// Whether the text began with the bytes ef bb bf.
     pub fn utf8_bom(&self) -> bool {
         self.utf8_bom
+    }
+
+    /// The tokens as save text, also those that were changed: see [`sheet::write`] for what is written, and
+    /// for what to know before the game loads it. jomini has no such call.
+    ///
+    /// A scalar may be put in from anywhere. Where it is none (an unquoted one with a blank, a quoted one
+    /// with a quote that no backslash skips), the text would read differently, and is refused.
+    ///
+    /// ```
+    /// use tackacorn::{Scalar, TextTape, TextToken, WriteError};
+    ///
+    /// let mut tape = TextTape::from_slice(b"order={ amount = 240 } name=\"Erik\"").unwrap();
+    /// tape.tokens_mut()[3] = TextToken::Unquoted(Scalar::new(b"300"));
+    /// tape.tokens_mut()[6] = TextToken::Quoted(Scalar::new(b"Gustav"));
+    /// assert_eq!(tape.write().unwrap(), b"order={amount=300} name=\"Gustav\"");
+    ///
+    /// tape.tokens_mut()[3] = TextToken::Unquoted(Scalar::new(b"3 00"));
+    /// assert_eq!(tape.write(), Err(WriteError::ReadsOtherwise));
+    /// ```
+    pub fn write(&self) -> Result<Vec<u8>, WriteError> {
+        let mut text = Vec::new();
+        let words: Vec<_> = self.tokens.iter().flat_map(|token| token.tell(&mut text)).collect();
+        sheet::write(&text, &words, self.tokens.len())
     }
 }
 

@@ -88,6 +88,32 @@ impl<'a> TextToken<'a> {
         }
     }
 
+    /// The words of this token, its scalar's bytes being put behind those of the scalars before it. Views
+    /// must rise, and no two may begin at the same place: a byte is left between them. What does not fit a
+    /// word becomes its greatest number, with which the sheet is not sound or its text too long.
+    pub(crate) fn tell(&self, text: &mut Vec<u8>) -> [u32; WORDS_PER_TOKEN] {
+        let word = |number: usize| u32::try_from(number).unwrap_or(u32::MAX);
+        let mut scalar = |code, scalar: &Scalar<'_>| {
+            let offset = text.len();
+            text.extend_from_slice(scalar.as_bytes());
+            text.push(b' ');
+            [code, word(offset), word(scalar.as_bytes().len())]
+        };
+        match self {
+            TextToken::Array { end, mixed } => [ARRAY, word(*end), u32::from(*mixed)],
+            TextToken::Object { end, mixed } => [OBJECT, word(*end), u32::from(*mixed)],
+            TextToken::MixedContainer => [MIXED_CONTAINER, 0, 0],
+            TextToken::Unquoted(s) => scalar(UNQUOTED, s),
+            TextToken::Quoted(s) if s.as_bytes().contains(&b'\\') => scalar(QUOTED_ESCAPE, s),
+            TextToken::Quoted(s) => scalar(QUOTED, s),
+            TextToken::Parameter(s) => scalar(PARAMETER, s),
+            TextToken::UndefinedParameter(s) => scalar(UNDEFINED_PARAMETER, s),
+            TextToken::Operator(operator) => [OPERATOR, operator.number(), 0],
+            TextToken::End(opener) => [END, word(*opener), 0],
+            TextToken::Header(s) => scalar(HEADER, s),
+        }
+    }
+
     /// The token that these words tell, where they have a token's form and lie in the text.
     #[inline]
     pub(crate) fn told(text: &'a [u8], words: &[u32; WORDS_PER_TOKEN]) -> Option<Self> {

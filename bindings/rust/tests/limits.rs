@@ -1,8 +1,8 @@
 //! What a user meets at the limits: of a text, of a tape, of words from elsewhere.
 
 use tackacorn::sheet::{self, Sheet};
-use tackacorn::{Error, ErrorKind, Scalar, ScalarError, TextTape, TextToken};
-use tackacorn::{TEXT_LIMIT, WORDS_PER_TOKEN, words_for};
+use tackacorn::{Error, ErrorKind, Scalar, ScalarError, TextTape, TextToken, WriteError};
+use tackacorn::{LEVEL_LIMIT, TEXT_LIMIT, WORDS_PER_TOKEN, bytes_for, words_for};
 
 #[test]
 fn the_text_limit_from_both_sides() {
@@ -105,6 +105,100 @@ fn words_from_elsewhere() {
     }
     // a MixedContainer, six of the eight operators, three Unquoted, and six in quotes of either code
     assert_eq!(sound, 1 + 6 + 3 + 6 + 6);
+}
+
+/// The text of a save by its tape, which is that of its sheet, or its refusal's number.
+fn written(text: &[u8]) -> Result<String, u32> {
+    let mut words = Vec::new();
+    let parsed = sheet::parse(text, &mut words).unwrap();
+    let by_sheet = Sheet::new(text, &words, parsed.count).unwrap().write();
+    let by_tape = TextTape::from_slice(text).unwrap().write();
+    assert_eq!(by_tape, by_sheet);
+    by_sheet.map(|bytes| String::from_utf8(bytes).unwrap()).map_err(WriteError::number)
+}
+
+#[test]
+fn the_way_back() {
+    let same =
+        ["", "a={b=1 c={1 \"2 3\" d}}", "a < 1 b ?= 2", "a={1 b = 2 c < 3 {d}}", "a=\"\" b={\"\"}"];
+    for text in same {
+        assert_eq!(written(text.as_bytes()).as_deref(), Ok(text));
+    }
+    assert_eq!(written(b"\xef\xbb\xbfa = rgb{ 1 } # x").as_deref(), Ok("a=rgb {1}"));
+    assert_eq!(written(br#"a="b\"c""#).as_deref(), Ok(r#"a="b\"c""#));
+    assert_eq!(written(b"GER={ fighter=19").as_deref(), Ok("GER={fighter=19}"), "cut short");
+    for text in ["a b{}c=d", "a= =", "a=b{{}}", "a={{{}}}"] {
+        assert_eq!(written(text.as_bytes()), Err(45), "{text}");
+    }
+    assert_eq!(written(b"[[x] y]"), Err(46));
+    assert_eq!(written(b"a={[[!x] y=1 ]}"), Err(46));
+}
+
+#[test]
+fn the_levels_from_both_sides() {
+    let nested = |levels| format!("k={}a{}", "{".repeat(levels), "}".repeat(levels));
+    let deepest = nested(LEVEL_LIMIT);
+    assert_eq!(written(deepest.as_bytes()), Ok(deepest));
+    assert_eq!(written(nested(LEVEL_LIMIT + 1).as_bytes()), Err(42));
+}
+
+/// 17 bytes to each of so many entries, and what is before them: just the limit, and one byte over it.
+#[test]
+fn the_text_limit_of_what_is_written() {
+    let entries = "\"12345678901234\"".repeat(986_894);
+    let at_limit = format!("abcdefghijklmno={{{entries}}}");
+    assert_eq!(written(at_limit.as_bytes()).map(|text| text.len()), Ok(TEXT_LIMIT));
+    assert_eq!(written(format!("a{at_limit}").as_bytes()), Err(43));
+}
+
+/// What is lent to a write holds the text and zeros, or zeros alone, and the scratch zeros.
+#[test]
+fn what_a_write_leaves() {
+    let (text, words) = (b"k v w", [4, 0, 1, 5, 2, 3]);
+    assert_eq!(bytes_for(text.len(), 2), 11);
+    for bytes in 0..12 {
+        for scratch_words in 0..8 {
+            let (mut out, mut scratch) = (vec![7; bytes], vec![7; scratch_words]);
+            let answer = sheet::write_into(text, &words, 2, &mut out, &mut scratch);
+            let room = bytes >= 7 && scratch_words >= 6;
+            assert_eq!(answer, if room { Ok(7) } else { Err(WriteError::NoRoom) });
+            assert!(!room || out.starts_with(b"k=\"v w\""));
+            assert!(out[answer.unwrap_or(0)..].iter().all(|&byte| byte == 0));
+            assert!(scratch.iter().all(|&word| word == 0));
+        }
+    }
+    for count in [3, usize::MAX / 3 + 1, usize::MAX] {
+        assert_eq!(sheet::write(text, &words, count), Err(WriteError::NotSound));
+    }
+    assert_eq!(sheet::write(text, &words, 1), Err(WriteError::OtherForm), "a key without an entry");
+}
+
+/// Tokens that were changed: what the text would not say is refused.
+#[test]
+fn an_edited_tape() {
+    let save = b"order={ amount=240 } leader={ name=\"Erik\" }";
+    let edited = |index: usize, token: TextToken<'static>| {
+        let mut tape = TextTape::from_slice(save).unwrap();
+        tape.tokens_mut()[index] = token;
+        tape.write().map(|text| String::from_utf8(text).unwrap()).map_err(WriteError::number)
+    };
+    let (unquoted, quoted) = (
+        |bytes| TextToken::Unquoted(Scalar::new(bytes)),
+        |bytes| TextToken::Quoted(Scalar::new(bytes)),
+    );
+    let with = |amount, name| format!("order={{amount={amount}}} leader={{name={name}}}");
+    assert_eq!(edited(3, unquoted(b"300")), Ok(with("300", "\"Erik\"")));
+    assert_eq!(edited(8, quoted(b"")), Ok(with("240", "\"\"")));
+    assert_eq!(edited(8, quoted(br#"Erik \"L\""#)), Ok(with("240", r#""Erik \"L\"""#)));
+    assert_eq!(edited(8, unquoted(b"@[1 2]")), Ok(with("240", "@[1 2]")));
+    assert_eq!(edited(3, unquoted(b"3 00")), Err(45));
+    assert_eq!(edited(8, quoted(b"Erik \"L\"")), Err(45));
+    assert_eq!(edited(8, quoted(b"Erik\\")), Err(45));
+    assert_eq!(edited(3, unquoted(b"")), Err(41));
+    assert_eq!(edited(1, TextToken::Object { end: 5, mixed: false }), Err(41));
+    assert_eq!(edited(1, TextToken::Object { end: usize::MAX, mixed: false }), Err(41));
+    assert_eq!(edited(1, TextToken::Object { end: 4, mixed: true }), Err(45), "a flag of nothing");
+    assert_eq!(edited(2, TextToken::MixedContainer), Err(45));
 }
 
 /// The table of [`Scalar`]: numbers that have no digit.

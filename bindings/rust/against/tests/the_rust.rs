@@ -1,5 +1,6 @@
 //! The crate beside the Rust's own types, on the records of the comparison: every token and its place in
-//! the text, every reading bit for bit, every refusal by number and place, every sheet and view.
+//! the text, every reading bit for bit, every refusal by number and place, every sheet and view, and what
+//! is written of a text.
 //! `SEED` and `CASES` choose others than are tried by themselves.
 
 use compare::generate::Generator;
@@ -143,17 +144,35 @@ fn same_words(text: &[u8], capacity: usize) {
     }
 }
 
+/// What is written of a text, where it is: the same tokens come back, here and in the Rust, and the tape and
+/// its words are written alike. Answers whether it is written.
+fn same_back(text: &[u8]) -> bool {
+    let Ok(tape) = TextTape::from_slice(text) else { return false };
+    let mut words = Vec::new();
+    let parsed = sheet::parse(text, &mut words).expect("it parses");
+    let written = sheet::write(text, &words, parsed.count);
+    assert_eq!(tape.write(), written, "{:?}", shown(text));
+    let Ok(written) = written else { return false };
+    let back = TextTape::from_slice(&written).expect("what is written parses");
+    assert_eq!(back.tokens(), tape.tokens(), "{:?}", shown(text));
+    if compare::domain::inside(&written) {
+        same_parse(&written, &mut TextTape::new());
+    }
+    true
+}
+
 // ---- what is tried ----
 
 #[test]
 fn the_records_of_the_comparison() {
     let (seed, cases) = (number("SEED", 2026), number("CASES", 500_000));
-    let (mut parses, mut scalars, mut sheets, mut views) = (0, 0, 0, 0);
+    let (mut parses, mut written, mut scalars, mut sheets, mut views) = (0, 0, 0, 0, 0);
     for record in Generator::new(seed).take(cases as usize) {
         match record.question().expect("a good record") {
             Question::Text { text, capacity } => {
                 same_parse(text, &mut TextTape::new());
                 same_words(text, capacity);
+                written += u64::from(same_back(text));
                 parses += 1;
             }
             Question::Scalar { bytes } => {
@@ -175,7 +194,8 @@ fn the_records_of_the_comparison() {
         }
     }
     println!(
-        "seed {seed}: {parses} texts, {scalars} scalars, {sheets} sheets and {views} views, no difference"
+        "seed {seed}: {parses} texts, {written} of them written back, {scalars} scalars, {sheets} sheets and \
+         {views} views, no difference"
     );
 }
 
