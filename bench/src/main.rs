@@ -1,4 +1,4 @@
-//! bench [BYTES] [SEED]: our calls and the Rust's on one save, in MB/s.
+//! bench [BYTES] [SEED]: our calls and the Rust's on one save, in MB/s, and the way back beside our parse.
 //!
 //! Each pair is run in turns, and the best round of each counts. Both sides write into memory that they
 //! have written before, so that no round pays for fresh pages: the Rust empties its `Vec` of tokens and
@@ -65,11 +65,45 @@ macro_rules! reading {
     }};
 }
 
+/// The way back beside our parse of the same save, which is made as the other but has no parameters. The text
+/// written is parsed within the time, and all that was lent is cleared behind what is used.
+fn way_back(size: usize, seed: u64) {
+    let text = &save::save(size, seed, false)[..];
+    let mut tape = vec![1u32; text.len()];
+    let count = ours::parse(text, &mut tape).expect("the save parses");
+    let words = &tape[..WORDS * count].to_vec()[..];
+    let mut out = vec![1u8; ours::bytes_for(text.len(), count)];
+    let mut scratch = vec![1u32; words.len()];
+    let length = ours::write(text, words, count, &mut out, &mut scratch).expect("it is written");
+    let written = out[..length].to_vec();
+    let back = compare::oracle::parse(&written);
+    assert_eq!((back.refusal, back.need()), (None, count), "the Rust reads the text otherwise");
+    assert!(out[length..].iter().all(|&byte| byte == 0), "a byte is left");
+    assert!(scratch.iter().all(|&word| word == 0), "a word is left");
+    let times = race(
+        || {
+            let answer = ours::write(black_box(text), words, count, &mut out, &mut scratch);
+            assert_eq!(answer, Ok(length));
+        },
+        || assert_eq!(ours::parse(black_box(text), &mut tape), Ok(count)),
+    );
+    show("write (beside it: our parse)", text.len(), times);
+    let (write, parse) = (times.0.as_secs_f64(), times.1.as_secs_f64());
+    println!(
+        "  of {} bytes without parameters, {count} tokens, {length} bytes written: {:.2} ms, a parse of it \
+         {:.2} ms, so {:.2} parses",
+        text.len(),
+        1e3 * write,
+        1e3 * parse,
+        write / parse
+    );
+}
+
 fn main() {
     let mut args = std::env::args().skip(1).map(|a| a.parse().expect("a number"));
     let size: u64 = args.next().unwrap_or(1_000_000);
     let seed: u64 = args.next().unwrap_or(1);
-    let text = &save::save(size as usize, seed)[..];
+    let text = &save::save(size as usize, seed, true)[..];
     let parsed = compare::oracle::parse(text);
     assert_eq!(parsed.refusal, None, "the Rust refuses the save");
     let tokens = parsed.words;
@@ -106,6 +140,8 @@ fn main() {
         || assert_eq!(ours::parse(black_box(text), &mut small), Ok(count)),
     );
     show("check (beside it: our parse)", text.len(), times);
+    drop(small);
+    way_back(text.len(), seed);
 
     let scalars = &scalars(text, &tokens)[..];
     let bytes = scalars.iter().map(|scalar| scalar.len()).sum();

@@ -11,6 +11,18 @@ unsafe extern "C" {
         place: &mut usize,
     ) -> u32;
     fn tackacorn_check(text_length: usize, words: *const u32, length: usize, count: usize) -> bool;
+    fn tackacorn_write(
+        text: *const u8,
+        text_length: usize,
+        words: *const u32,
+        words_length: usize,
+        count: usize,
+        out: *mut u8,
+        out_length: usize,
+        scratch: *mut u32,
+        scratch_length: usize,
+        written: &mut usize,
+    ) -> u32;
     fn tackacorn_to_bool(scalar: *const u8, length: usize, value: &mut u32) -> u32;
     fn tackacorn_to_u64(scalar: *const u8, length: usize, value: &mut u64) -> u32;
     fn tackacorn_to_i64(scalar: *const u8, length: usize, value: &mut i64) -> u32;
@@ -29,6 +41,37 @@ pub fn parse(text: &[u8], tape: &mut [u32]) -> Result<usize, u32> {
 
 pub fn check(text_length: usize, words: &[u32], count: usize) -> bool {
     unsafe { tackacorn_check(text_length, words.as_ptr(), words.len(), count) }
+}
+
+/// Bytes that are room for what is written of any sheet of so many tokens over a text of so many bytes.
+pub fn bytes_for(bytes: usize, count: usize) -> usize {
+    bytes + 3 * count
+}
+
+/// The length of the text written, or the number of its refusal.
+pub fn write(
+    text: &[u8],
+    words: &[u32],
+    count: usize,
+    out: &mut [u8],
+    scratch: &mut [u32],
+) -> Result<usize, u32> {
+    let mut written = 0;
+    let refusal = unsafe {
+        tackacorn_write(
+            text.as_ptr(),
+            text.len(),
+            words.as_ptr(),
+            words.len(),
+            count,
+            out.as_mut_ptr(),
+            out.len(),
+            scratch.as_mut_ptr(),
+            scratch.len(),
+            &mut written,
+        )
+    };
+    if refusal == 0 { Ok(written) } else { Err(refusal) }
 }
 
 pub fn to_bool(scalar: &[u8]) -> (u32, u64) {

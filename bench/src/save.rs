@@ -84,6 +84,7 @@ const ATOMS: &[&str] = &[
 pub struct Save {
     text: Vec<u8>,
     rng: Rng,
+    parameters: bool,
 }
 
 impl Save {
@@ -228,7 +229,7 @@ impl Save {
         match self.rng.below(100) {
             0..2 => self.comment(),
             2..5 => self.operator(),
-            5 => self.parameter(),
+            5 if self.parameters => self.parameter(),
             6..10 => {
                 self.key();
                 self.put("=");
@@ -258,9 +259,10 @@ impl Save {
     }
 }
 
-/// A save of `size` bytes: pairs as long as one more fits, and a comment over what is left.
-pub fn save(size: usize, seed: u64) -> Vec<u8> {
-    let mut save = Save { text: Vec::with_capacity(size + 4096), rng: Rng::new(seed) };
+/// A save of `size` bytes: pairs as long as one more fits, and a comment over what is left. Parameters cannot
+/// be written back: where there are to be none, other pairs stand in their place.
+pub fn save(size: usize, seed: u64, parameters: bool) -> Vec<u8> {
+    let mut save = Save { text: Vec::with_capacity(size + 4096), rng: Rng::new(seed), parameters };
     let mut end = 0;
     while save.text.len() <= size {
         end = save.text.len();
