@@ -75,8 +75,7 @@ fn way_back(size: usize, seed: u64) {
     let mut out = vec![1u8; ours::bytes_for(text.len(), count)];
     let mut scratch = vec![1u32; words.len()];
     let length = ours::write(text, words, count, &mut out, &mut scratch).expect("it is written");
-    let written = out[..length].to_vec();
-    let back = compare::oracle::parse(&written);
+    let back = compare::oracle::parse(&out[..length]);
     assert_eq!((back.refusal, back.need()), (None, count), "the Rust reads the text otherwise");
     assert!(out[length..].iter().all(|&byte| byte == 0), "a byte is left");
     assert!(scratch.iter().all(|&word| word == 0), "a word is left");
