@@ -76,7 +76,8 @@ extern "C" {
 
 /* Bytes that are room enough for what tackacorn_write makes of any sheet of so many tokens over a text of so
  * many bytes: the views are parts of the text that do not overlap, and a token adds at most 3 bytes to its
- * view (one before it, and two quotes or an operator's sign). More than TACKACORN_TEXT_LIMIT is never wanted. */
+ * view, one before it, and two quotes or an operator's sign. More than TACKACORN_TEXT_LIMIT are never
+ * wanted. */
 #define TACKACORN_BYTES_FOR(bytes, count) ((size_t)(bytes) + 3 * (size_t)(count))
 
 /* Why a text, a view, a reading or a sheet is refused. tackacorn_refusal_text has these in words. */
@@ -198,7 +199,8 @@ uint32_t tackacorn_view(const uint8_t *text, size_t text_length, const uint32_t 
  *
  * Answers TACKACORN_OK: *written is the length of the text written. It parses, by tackacorn_parse, to a
  * tape with the same codes, the same links, flags and operators, and the same bytes in each scalar; offsets
- * are its own. Or answers a refusal, and *written is 0. Each is looked for in the whole sheet before the next:
+ * are its own. Or answers a refusal, and *written is 0. Each is looked for in the whole sheet before the
+ * next:
  *
  *   NOT_SOUND         tackacorn_check(text_length, words, words_length, count) is false
  *   OTHER_FORM        a token is a Parameter or an UndefinedParameter; or at the top level or in an object,
@@ -209,14 +211,16 @@ uint32_t tackacorn_view(const uint8_t *text, size_t text_length, const uint32_t 
  *   NO_ROOM           out_length is under the text, or scratch_length / 3 is under count
  *   READS_OTHERWISE   the text written would be refused by tackacorn_parse, or parse to something else
  *
- * What is written: at the top level and in an object each key, '=' or a space, the operator's sign and a space,
- * and the entry, up to a MixedContainer, which writes nothing and behind which entries follow as in an array;
- * in an array each entry, and an operator's sign as one. One space stands between entries or pairs. A Header,
- * a space and its container are one entry. Braces stand round containers, quotes round Quoted and
- * QuotedEscape, whose escapes stand as they are: GER={name="Luftwaffe" depot={3 12 reserve = yes}}.
+ * What is written: at the top level and in an object each key, then '=', or where an operator stands there
+ * its sign with a space on either side, then the entry, up to a MixedContainer, which writes nothing and
+ * behind which entries follow as in an array; in an array each entry, and an operator's sign as one. One
+ * space stands between entries or pairs. A Header, a space and its container are one entry. Braces stand
+ * round containers, quotes round Quoted and QuotedEscape, whose escapes stand as they are:
+ * GER={name="Luftwaffe" amount > 3 depot={3 12 reserve = yes}}.
  *
- * TACKACORN_BYTES_FOR(text_length, count) bytes and TACKACORN_WORDS_PER_TOKEN * count words are always enough
- * for out and scratch, so that NO_ROOM does not come. text, words, out, scratch and written must not overlap.
+ * For out TACKACORN_BYTES_FOR(text_length, count) bytes are always enough, for the scratch
+ * TACKACORN_WORDS_PER_TOKEN * count words: then NO_ROOM does not come. text, words, out, scratch and written
+ * must not overlap.
  *
  * BEFORE YOU HAND THE TEXT TO THE GAME
  *
@@ -233,11 +237,11 @@ uint32_t tackacorn_view(const uint8_t *text, size_t text_length, const uint32_t 
  *  - Nothing is written but the tokens. A BOM, comments, blanks, line ends and the line "HOI4txt" of the file
  *    are gone, no LF ends the text, and a program that wants them must write them itself.
  *  - The text reads the same for this parser. A key or value in which a '!' stands, as "a!", is written as
- *    it is, and "a!=b" is the key "a!" here, but "a" with the operator "!=" to the Rust, and perhaps to the
+ *    it is, and "a!=b" is the key "a!" here, but may be "a" and the operator "!=" to the Rust and to the
  *    game. Look for '!', 0x0b and 0x0c in unquoted scalars that come from a stranger.
- *  - A view must lie in the text, behind the view before it. A new value is therefore put into a copy of
- *    the text and the views behind it are moved; a name in quotes with a backslash in it is code 11, and
- *    code 5 without. examples/edit_order.c shows how. */
+ *  - A view must lie in the text, behind the view before it. For a new value, copy the views into a text of
+ *    their own, one behind the other with a byte between them, and let the tokens name their new places. A
+ *    quoted one with a backslash in it is code 11, and code 5 without. examples/edit_order.c does this. */
 uint32_t tackacorn_write(const uint8_t *text, size_t text_length, const uint32_t *words, size_t words_length,
                          size_t count, uint8_t *out, size_t out_length, uint32_t *scratch,
                          size_t scratch_length, size_t *written);
