@@ -19,5 +19,7 @@ module _ (bytes : List ℕ) (start : ℕ × ℕ) (offset size : ℕ) where
   pub part-front : {r : List ℕ} {p : ℕ × ℕ} → offset < length bytes → r ≡ take size (take (length bytes - offset) (drop offset bytes))
       → p ≡ (start .0, offset + start .1) → (r ≡ take size (drop offset bytes)) × (p ≡ part-place start (length bytes) offset)
   part-front h e f =
-      let all : length (drop offset bytes) ≤ length bytes - offset = omega (arith, length-drop offset bytes) in
-      (e ∙ ap (take size) (take-all _ _ all), rw (part-place, lt-ltb offset (length bytes) h) (f ∙ ap (λ (n : ℕ). (start .0, n)) (add-comm offset (start .1))))
+      let all : length (drop offset bytes) ≤ length bytes - offset = omega (arith, length-drop offset bytes) in (
+        e ∙ ap (take size) (take-all _ _ all),
+        rw (part-place, lt-ltb offset (length bytes) h) (f ∙ ap (λ (n : ℕ). (start .0, n)) (add-comm offset (start .1))),
+      )

@@ -1,4 +1,4 @@
--- Bytes in hexadecimal, one at a time, the line of a check, and the lines of a view.
+-- Bytes in hexadecimal, one at a time, the line of a check, the lines of a text that was written, and those of a view.
 -- Assumes nothing.
 use mathlib.Core.Path.{_≡_, sym, ap, subst, _∙_}
 use mathlib.Core.Bool.{Bool, true}
@@ -14,7 +14,10 @@ use Rattle.sheet.specs.declared.views.Viewed.the-variants.{At, NoScalar}
 use Rattle.sheet.specs.Views.{refusal-of, part-of}
 use Rattle.report.specs.Digits.{decimal, hex}
 use Rattle.put.specs.Append.{Wrote, append}
-use Rattle.report.specs.Sheets.{verdict, Judged, hex-bytes, view-text}
+use Rattle.sheet.specs.Decided.{Decided}
+use Rattle.writer.specs.declared.Written.{Written}
+use Rattle.writer.specs.Write.{Left, left}
+use Rattle.report.specs.Sheets.{verdict, Judged, hex-bytes, view-text, written-text, reported, report-written}
 use Rattle.report.specs.Words as words
 
 -- the digits of the byte at an index stand before those of the bytes after it
@@ -28,10 +31,24 @@ unfolding hex-bytes
 hex-none-left bytes i h = rw (drop-of-length-le bytes h)
 
 -- what a check decides, and the verdict that is put for it
-pub judged-as : {Holds : Type 0} {out : List ℕ} {at : ℕ} {left : Wrote} {decided : Bool} (sound : Bool) → (decided ≡ true) ↔ Holds
-    → decided ≡ sound → left ≡ append out at (verdict sound) → Judged Holds out at left
-judged-as {Holds = Holds} sound holds is put =
-    record { sound = sound; holds = subst (λ (b : Bool). (b ≡ true) ↔ Holds) is holds; put = put }
+pub judged-as : {Holds : Type 0} (out : List ℕ) (at : ℕ) {put : Wrote} {decided : Bool} (sound : Bool) → (decided ≡ true) ↔ Holds
+    → decided ≡ sound → put ≡ append out at (verdict sound) → Judged Holds out at put
+judged-as {Holds = Holds} out at sound holds is put =
+    record { yes = sound; holds = subst (λ (b : Bool). (b ≡ true) ↔ Holds) is holds; gives = put }
+
+-- the line of a text that was written, and of a refusal: what the way back decides, and the line that is put for it
+pub written-as : {Holds : Type 0} (answer : Bool → Left) (out : List ℕ) (at : ℕ) {w is : Written} {buffer scratch lines : List ℕ} {put : Wrote}
+    → Decided Holds answer (left w buffer scratch) → w ≡ is → put ≡ append out at lines → lines ≡ written-text is buffer
+    → Decided Holds (λ (sound : Bool). report-written out at (answer sound)) (reported put buffer scratch)
+written-as answer out at {buffer = buffer} {scratch = scratch} d told e line =
+    record {
+      yes = d .yes;
+      holds = d .holds;
+      gives =
+          ap (λ (p : Wrote). reported p buffer scratch)
+          (e ∙ ap (append out at) (line ∙ ap (λ (x : Written). written-text x buffer) (sym told)))
+          ∙ ap (report-written out at) (d .gives);
+    }
 
 -- the line of a view that lies in the text, and of one that is refused
 pub view-shown : (text part : List ℕ) (found v : Viewed) (offset size : ℕ) → found ≡ v → found ≡ At offset size → part ≡ part-of text v

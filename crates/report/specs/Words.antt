@@ -51,6 +51,9 @@ refused = r ∷ e ∷ f ∷ u ∷ s ∷ e ∷ d ∷ space ∷ []
 abbrev pub view : List ℕ
 view = v ∷ i ∷ e ∷ w ∷ space ∷ []
 
+abbrev pub text : List ℕ
+text = t ∷ e ∷ x ∷ t ∷ space ∷ []
+
 abbrev pub sound : List ℕ
 sound = s ∷ o ∷ u ∷ n ∷ d ∷ []
 

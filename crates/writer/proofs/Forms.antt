@@ -3,7 +3,7 @@
 use mathlib.Core.Path.{_≡_, refl, sym, _∙_, ap, subst}
 use mathlib.Core.Bool.{Bool, true, false, _&&_, false≢true}
 use mathlib.Core.List.{List}
-use Prim.Native.Nat.{ℕ, zero, suc, _+_, _-_, _≤_, _<_}
+use Prim.Native.Nat.{ℕ, zero, suc, _+_, _≤_, _<_}
 use native.Mathlib.Nat.{eq-or-lt-of-le}
 use native.Mathlib.Omega.{arith}
 use mathlib.Core.Logic.{⊎-elim}
@@ -24,10 +24,11 @@ use Rattle.writer.specs.declared.pieces.Piece.{Piece}
 use Rattle.writer.specs.Forest.{Forest, no-more, leaf, box, stretch, forest-of}
 use Rattle.writer.specs.Pieces.{piece-of}
 use Rattle.writer.specs.Dues.{due-in, due-after, after-container}
-use Rattle.writer.specs.Form.{takes, takes-entry, may-end, has-form}
+use Rattle.writer.specs.Form.{takes, takes-entry, has-form}
 use Rattle.writer.specs.Ranges.{Range, Whole, Inside, body-form, inside-form}
 use Rattle.writer.specs.Write.{formed}
-use Rattle.writer.proofs.Grown.{by-token, stretch-none, stretch-leaf, stretch-box, sheet-range, opener-range, mixed-container-opens-not, operator-opens-not}
+use Rattle.writer.proofs.Grown.{by-token, stretch-none, stretch-leaf, stretch-box, sheet-range, opener-range}
+use Rattle.writer.proofs.Grown.{mixed-container-opens-not, operator-opens-not}
 use Rattle.writer.proofs.Walks.{opener-piece, leaf-bare, bare-inside, bare-sound}
 
 -- both of two tests hold, or one does not
@@ -131,7 +132,8 @@ module _ (ts : List Token) where
       let then : Bool = has-form (stretch ts (i + 1) j) (due-after due (piece-of (nth ts i))) in
       ⊎-elim
       (λ same. subst (λ (z : ℕ). inside-form ts (z + 1) (piece-of (nth ts z)) ≡ true) same (leaf-inside ts i o))
-      (λ later. form-insides n (i + 1) j (omega arith) rest (due-after due (piece-of (nth ts i))) (second-of (takes due (piece-of (nth ts i))) then f) k (omega arith) v)
+      (λ later. form-insides n (i + 1) j (omega arith) rest (due-after due (piece-of (nth ts i)))
+      (second-of (takes due (piece-of (nth ts i))) then f) k (omega arith) v)
       (eq-or-lt-of-le u))
 
 -- ---- the whole sheet
@@ -156,7 +158,8 @@ opened-inside ts s i h = go (s .forms i h)
     go (operator k l m p) = bare (ap container-of p ∙ operator-opens-not k)
     go (closing o p) = bare (ap container-of p ∙ end-opens-none o)
 
-pub whole-inside : {words : List ℕ} {count : ℕ} → Whole words count → (i : ℕ) (p : Piece) → i < count → p ≡ piece-of (nth (tokens-in words count) i)
+pub whole-inside : {words : List ℕ} {count : ℕ} → Whole words count → (i : ℕ) (p : Piece) → i < count
+    → p ≡ piece-of (nth (tokens-in words count) i)
     → Inside (tokens-in words count) (i + 1) p
 whole-inside {words} {count} w i p h e =
     subst (Inside (tokens-in words count) (i + 1)) (sym e) (opened-inside (tokens-in words count) (w .sound .tokens) i (rw (whole-count w) h))
@@ -172,7 +175,8 @@ module _ {words : List ℕ} {count : ℕ} (w : Whole words count) where
 
   pub root-wrong : {r : Bool} → r ≡ body-form (stretch (tokens-in words count) 0 count) Key → r ≡ false → false ≡ formed (tokens-in words count)
   root-wrong e f =
-      fails (λ t. false≢true (sym (sym e ∙ f) ∙ form-own (tokens-in words count) (stretch (tokens-in words count) 0 count) Key (sym (formed-as w) ∙ t)))
+      fails (λ t. false≢true (sym (sym e ∙ f)
+      ∙ form-own (tokens-in words count) (stretch (tokens-in words count) 0 count) Key (sym (formed-as w) ∙ t)))
 
   pub inside-wrong : (i : ℕ) (p : Piece) {r : Bool} → i < count → p ≡ piece-of (nth (tokens-in words count) i)
       → r ≡ inside-form (tokens-in words count) (i + 1) p → r ≡ false → false ≡ formed (tokens-in words count)
@@ -183,11 +187,13 @@ module _ {words : List ℕ} {count : ℕ} (w : Whole words count) where
       let here = all i (omega arith) h in
       false≢true (sym (sym e ∙ f) ∙ ap (inside-form (tokens-in words count) (i + 1)) is ∙ here))
 
-  pub all-right : Insides (tokens-in words count) 0 count → body-form (stretch (tokens-in words count) 0 count) Key ≡ true → true ≡ formed (tokens-in words count)
+  pub all-right : Insides (tokens-in words count) 0 count → body-form (stretch (tokens-in words count) 0 count) Key ≡ true
+      → true ≡ formed (tokens-in words count)
   all-right all e = sym (formed-as w ∙ form-whole (tokens-in words count) count 0 count (omega arith) (whole-range w) Key all e)
 
 -- one body more
-pub one-more : (ts : List Token) (i : ℕ) (p : Piece) {r : Bool} → Insides ts 0 i → p ≡ piece-of (nth ts i) → r ≡ inside-form ts (i + 1) p → r ≡ true
+pub one-more : (ts : List Token) (i : ℕ) (p : Piece) {r : Bool} → Insides ts 0 i → p ≡ piece-of (nth ts i)
+    → r ≡ inside-form ts (i + 1) p → r ≡ true
     → Insides ts 0 (i + 1)
 one-more ts i p all is e f k u v =
     by-bool (ltb k i)

@@ -1,8 +1,8 @@
 -- What is left in what was lent.
 -- Assumes nothing.
 use mathlib.Core.Path.{_≡_, refl, sym, _∙_, ap}
-use mathlib.Core.Bool.{Bool, true, false}
-use mathlib.Core.List.{List, [], _∷_, _++_}
+use mathlib.Core.Bool.{Bool, false}
+use mathlib.Core.List.{List, _++_}
 use Prim.Native.Nat.{ℕ, _-_}
 use native.Mathlib.Nat.{sub-zero}
 use lib.ListN.{length, take, replicate}
@@ -24,7 +24,8 @@ unfolding cleared padded tokens-in words-of
 tape-cleared ws e h = e ∙ ap zeros (sub-zero (length ws) ∙ h)
 
 -- and so is a buffer that is cleared from its first byte on
-pub buffer-cleared : (bytes : List ℕ) {out : List ℕ} {n : ℕ} → out ≡ take 0 bytes ++ replicate (length bytes - 0) 0 → length bytes ≡ n → out ≡ zeros n
+pub buffer-cleared : (bytes : List ℕ) {out : List ℕ} {n : ℕ} → out ≡ take 0 bytes ++ replicate (length bytes - 0) 0 → length bytes ≡ n
+    → out ≡ zeros n
 buffer-cleared bytes e h = e ∙ ap zeros (sub-zero (length bytes) ∙ h)
 
 -- what a parse tells of the way back

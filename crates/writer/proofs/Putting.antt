@@ -1,7 +1,7 @@
 -- What the routines for pairs and for entries come to, a token at a time, and that the tokens that are left grow fewer.
 -- Assumes nothing.
 use mathlib.Core.Path.{_≡_, refl, sym, _∙_, ap, subst}
-use mathlib.Core.Bool.{Bool, true, false, false≢true}
+use mathlib.Core.Bool.{Bool, true, false≢true}
 use mathlib.Core.List.{List, [], _∷_, _++_}
 use mathlib.Core.Logic.{⊎-elim}
 use Prim.Native.Nat.{ℕ, _+_, _-_, _*_, _≤_, _<_}
@@ -33,7 +33,9 @@ abbrev bare-tags : List ℕ
 bare-tags = 0 ∷ 1 ∷ 2 ∷ 3 ∷ 5 ∷ []
 
 not-its-tag : OneOf bare-tags 4 → ⊥
-not-its-tag h = ⊎-elim (λ e. omega (arith, e)) (⊎-elim (λ e. omega (arith, e)) (⊎-elim (λ e. omega (arith, e)) (⊎-elim (λ e. omega (arith, e)) (λ e. omega (arith, e))))) h
+not-its-tag h =
+    ⊎-elim (λ e. omega (arith, e)) (⊎-elim (λ e. omega (arith, e))
+    (⊎-elim (λ e. omega (arith, e)) (⊎-elim (λ e. omega (arith, e)) (λ e. omega (arith, e))))) h
 
 pub not-opener : (p : Piece) → OneOf bare-tags (tagOf the-type p) → Bare p
 not-opener (Scalar quoted offset size) h = scalar quoted offset size
@@ -129,7 +131,8 @@ put-braced out at lead body e f g h =
     (chain _ _ (brace-open ∷ []) (body ++ (brace-close ∷ [])) f (chain _ _ body (brace-close ∷ []) g h))
 
 -- ---- the walk over a body: what is left of it, put from here on, makes all that is to be put
-pub record Putting (ts : List Token) (text out₀ : List ℕ) (at from end : ℕ) (whole : List ℕ) (out : List ℕ) (i next : ℕ) (first : Bool) (due : Due) : Type 0 where
+pub record Putting (ts : List Token) (text out₀ : List ℕ) (at from end : ℕ) (whole : List ℕ)
+    (out : List ℕ) (i next : ℕ) (first : Bool) (due : Due) : Type 0 where
   pub range : Range ts i end
   pub past : from ≤ i
   pub left : append out₀ at whole ≡ append out next (body-text (stretch ts i end) text first due)

@@ -3,7 +3,7 @@
 use mathlib.Core.Path.{_≡_, refl, sym, _∙_, ap}
 use mathlib.Core.Bool.{Bool, true, false, _&&_}
 use mathlib.Core.List.{List, [], _∷_}
-use Prim.Native.Nat.{ℕ, zero, suc, _+_, _≤_, _<_}
+use Prim.Native.Nat.{ℕ, suc, _+_, _≤_, _<_}
 use native.Mathlib.Numerals.{add-one}
 use native.Mathlib.Omega.{arith}
 use borrow.Author.Tests.{eq-eqb, ne-eqb, leb-true, leb-false}
@@ -13,7 +13,6 @@ use lib.Seq.{drop-cons}
 use Rattle.data.proofs.Cases.{by-bool}
 use Rattle.tape.specs.declared.token.Token.{Token}
 use Rattle.tape.specs.declared.token.ScalarKind.{ScalarKind}
-use Rattle.tape.specs.declared.token.ScalarNamed.{ScalarNamed}
 use Rattle.tape.specs.declared.token.ScalarNamed.the-variants.{Kind, Nothing}
 use Rattle.tape.specs.Token.{no-token, nth, scalar-named}
 use Rattle.tape.specs.Words.{words-for, tokens-in, token-in}
@@ -39,7 +38,8 @@ module _ (a b : List ℕ) (i : ℕ) where
   unfolding same-bytes
   same-next h g = rw (drop-cons a i 0 h, drop-cons b i 0 g, add-one i)
 
-  pub same-on : i < length a → i < length b → getD a i 0 ≡ getD b i 0 → same-bytes (drop i a) (drop i b) ≡ same-bytes (drop (i + 1) a) (drop (i + 1) b)
+  pub same-on : i < length a → i < length b → getD a i 0 ≡ getD b i 0
+      → same-bytes (drop i a) (drop i b) ≡ same-bytes (drop (i + 1) a) (drop (i + 1) b)
   same-on h g e = same-next h g ∙ rw (eq-eqb _ _ e)
 
   pub same-not : i < length a → i < length b → (getD a i 0 ≡ getD b i 0 → ⊥) → same-bytes (drop i a) (drop i b) ≡ false
@@ -120,7 +120,8 @@ module _ (text other words tape : List ℕ) (count found : ℕ) (fits : words-fo
     counted = rw (found-alike, eq-eqb found _ (same ∙ sym (tokens-counted words count fits)), same)
 
     -- fewer tokens than were told
-    pub found-short : {r : Bool} → r ≡ leb (words-for count) (length tape) → r ≡ false → false ≡ found-alike text other (tokens-in words count) found tape
+    pub found-short : {r : Bool} → r ≡ leb (words-for count) (length tape) → r ≡ false
+        → false ≡ found-alike text other (tokens-in words count) found tape
     found-short e f =
         let short = leb-false (words-for count) (length tape) (sym e ∙ f) in
         let fewer : length (tokens-in words count) ≡ length (tokens-in tape count) → ⊥ =

@@ -17,7 +17,7 @@ use Rattle.tape.specs.declared.token.Token.{Token}
 use Rattle.tape.specs.declared.token.Container.the-variants.{Nothing}
 use Rattle.tape.specs.declared.shape.Link.{Link}
 use Rattle.tape.specs.declared.shape.Link.the-variants as Link
-use Rattle.tape.specs.Token.{no-token, nth, container-of, opener-of}
+use Rattle.tape.specs.Token.{no-token, nth, container-of}
 use Rattle.tape.specs.Words.{tokens-in, token-in}
 use Rattle.parse.specs.Parse.{text-limit}
 use Rattle.tape.specs.Shape.{link-of, linked, Opens}

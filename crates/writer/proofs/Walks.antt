@@ -2,14 +2,14 @@
 -- Assumes nothing.
 use mathlib.Core.Path.{_≡_, refl, sym, _∙_, ap, subst}
 use mathlib.Core.Bool.{Bool, true, false, _&&_}
-use mathlib.Core.List.{List, [], _∷_, _++_, append-assoc}
+use mathlib.Core.List.{List, _++_, append-assoc}
 use Prim.Native.Nat.{ℕ, _+_, _≤_, _<_}
 use native.Mathlib.Omega.{arith}
 use Rattle.tape.specs.declared.token.Token.{Token}
 use Rattle.tape.specs.declared.token.ContainerKind.{ContainerKind}
 use Rattle.tape.specs.declared.token.ScalarKind.{ScalarKind}
 use Rattle.tape.specs.declared.token.ScalarKind.the-variants.{Unquoted, Quoted, Parameter, UndefinedParameter, Header, QuotedEscape}
-use Rattle.tape.specs.declared.token.Container.the-variants.{Opened, Nothing}
+use Rattle.tape.specs.declared.token.Container.the-variants.{Nothing}
 use Rattle.tape.specs.declared.shape.Shape as Shape
 use Rattle.tape.specs.Token.{nth, container-of, opener-of}
 use Rattle.tape.specs.Shape.{shape-of}
@@ -18,10 +18,10 @@ use Rattle.tape.proofs.Makers.{opener-container}
 use Rattle.writer.specs.declared.dues.Due.{Due}
 use Rattle.writer.specs.declared.pieces.Piece.{Piece}
 use Rattle.writer.specs.declared.pieces.Piece.the-variants.{Scalar, Heading, Sign, Mixed, Opener, Other}
-use Rattle.writer.specs.Forest.{Forest, leaf, box, stretch}
+use Rattle.writer.specs.Forest.{Forest, stretch}
 use Rattle.writer.specs.Pieces.{scalar-piece, bare-piece, piece-of}
-use Rattle.writer.specs.Dues.{due-in, due-after, after-container}
-use Rattle.writer.specs.Form.{takes, takes-entry}
+use Rattle.writer.specs.Dues.{due-in, due-after}
+use Rattle.writer.specs.Form.{takes}
 use Rattle.writer.specs.Text.{lead, still-first, piece-text, braced, body-text}
 use Rattle.writer.specs.Ranges.{Range, behind, body-form, Inside, inside-form, token-text}
 use Rattle.writer.proofs.Grown.{by-token, stretch-leaf, stretch-box}

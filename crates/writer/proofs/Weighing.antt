@@ -1,13 +1,13 @@
 -- What is said before a byte is written, and what is left when all are: by the tests that lead there.
 -- Assumes nothing.
 use mathlib.Core.Path.{_≡_, refl, sym, _∙_, ap}
-use mathlib.Core.Bool.{Bool, true, false, _||_, false≢true}
-use mathlib.Core.List.{List, [], _∷_, _++_, append-nil}
+use mathlib.Core.Bool.{Bool, true, false}
+use mathlib.Core.List.{List, _++_}
 use mathlib.Core.Logic.{_↔_}
-use Prim.Native.Nat.{ℕ, _+_, _-_, _≤_, _<_}
+use Prim.Native.Nat.{ℕ, _-_, _≤_, _<_}
 use native.Mathlib.Nat.{zero-add}
 use native.Mathlib.Omega.{arith}
-use borrow.Author.Tests.{ltb-true, ltb-false, lt-ltb, le-ltb}
+use borrow.Author.Tests.{ltb-false, lt-ltb, le-ltb}
 use lib.Dec.{ltb}
 use lib.ListN.{length, take, drop, replicate, length-append, length-drop}
 use lib.Seq.{take-append-seam}
@@ -32,7 +32,7 @@ use Rattle.writer.specs.Text.{body-text}
 use Rattle.writer.specs.Alike.{comes-back}
 use Rattle.writer.specs.Scans.{measured}
 use Rattle.writer.specs.Ranges.{Whole}
-use Rattle.writer.specs.Write.{Left, left, zeros, refuse, accept, text-of, formed, too-deep, no-room}
+use Rattle.writer.specs.Write.{Left, left, zeros, text-of, formed, too-deep}
 use Rattle.writer.specs.Write.{weigh-text, weigh-sound, weigh, read-back, settle, write-of}
 use Rattle.writer.proofs.Forms.{whole-count}
 
@@ -159,7 +159,9 @@ module _ (out bytes : List ℕ) (fits : length bytes ≤ length out) {size : ℕ
   put-cleared e =
       let rest : List ℕ = drop (length bytes) out in
       let laid : o ≡ bytes ++ rest = ap bytes-of whole in
-      let long : length (bytes ++ rest) - length bytes ≡ length out - length bytes = omega (arith, length-append bytes rest, length-drop (length bytes) out, fits) in
+      let long : length (bytes ++ rest) - length bytes ≡ length out - length bytes =
+      omega (arith, length-append bytes rest, length-drop (length bytes) out, fits)
+      in
       e ∙ rw (put-size, laid, long, take-append-seam bytes rest)
 
   pub put-front : {c f : List ℕ} → c ≡ take size o ++ replicate (length o - size) 0 → f ≡ take size c → f ≡ bytes

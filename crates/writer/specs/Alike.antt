@@ -5,7 +5,6 @@ use mathlib.Core.List.{List, [], _∷_}
 use lib.Dec.{eqb}
 use lib.ListN.{length}
 use Rattle.tape.specs.declared.token.Token.{Token}
-use Rattle.tape.specs.declared.token.ScalarNamed.{ScalarNamed}
 use Rattle.tape.specs.declared.token.ScalarNamed.the-variants.{Kind, Nothing}
 use Rattle.tape.specs.Token.{scalar-named}
 use Rattle.machine.specs.declared.Parsed.the-variants.{Tokens, Refused}

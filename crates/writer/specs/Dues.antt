@@ -1,5 +1,4 @@
 -- What is due next in a body, a token at a time, so that nothing is looked at ahead.
-use mathlib.Core.Bool.{Bool, true, false}
 use Rattle.tape.specs.declared.token.ContainerKind.{ContainerKind}
 use Rattle.tape.specs.declared.token.ContainerKind.the-variants.{Array, Object}
 use Rattle.writer.specs.declared.dues.Due.{Due}

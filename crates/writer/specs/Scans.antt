@@ -14,7 +14,6 @@ use Rattle.writer.specs.declared.levels.Sunk.the-variants.{To, TooDeep}
 use Rattle.writer.specs.declared.measure.Measured.{Measured}
 use Rattle.writer.specs.declared.measure.Measured.the-variants.{Size, Over}
 use Rattle.writer.specs.declared.dues.Due.the-variants.{Entry}
-use Rattle.writer.specs.declared.pieces.Piece.{Piece}
 use Rattle.writer.specs.Levels.{most-levels}
 use Rattle.writer.specs.Pieces.{piece-of}
 use Rattle.writer.specs.Text.{lead, still-first, piece-text}

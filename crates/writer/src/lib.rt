@@ -8,8 +8,8 @@ ghost use lib.ListN.{length};
 ghost use Rattle.sheet.specs.Decided.{Decided};
 ghost use Rattle.sheet.specs.Sound.{Sound};
 ghost use Rattle.tape.specs.Words.{tokens-in};
-ghost use Rattle.writer.specs.Refusals.{number, refusal-of, length-of};
-ghost use Rattle.writer.specs.Write.{left, zeros, text-of, refuse, no-room, weigh-text, weigh, read-back, write-of};
+ghost use Rattle.writer.specs.Refusals.{number};
+ghost use Rattle.writer.specs.Write.{left, text-of, refuse, weigh-text, weigh, read-back, write-of};
 ghost use Rattle.writer.specs.Ranges.{Whole};
 
 // What a body is written as.

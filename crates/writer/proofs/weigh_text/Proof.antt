@@ -2,7 +2,6 @@
 -- Assumes nothing.
 use borrow.Author.Needs.{needs}
 use mathlib.Core.List.{List}
-use lib.ListN.{length}
 use Rattle.tape.specs.declared.token.Token.{Token}
 use Rattle.tape.specs.Words.{tokens-in}
 use Rattle.writer.proofs.Forms.{whole-count}
@@ -27,20 +26,24 @@ capacity-requires c κs = search needs
 
 returns-2 : tie.Need-returns-2
 returns-2 c =
-    let args = c .before .before .before .before .before .before .before .before .before .before .args in
+    let start = c .before .before .before .before .before .before .before .before .before .before in
+    let args = start .args in
     let ts : List Token = tokens-in (args .words .now) (args .count) in
     let asked = c .before .before in
-    scratch-no-room (args .room) _ ts _ (asked .before .before .before .before .measure .ensures) (asked .before .before .size .given .1) (asked .if1 .left) (whole-count (c .before .before .before .before .before .before .before .before .before .before .pre)) (c .before .capacity .ensures) (c .if2 .taken)
+    scratch-no-room (args .room) _ ts _ (asked .before .before .before .before .measure .ensures) (asked .before .before .size .given .1) (asked .if1 .left)
+    (whole-count (start .pre)) (c .before .capacity .ensures) (c .if2 .taken)
 
 enum-told : tie.Need-enum-told
 enum-told c = search needs
 
 returns-3 : tie.Need-returns-3
 returns-3 c =
-    let args = c .before .before .before .before .before .before .before .before .before .before .args in
+    let start = c .before .before .before .before .before .before .before .before .before .before in
+    let args = start .args in
     let ts : List Token = tokens-in (args .words .now) (args .count) in
     let asked = c .before .before in
-    text-fits (args .room) _ ts _ (asked .before .before .before .before .measure .ensures) (asked .before .before .size .given .1) (asked .if1 .left) (whole-count (c .before .before .before .before .before .before .before .before .before .before .pre)) (c .before .capacity .ensures) (c .if2 .left)
+    text-fits (args .room) _ ts _ (asked .before .before .before .before .measure .ensures) (asked .before .before .size .given .1) (asked .if1 .left)
+    (whole-count (start .pre)) (c .before .capacity .ensures) (c .if2 .left)
 
 returns-4 : tie.Need-returns-4
 returns-4 c =

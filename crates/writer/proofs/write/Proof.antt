@@ -22,7 +22,10 @@ enum-told c = search needs
 write-fitting-requires : tie.Need-write-fitting-requires
 write-fitting-requires c =
     let args = c .before .before .before .before .before .before .before .before .before .before .args in
-    let fits = settled-fits (args .text .now) (tokens-in (args .words .now) (args .count)) (length (args .out .now)) (length (args .scratch .now)) (c .before .before .before .before .weigh .ensures) (c .before .before .enum-told .given .1) in
+    let fits =
+    settled-fits (args .text .now) (tokens-in (args .words .now) (args .count)) (length (args .out .now)) (length (args .scratch .now))
+    (c .before .before .before .before .weigh .ensures) (c .before .before .enum-told .given .1)
+    in
     λ κs. (record { text-length = _; sound = fits .0 }, fits .1)
 
 same-length : tie.Need-same-length
@@ -33,8 +36,11 @@ same-length-2 c = search needs
 
 returns : tie.Need-returns
 returns c =
-    let args = c .before .before .before .before .before .before .before .before .before .before .before .before .before .before .before .before .args in
-    settled (args .text .now) (tokens-in (args .words .now) (args .count)) (length (args .out .now)) (length (args .scratch .now)) (c .before .before .before .before .before .before .before .before .before .before .weigh .ensures) (c .before .before .before .before .before .before .before .before .r .given .1) (c .before .before .before .before .refuse .ensures)
+    let weighed = c .before .before .before .before .before .before .before .before .before .before in
+    let args = weighed .before .before .before .before .before .before .args in
+    settled (args .text .now) (tokens-in (args .words .now) (args .count)) (length (args .out .now)) (length (args .scratch .now))
+    (weighed .weigh .ensures) (c .before .before .before .before .before .before .before .before .r .given .1)
+    (c .before .before .before .before .refuse .ensures)
 
 same-length-3 : tie.Need-same-length-3
 same-length-3 c = search needs
@@ -44,8 +50,11 @@ same-length-4 c = search needs
 
 returns-2 : tie.Need-returns-2
 returns-2 c =
-    let args = c .before .before .before .before .before .before .before .before .before .before .before .before .before .before .before .args in
-    settled (args .text .now) (tokens-in (args .words .now) (args .count)) (length (args .out .now)) (length (args .scratch .now)) (c .before .before .before .before .before .before .before .before .before .weigh .ensures) (c .before .before .before .before .before .before .before .enum-told .given .1) (c .before .before .before .before .write-fitting .ensures)
+    let weighed = c .before .before .before .before .before .before .before .before .before in
+    let args = weighed .before .before .before .before .before .before .args in
+    settled (args .text .now) (tokens-in (args .words .now) (args .count)) (length (args .out .now)) (length (args .scratch .now))
+    (weighed .weigh .ensures) (c .before .before .before .before .before .before .before .enum-told .given .1)
+    (c .before .before .before .before .write-fitting .ensures)
 
 pub write-spec : {M : Type 1} → statement M
 write-spec =

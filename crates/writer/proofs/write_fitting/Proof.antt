@@ -38,14 +38,15 @@ returns : tie.Need-returns
 returns c =
     let back = c .before .before .before in
     let cleared = c .before .before .before .before .before .before .before .before .before in
-    let start = c .before .before .before .before .before .before .before .before .before .before .before .before .before .before .before .before .before .before .before in
+    let start = cleared .before .before .before .before .before .before .before .before .before .before in
     let args = start .args in
     let ts : List Token = tokens-in (args .words .now) (args .count) in
     let bytes : List ℕ = text-of (args .text .now) ts in
-    let put = c .before .before .before .before .before .before .before .before .before .before .before .before .before .put-pairs .ensures ∙ ap (append (args .out .now) 0) (whole-text (start .pre .0) (args .text .now)) in
+    let put = cleared .before .before .before .before .put-pairs .ensures ∙ ap (append (args .out .now) 0) (whole-text (start .pre .0) (args .text .now)) in
     let fits = start .pre .1 in
-    let front = put-front (args .out .now) bytes fits put (cleared .clear-from .ensures) (c .before .before .before .before .before .front .ensures .0) in
-    reads-back (args .text .now) ts (length (args .out .now)) (length (args .scratch .now)) bytes front (back .comes-back .ensures .0) (back .comes-back .ensures .1)
+    let front = put-front (args .out .now) bytes fits put (cleared .clear-from .ensures) (back .before .before .front .ensures .0) in
+    reads-back (args .text .now) ts (length (args .out .now)) (length (args .scratch .now)) bytes front
+    (back .comes-back .ensures .0) (back .comes-back .ensures .1)
     (c .if1 .taken) (put-size (args .out .now) bytes fits put) (put-cleared (args .out .now) bytes fits put (cleared .clear-from .ensures))
 
 clear-from-requires-2 : tie.Need-clear-from-requires-2
@@ -61,15 +62,17 @@ returns-2 : tie.Need-returns-2
 returns-2 c =
     let back = c .before .before .before .before .before .before .before in
     let cleared = c .before .before .before .before .before .before .before .before .before .before .before .before .before in
-    let start = c .before .before .before .before .before .before .before .before .before .before .before .before .before .before .before .before .before .before .before .before .before .before .before in
+    let start = cleared .before .before .before .before .before .before .before .before .before .before in
     let args = start .args in
     let ts : List Token = tokens-in (args .words .now) (args .count) in
     let bytes : List ℕ = text-of (args .text .now) ts in
-    let put = c .before .before .before .before .before .before .before .before .before .before .before .before .before .before .before .before .before .put-pairs .ensures ∙ ap (append (args .out .now) 0) (whole-text (start .pre .0) (args .text .now)) in
+    let put = cleared .before .before .before .before .put-pairs .ensures ∙ ap (append (args .out .now) 0) (whole-text (start .pre .0) (args .text .now)) in
     let fits = start .pre .1 in
-    let front = put-front (args .out .now) bytes fits put (cleared .clear-from .ensures) (c .before .before .before .before .before .before .before .before .before .front .ensures .0) in
-    reads-otherwise (args .text .now) ts (length (args .out .now)) (length (args .scratch .now)) bytes front (back .comes-back .ensures .0) (back .comes-back .ensures .1)
-    (c .before .before .before .before .if1 .left) (buffer-cleared (cleared .clear-from .last .0) (c .before .before .clear-from2 .ensures) (cleared .clear-from .kept .0 ∙ c .before .before .before .before .before .before .before .before .before .before .before .before .before .before .before .before .before .put-pairs .kept .0))
+    let front = put-front (args .out .now) bytes fits put (cleared .clear-from .ensures) (back .before .before .front .ensures .0) in
+    let kept = cleared .clear-from .kept .0 ∙ cleared .before .before .before .before .put-pairs .kept .0 in
+    reads-otherwise (args .text .now) ts (length (args .out .now)) (length (args .scratch .now)) bytes front
+    (back .comes-back .ensures .0) (back .comes-back .ensures .1) (c .before .before .before .before .if1 .left)
+    (buffer-cleared (cleared .clear-from .last .0) (c .before .before .clear-from2 .ensures) kept)
 
 pub write-fitting-spec : {M : Type 1} → statement M
 write-fitting-spec =

@@ -23,7 +23,7 @@ returns c =
     let at-put-bytes = c .before .before in
     let at-if1 = at-put-bytes .before .before .before in
     let at-check = at-if1 .before in
-    judged-as true (at-check .check .ensures) (at-if1 .if1 .taken) (at-put-bytes .put-bytes .ensures)
+    judged-as _ _ true (at-check .check .ensures) (at-if1 .if1 .taken) (at-put-bytes .put-bytes .ensures)
 
 slice-aggregate-put-bytes-2 : tie.Need-slice-aggregate-put-bytes-2
 slice-aggregate-put-bytes-2 c = search needs
@@ -39,7 +39,7 @@ returns-2 c =
     let at-put-bytes = c .before .before in
     let at-if1 = at-put-bytes .before .before .before in
     let at-check = at-if1 .before in
-    judged-as false (at-check .check .ensures) (at-if1 .if1 .left) (at-put-bytes .put-bytes2 .ensures)
+    judged-as _ _ false (at-check .check .ensures) (at-if1 .if1 .left) (at-put-bytes .put-bytes2 .ensures)
 
 pub put-check-spec : {M : Type 1} → statement M
 put-check-spec =

@@ -22,11 +22,13 @@ holds-requires c κs = search needs
 
 returns-2 : tie.Need-returns-2 Inv-loop μ-loop
 returns-2 c =
-    found-short _ _ _ _ _ _ (c .before .before .before .before .before .before .before .pre) (c .before .before .if1 .left) (c .before .holds .ensures) (not-true _ (c .if2 .taken))
+    found-short _ _ _ _ _ _ (c .before .before .before .before .before .before .before .pre) (c .before .before .if1 .left)
+    (c .before .holds .ensures) (not-true _ (c .if2 .taken))
 
 loop-holds : tie.Need-loop-holds Inv-loop μ-loop
 loop-holds c =
-    beside _ _ _ _ _ _ (c .before .before .before .before .before .before .before .pre) (c .before .before .if1 .left) (c .before .holds .ensures) (not-false _ (c .if2 .left))
+    beside _ _ _ _ _ _ (c .before .before .before .before .before .before .before .pre) (c .before .before .if1 .left)
+    (c .before .holds .ensures) (not-false _ (c .if2 .left))
 
 token-of-requires : tie.Need-token-of-requires Inv-loop μ-loop
 token-of-requires c κs = search needs
@@ -41,8 +43,8 @@ returns-3 : tie.Need-returns-3 Inv-loop μ-loop
 returns-3 c =
     let told = c .before in
     let at-loop = told .before .before .before .before in
-    beside-not _ _ _ _ _ _ _ (at-loop .loop .inv) (told .before .before .before .loop-test .taken) (told .before .before .token-of .ensures) (told .before .token-of2 .ensures)
-    (told .same-token .ensures) (not-true _ (c .if3 .taken))
+    beside-not _ _ _ _ _ _ _ (at-loop .loop .inv) (told .before .before .before .loop-test .taken)
+    (told .before .before .token-of .ensures) (told .before .token-of2 .ensures) (told .same-token .ensures) (not-true _ (c .if3 .taken))
 
 add-i : tie.Need-add-i Inv-loop μ-loop
 add-i c = omega arith
@@ -54,8 +56,8 @@ loop-again : tie.Need-loop-again Inv-loop μ-loop
 loop-again c =
     let told = c .before in
     let at-loop = told .before .before .before .before in
-    beside-on _ _ _ _ _ _ _ (at-loop .loop .inv) (told .before .before .before .loop-test .taken) (told .before .before .token-of .ensures) (told .before .token-of2 .ensures)
-    (told .same-token .ensures) (not-false _ (c .if3 .left))
+    beside-on _ _ _ _ _ _ _ (at-loop .loop .inv) (told .before .before .before .loop-test .taken)
+    (told .before .before .token-of .ensures) (told .before .token-of2 .ensures) (told .same-token .ensures) (not-false _ (c .if3 .left))
 
 returns-4 : tie.Need-returns-4 Inv-loop μ-loop
 returns-4 c = beside-end _ _ _ _ _ _ _ (c .before .loop .inv) (c .loop-test .left)

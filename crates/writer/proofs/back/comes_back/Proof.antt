@@ -1,7 +1,6 @@
 -- `writer::back::comes_back` meets its contract: what the parse found is held against the sheet, and the tape is cleared.
 -- Assumes nothing.
 use borrow.Author.Needs.{needs}
-use mathlib.Core.Path.{_∙_}
 use Rattle.writer.proofs.Left.{tape-cleared, back-found, back-refused}
 use Rattle.writer.proofs.back.comes_back.Statement.{statement}
 use Rattle.writer.proofs.back.comes_back.Tie as tie

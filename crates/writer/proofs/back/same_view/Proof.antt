@@ -1,10 +1,8 @@
 -- `writer::back::same_view` meets its contract: the lengths differ, or the bytes decide.
 -- Assumes nothing.
 use borrow.Author.Needs.{needs}
-use mathlib.Core.Path.{_∙_, ap}
+use mathlib.Core.Path.{_∙_}
 use borrow.Author.Tests.{eq-eqb}
-use mathlib.Core.List.{List}
-use Prim.Native.Nat.{ℕ}
 use Rattle.writer.specs.Alike.{same-bytes, same-view}
 use Rattle.writer.proofs.Same.{view-other}
 use Rattle.writer.proofs.back.same_view.Statement.{statement}

@@ -478,7 +478,8 @@ put-pairs-returns t c =
     let ts : List Token = tokens-in (args .words .now) (args .count) in
     let h = in-loop .loop-test .taken in
     let is = read-piece _ _ _ (read .before .token-of .ensures) (read .piece-of .ensures) in
-    put-rest _ _ _ _ _ _ _ _ _ _ _ _ (m .inv) h _ is (c .before .before .before .before .before .is-mixed .ensures) (c .before .before .before .before .if1 .taken) (c .before .before .put-entries .ensures)
+    put-rest _ _ _ _ _ _ _ _ _ _ _ _ (m .inv) h _ is (c .before .before .before .before .before .is-mixed .ensures)
+    (c .before .before .before .before .if1 .taken) (c .before .before .put-entries .ensures)
 
 put-pairs-add-put-token : (t : ℕ) → put-pairs-lts.Need-add-put-token (
   token-of-reads.Asked,
@@ -844,10 +845,12 @@ put-token-put-entries-requires : (t : ℕ) → put-token-lts.Need-put-entries-re
   put-pairs.Post,
 ) (put-token-at t) put-token.Post
 put-token-put-entries-requires t c =
-    let args = c .before .before .before .before .before .before .before .before .before .before .before .before .before .before .before .before .before .args in
+    let known = c .before .before .before .before .before .before .before .before .before .before .before .before in
+    let start = known .before .before .before .before .before in
+    let args = start .args in
     let ts : List Token = tokens-in (args .words .now) (args .count) in
-    let opened = c .before .before .before .before .before .before .before .before .before .before .before .before .piece .given .1 in
-    λ κs. (enters (args .piece) (args .from) opened (c .before .before .before .before .before .before .before .before .before .before .before .before .before .before .before .before .before .pre .0), enters-range ts (args .piece) (args .from) opened (c .before .before .before .before .before .before .before .before .before .before .before .before .before .before .before .before .before .pre .1))
+    let opened = known .piece .given .1 in
+    λ κs. (enters (args .piece) (args .from) opened (start .pre .0), enters-range ts (args .piece) (args .from) opened (start .pre .1))
 
 put-token-put-byte-requires-2 : (t : ℕ) → put-token-lts.Need-put-byte-requires-2 (
   put-piece-reads.Asked,
@@ -904,10 +907,12 @@ put-token-put-pairs-requires : (t : ℕ) → put-token-lts.Need-put-pairs-requir
   put-pairs.Post,
 ) (put-token-at t) put-token.Post
 put-token-put-pairs-requires t c =
-    let args = c .before .before .before .before .before .before .before .before .before .before .before .before .before .before .before .before .before .args in
+    let known = c .before .before .before .before .before .before .before .before .before .before .before .before in
+    let start = known .before .before .before .before .before in
+    let args = start .args in
     let ts : List Token = tokens-in (args .words .now) (args .count) in
-    let opened = c .before .before .before .before .before .before .before .before .before .before .before .before .piece .given .1 in
-    λ κs. (enters (args .piece) (args .from) opened (c .before .before .before .before .before .before .before .before .before .before .before .before .before .before .before .before .before .pre .0), enters-range ts (args .piece) (args .from) opened (c .before .before .before .before .before .before .before .before .before .before .before .before .before .before .before .before .before .pre .1))
+    let opened = known .piece .given .1 in
+    λ κs. (enters (args .piece) (args .from) opened (start .pre .0), enters-range ts (args .piece) (args .from) opened (start .pre .1))
 
 put-token-put-byte-requires-3 : (t : ℕ) → put-token-lts.Need-put-byte-requires-3 (
   put-piece-reads.Asked,
@@ -951,11 +956,16 @@ put-token-returns-2 : (t : ℕ) → put-token-lts.Need-returns-2 (
 ) (put-token-at t) put-token.Post
 unfolding token-text
 put-token-returns-2 t c =
-    let args = c .before .before .before .before .before .before .before .before .before .before .before .before .before .before .before .before .before .before .before .before .before .before .before .before .args in
+    let brace = c .before .before .before .before .before .before .before .before .before .before .before .before in
+    let args = brace .before .before .before .before .before .before .before .before .before .before .before .before .args in
     let ts : List Token = tokens-in (args .words .now) (args .count) in
-    let opened = opened-as (c .before .before .before .before .before .before .before .before .before .before .before .before .before .before .before .before .before .before .before .piece .given .1) (c .before .before .before .before .before .before .before .before .enum-told .given .1) in
+    let opened =
+    opened-as (brace .before .before .before .before .before .before .before .piece .given .1)
+    (c .before .before .before .before .before .before .before .before .enum-told .given .1)
+    in
     as-told (λ (p : Piece). append (args .out .now) (args .at) (token-text (args .text .now) ts (args .from) (args .first) (args .due) p))
-    (put-braced (args .out .now) (args .at) _ _ (c .before .before .before .before .before .before .before .before .before .before .before .before .before .before .before .before .put-lead .ensures) (c .before .before .before .before .before .before .before .before .before .before .before .before .put-byte .ensures) (c .before .before .before .before .before .before .put-entries .ensures) (c .before .before .put-byte2 .ensures))
+    (put-braced (args .out .now) (args .at) _ _ (brace .before .before .before .before .put-lead .ensures) (brace .put-byte .ensures)
+    (c .before .before .before .before .before .before .put-entries .ensures) (c .before .before .put-byte2 .ensures))
     opened
 
 put-token-same-length-3 : (t : ℕ) → put-token-lts.Need-same-length-3 (
@@ -986,11 +996,16 @@ put-token-returns-3 : (t : ℕ) → put-token-lts.Need-returns-3 (
 ) (put-token-at t) put-token.Post
 unfolding token-text
 put-token-returns-3 t c =
-    let args = c .before .before .before .before .before .before .before .before .before .before .before .before .before .before .before .before .before .before .before .before .before .before .before .before .args in
+    let brace = c .before .before .before .before .before .before .before .before .before .before .before .before in
+    let args = brace .before .before .before .before .before .before .before .before .before .before .before .before .args in
     let ts : List Token = tokens-in (args .words .now) (args .count) in
-    let opened = opened-as (c .before .before .before .before .before .before .before .before .before .before .before .before .before .before .before .before .before .before .before .piece .given .1) (c .before .before .before .before .before .before .before .before .enum-told2 .given .1) in
+    let opened =
+    opened-as (brace .before .before .before .before .before .before .before .piece .given .1)
+    (c .before .before .before .before .before .before .before .before .enum-told2 .given .1)
+    in
     as-told (λ (p : Piece). append (args .out .now) (args .at) (token-text (args .text .now) ts (args .from) (args .first) (args .due) p))
-    (put-braced (args .out .now) (args .at) _ _ (c .before .before .before .before .before .before .before .before .before .before .before .before .before .before .before .before .put-lead .ensures) (c .before .before .before .before .before .before .before .before .before .before .before .before .put-byte .ensures) (c .before .before .before .before .before .before .put-pairs .ensures) (c .before .before .put-byte3 .ensures))
+    (put-braced (args .out .now) (args .at) _ _ (brace .before .before .before .before .put-lead .ensures) (brace .put-byte .ensures)
+    (c .before .before .before .before .before .before .put-pairs .ensures) (c .before .before .put-byte3 .ensures))
     opened
 
 pub +put-entries+put-pairs+put-token-spec : {M : Type 1} → statement M

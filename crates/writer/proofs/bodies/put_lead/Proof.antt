@@ -37,7 +37,9 @@ same-length c = search needs
 returns-2 : tie.Need-returns-2
 returns-2 c =
     let args = c .before .before .before .before .before .before .before .before .before .args in
-    put-gap (args .out .now) (args .at) (args .sign) {is = AfterKey} (c .before .before .before .before .before .before .before .if1 .left) (c .before .before .before .before .before .enum-told3 .given .1) (ap (gap AfterKey) (c .before .before .before .before .if2 .taken)) (c .before .before .put-byte3 .ensures)
+    put-gap (args .out .now) (args .at) (args .sign) {is = AfterKey} (c .before .before .before .before .before .before .before .if1 .left)
+    (c .before .before .before .before .before .enum-told3 .given .1) (ap (gap AfterKey) (c .before .before .before .before .if2 .taken))
+    (c .before .before .put-byte3 .ensures)
 
 put-byte-requires-4 : tie.Need-put-byte-requires-4
 put-byte-requires-4 c κs = search needs
@@ -54,7 +56,8 @@ same-length-2 c = search needs
 returns-3 : tie.Need-returns-3
 returns-3 c =
     let args = c .before .before .before .before .before .before .before .before .args in
-    put-gap (args .out .now) (args .at) (args .sign) {is = Entry} (c .before .before .before .before .before .before .if1 .left) (c .before .before .before .before .enum-told .given .1) (refl) (c .before .before .put-byte .ensures)
+    put-gap (args .out .now) (args .at) (args .sign) {is = Entry} (c .before .before .before .before .before .before .if1 .left)
+    (c .before .before .before .before .enum-told .given .1) (refl) (c .before .before .put-byte .ensures)
 
 same-length-3 : tie.Need-same-length-3
 same-length-3 c = search needs
@@ -62,7 +65,8 @@ same-length-3 c = search needs
 returns-4 : tie.Need-returns-4
 returns-4 c =
     let args = c .before .before .before .before .before .before .before .before .args in
-    put-gap (args .out .now) (args .at) (args .sign) {is = Key} (c .before .before .before .before .before .before .if1 .left) (c .before .before .before .before .enum-told2 .given .1) (refl) (c .before .before .put-byte2 .ensures)
+    put-gap (args .out .now) (args .at) (args .sign) {is = Key} (c .before .before .before .before .before .before .if1 .left)
+    (c .before .before .before .before .enum-told2 .given .1) (refl) (c .before .before .put-byte2 .ensures)
 
 same-length-4 : tie.Need-same-length-4
 same-length-4 c = search needs
@@ -70,7 +74,9 @@ same-length-4 c = search needs
 returns-5 : tie.Need-returns-5
 returns-5 c =
     let args = c .before .before .before .before .before .before .before .before .before .args in
-    put-gap (args .out .now) (args .at) (args .sign) {is = AfterKey} (c .before .before .before .before .before .before .before .if1 .left) (c .before .before .before .before .before .enum-told3 .given .1) (ap (gap AfterKey) (c .before .before .before .before .if2 .left)) (c .before .before .put-byte4 .ensures)
+    put-gap (args .out .now) (args .at) (args .sign) {is = AfterKey} (c .before .before .before .before .before .before .before .if1 .left)
+    (c .before .before .before .before .before .enum-told3 .given .1) (ap (gap AfterKey) (c .before .before .before .before .if2 .left))
+    (c .before .before .put-byte4 .ensures)
 
 same-length-5 : tie.Need-same-length-5
 same-length-5 c = search needs
@@ -78,7 +84,8 @@ same-length-5 c = search needs
 returns-6 : tie.Need-returns-6
 returns-6 c =
     let args = c .before .before .before .before .before .before .before .before .args in
-    put-gap (args .out .now) (args .at) (args .sign) {is = Value} (c .before .before .before .before .before .before .if1 .left) (c .before .before .before .before .enum-told4 .given .1) (refl) (c .before .before .put-byte5 .ensures)
+    put-gap (args .out .now) (args .at) (args .sign) {is = Value} (c .before .before .before .before .before .before .if1 .left)
+    (c .before .before .before .before .enum-told4 .given .1) (refl) (c .before .before .put-byte5 .ensures)
 
 pub put-lead-spec : {M : Type 1} → statement M
 put-lead-spec =

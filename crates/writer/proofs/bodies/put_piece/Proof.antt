@@ -55,7 +55,9 @@ unfolding piece-text own-bytes
 returns c =
     let args = c .before .before .before .before .before .before .before .before .before .before .before .before .before .args in
     as-told (λ (p : Piece). append (args .out .now) (args .at) (piece-text (args .text .now) (args .first) (args .due) p))
-    (chain _ _ (lead (args .first) (args .due) false) _ (c .before .before .before .before .before .before .put-lead .ensures) (c .before .before .put-scalar .ensures)) (c .before .before .before .before .before .before .before .before .before .piece .given .1)
+    (chain _ _ (lead (args .first) (args .due) false) _ (c .before .before .before .before .before .before .put-lead .ensures)
+    (c .before .before .put-scalar .ensures))
+    (c .before .before .before .before .before .before .before .before .before .piece .given .1)
 
 same-length-2 : tie.Need-same-length-2
 same-length-2 c = search needs
@@ -65,7 +67,9 @@ unfolding piece-text own-bytes
 returns-2 c =
     let args = c .before .before .before .before .before .before .before .before .before .before .before .before .before .args in
     as-told (λ (p : Piece). append (args .out .now) (args .at) (piece-text (args .text .now) (args .first) (args .due) p))
-    (chain _ _ (lead (args .first) (args .due) false) _ (c .before .before .before .before .before .before .put-lead2 .ensures) (c .before .before .put-scalar2 .ensures)) (c .before .before .before .before .before .before .before .before .before .piece2 .given .1)
+    (chain _ _ (lead (args .first) (args .due) false) _ (c .before .before .before .before .before .before .put-lead2 .ensures)
+    (c .before .before .put-scalar2 .ensures))
+    (c .before .before .before .before .before .before .before .before .before .piece2 .given .1)
 
 same-length-3 : tie.Need-same-length-3
 same-length-3 c = search needs
@@ -75,25 +79,30 @@ unfolding piece-text own-bytes
 returns-3 c =
     let args = c .before .before .before .before .before .before .before .before .before .before .before .before .before .args in
     as-told (λ (p : Piece). append (args .out .now) (args .at) (piece-text (args .text .now) (args .first) (args .due) p))
-    (chain _ _ (lead (args .first) (args .due) true) _ (c .before .before .before .before .before .before .put-lead3 .ensures) (c .before .before .put-sign .ensures)) (c .before .before .before .before .before .before .before .before .before .piece3 .given .1)
+    (chain _ _ (lead (args .first) (args .due) true) _ (c .before .before .before .before .before .before .put-lead3 .ensures)
+    (c .before .before .put-sign .ensures))
+    (c .before .before .before .before .before .before .before .before .before .piece3 .given .1)
 
 returns-4 : tie.Need-returns-4
 unfolding piece-text own-bytes
 returns-4 c =
     let args = c .before .before .before .before .args in
-    as-told (λ (p : Piece). append (args .out .now) (args .at) (piece-text (args .text .now) (args .first) (args .due) p)) (put-empty _ _) (c .enum-told .given .1)
+    as-told (λ (p : Piece). append (args .out .now) (args .at) (piece-text (args .text .now) (args .first) (args .due) p))
+    (put-empty _ _) (c .enum-told .given .1)
 
 returns-5 : tie.Need-returns-5
 unfolding piece-text own-bytes
 returns-5 c =
     let args = c .before .before .before .before .args in
-    as-told (λ (p : Piece). append (args .out .now) (args .at) (piece-text (args .text .now) (args .first) (args .due) p)) (put-empty _ _) (c .enum-told2 .given .1)
+    as-told (λ (p : Piece). append (args .out .now) (args .at) (piece-text (args .text .now) (args .first) (args .due) p))
+    (put-empty _ _) (c .enum-told2 .given .1)
 
 returns-6 : tie.Need-returns-6
 unfolding piece-text own-bytes
 returns-6 c =
     let args = c .before .before .before .before .args in
-    as-told (λ (p : Piece). append (args .out .now) (args .at) (piece-text (args .text .now) (args .first) (args .due) p)) (put-empty _ _) (c .enum-told3 .given .1)
+    as-told (λ (p : Piece). append (args .out .now) (args .at) (piece-text (args .text .now) (args .first) (args .due) p))
+    (put-empty _ _) (c .enum-told3 .given .1)
 
 pub put-piece-spec : {M : Type 1} → statement M
 put-piece-spec =

@@ -27,7 +27,8 @@ returns c =
     let first = c .before .before .before .before in
     let known = first .before .before in
     let found = known .before .before .before .before in
-    same-bytes _ _ _ _ (first .put-byte .ensures) (sym (sign-single _ (found .operator-numbered .ensures) (known .before .before .operator .given .1) (known .symbol .ensures) (c .if1 .taken)))
+    same-bytes _ _ _ _ (first .put-byte .ensures)
+    (sym (sign-single _ (found .operator-numbered .ensures) (known .before .before .operator .given .1) (known .symbol .ensures) (c .if1 .taken)))
 
 put-byte-requires-2 : tie.Need-put-byte-requires-2
 put-byte-requires-2 c κs = search needs

@@ -7,7 +7,6 @@ use mathlib.Core.Path.{_≡_, refl, sym, _∙_, ap}
 use mathlib.Core.List.{List}
 use Rattle.tape.specs.declared.token.Token.{Token}
 use Rattle.tape.specs.Words.{tokens-in}
-use Rattle.writer.specs.declared.dues.Due.{Due}
 use Rattle.writer.specs.Forest.{stretch, Forest}
 use Rattle.writer.specs.Ranges.{Range, body-form}
 use Rattle.writer.proofs.Grown.{stretch-none}
@@ -45,7 +44,8 @@ returns c =
     let m = at-loop .loop in
     let ts : List Token = tokens-in (args .words .now) (args .count) in
     let is = read-piece _ _ _ (read .before .token-of .ensures) (read .piece-of .ensures) in
-    sym (m .inv .1 ∙ sym (step-wrong ts (m .i) (args .end) (m .inv .0) (in-loop .loop-test .taken) _ is (m .due) (c .before .takes .ensures) (not-true _ (c .if1 .taken))))
+    sym (m .inv .1
+    ∙ sym (step-wrong ts (m .i) (args .end) (m .inv .0) (in-loop .loop-test .taken) _ is (m .due) (c .before .takes .ensures) (not-true _ (c .if1 .taken))))
 
 due-after-requires : tie.Need-due-after-requires Inv-loop μ-loop
 due-after-requires c κs = search needs
@@ -79,7 +79,9 @@ loop-again c =
     let is = read-piece _ _ _ (read .before .token-of .ensures) (read .piece-of .ensures) in
     let h = in-loop .loop-test .taken in (
       step-range ts (m .i) (args .end) (m .inv .0) h _ is _ (c .behind .ensures),
-      m .inv .1 ∙ step-form ts (m .i) (args .end) (m .inv .0) h _ is _ (c .behind .ensures) (m .due) (c .before .before .before .takes .ensures) (not-false _ (c .before .before .if1 .left))
+      m .inv .1
+          ∙ step-form ts (m .i) (args .end) (m .inv .0) h _ is _ (c .behind .ensures) (m .due)
+          (c .before .before .before .takes .ensures) (not-false _ (c .before .before .if1 .left))
           (c .before .due-after .ensures),
     )
 

@@ -23,7 +23,8 @@ due-in-requires c κs = search needs
 body-formed-requires : tie.Need-body-formed-requires
 body-formed-requires c =
     let args = c .before .before .before .before .before .args in
-    λ κs. subst (Inside (tokens-in (args .words .now) (args .count)) (args .from)) (c .before .before .piece .given .1) (c .before .before .before .before .before .pre) .0
+    λ κs. subst (Inside (tokens-in (args .words .now) (args .count)) (args .from))
+    (c .before .before .piece .given .1) (c .before .before .before .before .before .pre) .0
 
 enum-told : tie.Need-enum-told
 enum-told c = search needs

@@ -24,7 +24,8 @@ enum-told-2 c = search needs
 
 returns-2 : tie.Need-returns-2
 returns-2 c =
-    as-told (sunk (c .before .before .before .args .level)) (sunk-up (c .before .before .before .args .level) _ 0 (omega arith)) (c .before .enum-told2 .given .1)
+    let args = c .before .before .before .args in
+    as-told (sunk (args .level)) (sunk-up (args .level) _ 0 (omega arith)) (c .before .enum-told2 .given .1)
 
 sub-t7 : tie.Need-sub-t7
 sub-t7 c = omega arith

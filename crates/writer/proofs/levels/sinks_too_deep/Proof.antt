@@ -46,7 +46,10 @@ returns c =
     let args = at-loop .before .before .args in
     let whole = at-loop .before .before .pre in
     let m = at-loop .loop in
-    let read = read-sunk (args .words .now) (args .count) (m .i) (m .level) (told .before .before .token-of .ensures) (told .before .link-of .ensures) (told .sink .ensures) in
+    let read =
+    read-sunk (args .words .now) (args .count) (m .i) (m .level)
+    (told .before .before .token-of .ensures) (told .before .link-of .ensures) (told .sink .ensures)
+    in
     let inside : m .i < length (tokens-in (args .words .now) (args .count)) = omega (arith, whole-count whole, in-loop .loop-test .taken) in
     sym (sym (deep-told whole) ∙ m .inv .0 ∙ sinks-now _ (m .i) (m .level) inside read (c .enum-told .given .1))
 
@@ -64,7 +67,10 @@ loop-again c =
     let args = at-loop .before .before .args in
     let whole = at-loop .before .before .pre in
     let m = at-loop .loop in
-    let read = read-sunk (args .words .now) (args .count) (m .i) (m .level) (told .before .before .token-of .ensures) (told .before .link-of .ensures) (told .sink .ensures) in
+    let read =
+    read-sunk (args .words .now) (args .count) (m .i) (m .level)
+    (told .before .before .token-of .ensures) (told .before .link-of .ensures) (told .sink .ensures)
+    in
     let inside : m .i < length (tokens-in (args .words .now) (args .count)) = omega (arith, whole-count whole, in-loop .loop-test .taken) in
     let next = c .before .next .given .1 in
     (m .inv .0 ∙ sinks-on _ (m .i) (m .level) inside read next, sunk-within (m .level) _ (m .inv .1) (sym read ∙ next))

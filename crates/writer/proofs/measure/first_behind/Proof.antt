@@ -40,7 +40,8 @@ returns-3 : tie.Need-returns-3
 unfolding first-behind
 returns-3 c =
     let args = c .before .before .before .before .args in
-    as-told (λ (l : Link). first-behind (args .first) (args .x) l) (c .still-first .ensures ∙ ap (still-first (args .first)) (c .before .piece-of .ensures)) (c .before .before .enum-told3 .given .1)
+    as-told (λ (l : Link). first-behind (args .first) (args .x) l)
+    (c .still-first .ensures ∙ ap (still-first (args .first)) (c .before .piece-of .ensures)) (c .before .before .enum-told3 .given .1)
 
 pub first-behind-spec : {M : Type 1} → statement M
 first-behind-spec =

@@ -46,7 +46,10 @@ returns c =
     let whole = at-loop .before .before .before .pre in
     let m = at-loop .loop in
     let inside : m .i < length (tokens-in (args .words .now) (args .count)) = omega (arith, whole-count whole, in-loop .loop-test .taken) in
-    let on = size-on (args .text .now) (args .words .now) (args .count) (m .i) (m .first) inside (told .before .before .token-of .ensures) (told .before .link-of .ensures) in
+    let on =
+    size-on (args .text .now) (args .words .now) (args .count) (m .i) (m .first) inside
+    (told .before .before .token-of .ensures) (told .before .link-of .ensures)
+    in
     let size = told .token-size .ensures .0 in
     measured-over _ (omega (arith, on, size, m .inv .0, m .inv .1, c .if1 .taken))
 
@@ -71,7 +74,10 @@ loop-again c =
     let whole = at-loop .before .before .before .pre in
     let m = at-loop .loop in
     let inside : m .i < length (tokens-in (args .words .now) (args .count)) = omega (arith, whole-count whole, in-loop .loop-test .taken) in
-    let on = size-on (args .text .now) (args .words .now) (args .count) (m .i) (m .first) inside (told .before .before .token-of .ensures) (told .before .link-of .ensures) in
+    let on =
+    size-on (args .text .now) (args .words .now) (args .count) (m .i) (m .first) inside
+    (told .before .before .token-of .ensures) (told .before .link-of .ensures)
+    in
     let size = told .token-size .ensures .0 in
     (rw (c .first-behind .ensures) (omega (arith, on, size, m .inv .0)), omega (arith, m .inv .1, c .before .if1 .left))
 

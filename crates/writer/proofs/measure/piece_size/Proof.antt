@@ -85,7 +85,8 @@ unfolding piece-text own-bytes
 returns-3 c =
     let args = c .before .before .before .before .before .before .args in (
       as-told (λ (p : Piece). length (piece-text (args .text .now) (args .first) Entry p))
-          (both-sized (lead (args .first) Entry true) _ (c .before .lead-size3 .ensures ∙ sym (lead-same (args .first) Entry true)) (c .sign-size .ensures .0))
+          (both-sized (lead (args .first) Entry true) _
+          (c .before .lead-size3 .ensures ∙ sym (lead-same (args .first) Entry true)) (c .sign-size .ensures .0))
           (c .before .before .before .piece3 .given .1),
       omega (arith, lead-short (args .first)),
     )

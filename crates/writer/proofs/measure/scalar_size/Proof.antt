@@ -1,7 +1,7 @@
 -- `writer::measure::scalar_size` meets its contract: the view's bytes, and two more for quotes.
 -- Assumes nothing.
 use borrow.Author.Needs.{needs}
-use mathlib.Core.Path.{_≡_, sym, _∙_, ap}
+use mathlib.Core.Path.{sym, _∙_, ap}
 use mathlib.Core.Bool.{Bool}
 use mathlib.Core.List.{List}
 use Prim.Native.Nat.{ℕ, _+_}
@@ -25,7 +25,10 @@ returns c =
     let args = c .before .before .before .args in
     let v : List ℕ = view-of (args .text .now) (args .offset) (args .size) in
     let h = view-short (args .text .now) (args .offset) (args .size) in
-    let exact = ap (λ (l : List ℕ). length l + 2) (c .before .part .ensures .0) ∙ quoted-size v ∙ ap (λ (q : Bool). length (quote-if q v)) (sym (c .if1 .taken)) in
+    let exact =
+    ap (λ (l : List ℕ). length l + 2) (c .before .part .ensures .0) ∙ quoted-size v
+    ∙ ap (λ (q : Bool). length (quote-if q v)) (sym (c .if1 .taken))
+    in
     (exact, omega (arith, ap (λ (l : List ℕ). length l) (c .before .part .ensures .0)))
 
 returns-2 : tie.Need-returns-2

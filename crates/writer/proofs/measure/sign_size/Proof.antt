@@ -22,7 +22,11 @@ symbol-requires c κs = search needs
 returns : tie.Need-returns
 returns c =
     let found = c .before .before .before .before .before .before in
-    (sym (ap (λ (l : List ℕ). length l) (sign-single _ (found .operator-numbered .ensures) (c .before .before .before .before .operator .given .1) (c .before .before .symbol .ensures) (c .if1 .taken))), omega arith)
+    let signed =
+    sign-single _ (found .operator-numbered .ensures) (c .before .before .before .before .operator .given .1) (c .before .before .symbol .ensures)
+    (c .if1 .taken)
+    in
+    (sym (ap (λ (l : List ℕ). length l) signed), omega arith)
 
 enum-told : tie.Need-enum-told
 enum-told c = search needs
@@ -30,7 +34,11 @@ enum-told c = search needs
 returns-2 : tie.Need-returns-2
 returns-2 c =
     let found = c .before .before .before .before .before .before in
-    (sym (ap (λ (l : List ℕ). length l) (sign-double _ (found .operator-numbered .ensures) (c .before .before .before .before .operator .given .1) (c .before .before .symbol .ensures) (c .if1 .left))), omega arith)
+    let signed =
+    sign-double _ (found .operator-numbered .ensures) (c .before .before .before .before .operator .given .1) (c .before .before .symbol .ensures)
+    (c .if1 .left)
+    in
+    (sym (ap (λ (l : List ℕ). length l) signed), omega arith)
 
 returns-3 : tie.Need-returns-3
 returns-3 c =
