@@ -153,18 +153,21 @@ module _ (ts : List Token) where
 
   -- ---- the forest in some turns, a token at a time
   module _ (turns i j : ℕ) where
-    none-left : j ≤ i → forest-in (suc turns) ts i j ≡ no-more
+    pub none-left : j ≤ i → forest-in (suc turns) ts i j ≡ no-more
     unfolding forest-in
     none-left h = rw (forest-in, le-ltb i j h)
 
-    takes-leaf : i < j → container-of (nth ts i) ≡ Nothing → forest-in (suc turns) ts i j ≡ leaf (nth ts i) (forest-in turns ts (i + 1) j)
+    pub takes-leaf : i < j → container-of (nth ts i) ≡ Nothing → forest-in (suc turns) ts i j ≡ leaf (nth ts i) (forest-in turns ts (i + 1) j)
     unfolding forest-in
-    takes-leaf h e = rw (forest-in, lt-ltb i j h, e)
+    takes-leaf h c = rw (forest-in, lt-ltb i j h, c)
 
-    takes-box : (kind : ContainerKind) (e : ℕ) (flag : Bool) → i < j → nth ts i ≡ opener-of kind e flag
+    pub takes-box : {kind : ContainerKind} {e : ℕ} {flag : Bool} → i < j → container-of (nth ts i) ≡ Opened kind e flag
         → forest-in (suc turns) ts i j ≡ box kind flag (forest-in turns ts (i + 1) e) (forest-in turns ts (e + 1) j)
     unfolding forest-in
-    takes-box kind e flag h o = rw (forest-in, lt-ltb i j h, ap container-of o ∙ opener-container kind e flag)
+    takes-box h c = rw (forest-in, lt-ltb i j h, c)
+
+  reads : (i e : ℕ) (kind : ContainerKind) (flag : Bool) → nth ts i ≡ opener-of kind e flag → container-of (nth ts i) ≡ Opened kind e flag
+  reads i e kind flag o = opens-container (nth ts i) (kind, flag, o)
 
   -- more turns than there are tokens change nothing
   pub forest-enough : (n m i j : ℕ) → j ≤ i + n → j ≤ i + m → Range ts i j → forest-in n ts i j ≡ forest-in m ts i j
@@ -178,7 +181,8 @@ module _ (ts : List Token) where
       let h : i < j = ltb-true i j t in
       by-token i j b h
       (λ kind flag e o l l′ c u v.
-      rw (takes-box n i j kind e flag h o, takes-box m i j kind e flag h o)
+      let c′ = reads i e kind flag o in
+      rw (takes-box n i j h c′, takes-box m i j h c′)
       (rw (forest-enough n m (i + 1) e (omega arith) (omega arith) u, forest-enough n m (e + 1) j (omega arith) (omega arith) v)))
       (λ o u. rw (takes-leaf n i j h o, takes-leaf m i j h o, forest-enough n m (i + 1) j (omega arith) (omega arith) u)))
       (λ t. let z = ltb-false i j t in none-left n i j z ∙ sym (none-left m i j z))
@@ -208,7 +212,7 @@ module _ (ts : List Token) where
       let q = b .ends i e (omega arith) h opens in
       let turns : ℕ = j - (i + 1) in
       let z : turns ≡ j - (i + 1) = refl in
-      one-more i j h ∙ takes-box turns i j kind e flag h o
+      one-more i j h ∙ takes-box turns i j h (reads i e kind flag o)
       ∙ rw (as-stretch turns (i + 1) e (omega (arith, z, q, h)) (inside i j e b h opens))
       (rw (as-stretch turns (e + 1) j (omega (arith, z, c .0, h)) (behind i j e b h opens)))
 
@@ -243,7 +247,7 @@ module _ (ts : List Token) where
       let h : i < j = ltb-true i j t in
       by-token i j b h
       (λ kind flag e o l l′ c u v.
-      rw (takes-box turns i j kind e flag h o)
+      rw (takes-box turns i j h (reads i e kind flag o))
       (grow-box i j e kind flag _ _ (omega (arith, b .within)) (omega (arith, b .within)) o c
       (grow turns (i + 1) e (omega arith) (omega arith) u)
       (grow turns (e + 1) j (omega arith) (omega arith) v)))

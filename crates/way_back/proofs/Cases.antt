@@ -1,0 +1,47 @@
+-- Every line of the table of cases holds, by computation.
+-- Assumes nothing.
+use mathlib.Core.Path.{_≡_, refl}
+use mathlib.Core.List.{map}
+use Rattle.data.specs.Classes.{is-boundary}
+use Rattle.cut.specs.Blanks.{is-blank, blanks-from, comment-from, skip-ws}
+use Rattle.cut.specs.Runs.{stop-from, run-of, run-end-of, run-end}
+use Rattle.cut.specs.Quotes.{quoted-from, skipped-from, quoted-run}
+use Rattle.cut.specs.Scalars.{opens-variable, cut-of, scalar-cut}
+use Rattle.operator.specs.Operators.{sighted, numbered}
+use Rattle.tape.specs.Token.{container-of, scalar-named, standing-of}
+use Rattle.tape.specs.Shape.{bare-shape, shape-of}
+use Rattle.tape.specs.Words.{tokens-in, words-of, padded}
+use Rattle.tape.specs.Tape.{token-at, replace, add, add-before-last, lay, lay-mixed}
+use Rattle.parse.specs.After.{lay-then}
+use Rattle.parse.specs.Containers.{open-then, close-at, close, key-end, text-end}
+use Rattle.parse.specs.Scalars.{scalar-then}
+use Rattle.machine.specs.Bytes.{key-byte, open-byte, follows-key, begins-operator, value-byte}
+use Rattle.parse.specs.Key.{key-close, key-turn}
+use Rattle.parse.specs.KeyValueSeparator.{mix-then, separator-then, separator-turn}
+use Rattle.parse.specs.ObjectValue.{object-value-turn}
+use Rattle.parse.specs.ParseOpen.{settle, open-empty, open-brace, flag-parent, open-as, open-scalar, parse-open-turn}
+use Rattle.parse.specs.ArrayValue.{array-close, operator-then, after-end, unmixed-operator, array-operator, array-value-turn}
+use Rattle.machine.specs.Start.{has-bom, start}
+use Rattle.parse.specs.Parse.{state-turn, turn, run, parse-of}
+use Rattle.promises.specs.Cases.{bytes}
+use Rattle.writer.specs.Forest.{forest-in, stretch, forest-of}
+use Rattle.writer.specs.Pieces.{piece-of, sign-bytes, own-bytes}
+use Rattle.writer.specs.Dues.{due-after}
+use Rattle.writer.specs.Form.{takes, has-form}
+use Rattle.writer.specs.Text.{piece-text, body-text}
+use Rattle.writer.specs.Levels.{levels}
+use Rattle.writer.specs.Alike.{same-bytes, same-view, same-words, same-token, alike, found-alike}
+use Rattle.writer.specs.Write.{text-of, weigh-text, weigh-sound, weigh, read-back, write-of}
+use Rattle.way_back.specs.Cases.{refused, cases}
+
+-- what is answered to each sheet is the refusal that its line says
+pub cases-hold : map refused cases ≡ map (λ c. c .refusal) cases
+unfolding bytes refused cases is-boundary is-blank blanks-from comment-from skip-ws stop-from run-of run-end-of run-end quoted-from
+    skipped-from quoted-run opens-variable cut-of scalar-cut sighted numbered container-of scalar-named standing-of bare-shape
+    shape-of tokens-in words-of padded token-at replace add add-before-last lay lay-mixed lay-then open-then close-at close key-end text-end
+    scalar-then key-byte key-close key-turn mix-then separator-then separator-turn object-value-turn open-byte settle open-empty open-brace
+    flag-parent follows-key open-as open-scalar parse-open-turn begins-operator value-byte array-close operator-then after-end
+    unmixed-operator array-operator array-value-turn state-turn turn run has-bom start parse-of forest-in stretch forest-of piece-of
+    sign-bytes own-bytes due-after takes has-form piece-text body-text levels same-bytes same-view same-words same-token alike found-alike
+    text-of weigh-text weigh-sound weigh read-back write-of
+cases-hold = refl

@@ -1,0 +1,4 @@
+pub mod Plain
+pub mod Accepted
+pub mod Stable
+pub mod Cases

@@ -1,0 +1,75 @@
+-- Plain sheets, which are always accepted.
+use Prim.Native.Nat.{ℕ, zero, suc, _+_}
+use mathlib.Core.Bool.{Bool, true, not, _&&_}
+use mathlib.Core.Path.{_≡_}
+use mathlib.Core.List.{List, [], _∷_, _++_}
+use lib.Dec.{eqb}
+use lib.ListN.{length}
+use Rattle.data.specs.Bytes.{quote, backslash}
+use Rattle.data.specs.Classes.{among}
+use Rattle.tape.specs.declared.token.Token.{Token}
+use Rattle.tape.specs.declared.token.ContainerKind.{ContainerKind}
+use Rattle.tape.specs.declared.token.ContainerKind.the-variants.{Array, Object}
+use Rattle.tape.specs.declared.token.ScalarKind.the-variants.{Unquoted, Quoted, Parameter, UndefinedParameter, Header, QuotedEscape}
+use Rattle.tape.specs.Token.{nth, opener-of, scalar-of, operator-of, mixed-container-token}
+use Rattle.sheet.specs.Sound.{Sheet}
+use Rattle.writer.specs.Forest.{Forest, no-more, leaf, box, forest-of}
+use Rattle.writer.specs.Pieces.{view-of}
+
+-- ---- bytes
+-- n bytes from b on
+abbrev pub bytes-from : ℕ → ℕ → List ℕ
+bytes-from b zero = []
+bytes-from b (suc n) = b ∷ bytes-from (b + 1) n
+
+-- letters, digits, `_`, `.` and `-`: a to z, A to Z, 0 to 9, and the three
+abbrev pub plain-bytes : List ℕ
+plain-bytes = bytes-from 97 26 ++ (bytes-from 65 26 ++ (bytes-from 48 10 ++ (95 ∷ 46 ∷ 45 ∷ [])))
+
+-- a byte that is one of them
+unfoldable pub plain-byte : ℕ → Bool
+plain-byte b = among b plain-bytes
+
+-- a byte that is no quote and no backslash
+unfoldable pub bare-byte : ℕ → Bool
+bare-byte b = not (eqb b quote) && not (eqb b backslash)
+
+-- a test holds of each byte
+abbrev pub Each : (ℕ → Bool) → List ℕ → Type 0
+Each test [] = Unit {0}
+Each test (b ∷ bs) = (test b ≡ true) × Each test bs
+
+-- ---- key and entry in turn
+-- a body of a kind, and every body in it: an object's is key and entry in turn, and an array's is entries
+abbrev pub In-turn : Forest → ContainerKind → Type 0
+In-turn no-more kind = Unit {0}
+In-turn (leaf x rest) Array = In-turn rest Array
+In-turn (box kind flag inner rest) Array = In-turn inner kind × In-turn rest Array
+In-turn (leaf key no-more) Object = ⊥
+In-turn (leaf key (leaf x rest)) Object = In-turn rest Object
+In-turn (leaf key (box kind flag inner rest)) Object = In-turn inner kind × In-turn rest Object
+In-turn (box kind flag inner rest) Object = ⊥
+
+-- ---- the sheet, a clause of the request to a field
+pub record Plain (text : List ℕ) (ts : List Token) : Type 0 where
+  -- a sound sheet over the text
+  pub sound : Sheet (length text) ts
+  -- root and objects are key and entry in turn
+  pub in-turn : In-turn (forest-of ts) Object
+  -- no operators, MixedContainers, flags, headers, parameters or code 11
+  pub no-operators : (i number : ℕ) → nth ts i ≡ operator-of number → ⊥
+  pub no-mixed-containers : (i : ℕ) → nth ts i ≡ mixed-container-token → ⊥
+  pub no-flags : (i end : ℕ) (kind : ContainerKind) → nth ts i ≡ opener-of kind end true → ⊥
+  pub no-headers : (i offset size : ℕ) → nth ts i ≡ scalar-of Header offset size → ⊥
+  pub no-parameters : (i offset size : ℕ) → nth ts i ≡ scalar-of Parameter offset size → ⊥
+  pub no-undefined-parameters : (i offset size : ℕ) → nth ts i ≡ scalar-of UndefinedParameter offset size → ⊥
+  pub no-escapes : (i offset size : ℕ) → nth ts i ≡ scalar-of QuotedEscape offset size → ⊥
+  -- unquoted bytes only letters, digits, `_`, `.` and `-`
+  pub unquoted-bytes : (i offset size : ℕ) → nth ts i ≡ scalar-of Unquoted offset size → Each plain-byte (view-of text offset size)
+  -- quoted bytes without quote or backslash
+  pub quoted-bytes : (i offset size : ℕ) → nth ts i ≡ scalar-of Quoted offset size → Each bare-byte (view-of text offset size)
+  -- objects not empty: an empty container is one whose End is the next token
+  pub objects-filled : (i : ℕ) (flag : Bool) → nth ts i ≡ opener-of Object (i + 1) flag → ⊥
+  -- no array whose first entry is an empty container
+  pub first-entries-filled : (i end : ℕ) (kind : ContainerKind) (flag first : Bool) → nth ts i ≡ opener-of Array end flag
+      → nth ts (i + 1) ≡ opener-of kind (i + 2) first → ⊥

@@ -1,0 +1,1 @@
+// Nothing runs here: what a sheet that is written out comes back as.
