@@ -1,4 +1,4 @@
--- What the calls below answer is what C is told: one law for the readings, one for each answer of a parse and of a view.
+-- What the calls below answer is what C is told: one law for the readings, one for each answer of a parse, of a view and of the way back.
 -- Assumes nothing.
 use Prim.Native.Nat.{ℕ}
 use mathlib.Core.Bool.{Bool}
@@ -13,7 +13,15 @@ use Rattle.parse.specs.Told.{bit, parse-told, tell-parse}
 use Rattle.sheet.specs.declared.views.Viewed.{Viewed}
 use Rattle.sheet.specs.declared.views.Viewed.the-variants.{At, NoScalar}
 use Rattle.sheet.specs.Views.{refusal-of}
-use Rattle.capi.specs.Told.{read-told, view-told, tell-view}
+use Rattle.sheet.specs.Decided.{Decided}
+use Rattle.sheet.proofs.Decisions.{decided-as}
+use Rattle.writer.specs.declared.Refusal as unwritten
+use Rattle.writer.specs.declared.Written.{Written}
+use Rattle.writer.specs.declared.Written.the-variants as Written
+use Rattle.writer.specs.declared.Written.the-variants.{Text}
+use Rattle.writer.specs.Refusals.{number as unwritten-number}
+use Rattle.writer.specs.Write.{Left, left}
+use Rattle.capi.specs.Told.{read-told, view-told, tell-view, write-told, tell-write}
 
 -- the refusal and the value of a reading, told as they are
 pub reads : {Read Value : Type 0} (refusal : Read → ℕ) (value : Read → Value) {told said : ℕ} {v : Value} {read spec : Read} →
@@ -40,3 +48,14 @@ tells-view {offset = offset} {size = size} p e n = ap (λ (k : ℕ). view-told k
 
 pub tells-none : {v spec : Viewed} {n : ℕ} → v ≡ spec → v ≡ NoScalar → n ≡ refusal-of v → view-told n 0 0 ≡ tell-view spec
 tells-none p e n = ap (λ (k : ℕ). view-told k 0 0) (n ∙ ap refusal-of e) ∙ ap tell-view (sym e ∙ p)
+
+-- the way back, by whether the sheet is sound: a text, and a refusal
+module _ {Holds : Type 0} (answer : Bool → Left) {w : Written} {out scratch : List ℕ} (d : Decided Holds answer (left w out scratch)) where
+  pub tells-text : {size : ℕ} → w ≡ Text size → Decided Holds (λ (sound : Bool). tell-write (answer sound)) (write-told 0 size out scratch)
+  tells-text e = decided-as answer tell-write d (ap (λ (x : Written). tell-write (left x out scratch)) (sym e))
+
+  pub tells-unwritten : {n : ℕ} {why : unwritten.Refusal} → w ≡ Written.Refused why → n ≡ unwritten-number why
+      → Decided Holds (λ (sound : Bool). tell-write (answer sound)) (write-told n 0 out scratch)
+  tells-unwritten e f =
+      decided-as answer tell-write d
+      (ap (λ (k : ℕ). write-told k 0 out scratch) f ∙ ap (λ (x : Written). tell-write (left x out scratch)) (sym e))

@@ -1,6 +1,7 @@
 -- What the calls tell C: a number for the refusal, 0 for none, and beside it what is written through each pointer.
 -- What a parse tells stands beside the parse: `tell-parse` of crates/parse/specs/Told.antt.
 use Prim.Native.Nat.{ℕ}
+use mathlib.Core.List.{List}
 use lib.Ieee.{Float}
 use lib.IntN.{ℤ}
 use Rattle.parse.specs.Told.{bit}
@@ -14,6 +15,9 @@ use Rattle.sheet.specs.declared.views.Viewed.{Viewed}
 use Rattle.sheet.specs.declared.views.Viewed.the-variants.{At, NoScalar}
 use Rattle.sheet.specs.Views.{refusal-of}
 use Rattle.tape.specs.declared.token.Token.{Token}
+use Rattle.writer.specs.Refusals.{length-of}
+use Rattle.writer.specs.Refusals.{refusal-of as write-refusal-of}
+use Rattle.writer.specs.Write.{Left, left}
 
 -- a view: its refusal, its offset and its length
 pub data ViewTold : Type 0 where
@@ -23,6 +27,14 @@ pub data ViewTold : Type 0 where
 abbrev pub tell-view : Viewed → ViewTold
 tell-view (At offset size) = view-told (refusal-of (At offset size)) offset size
 tell-view NoScalar = view-told (refusal-of NoScalar) 0 0
+
+-- the way back: its refusal, the length of the text, and the buffer and the scratch as it leaves them
+pub data WriteTold : Type 0 where
+  write-told : (refusal size : ℕ) → List ℕ → List ℕ → WriteTold
+
+-- a refusal has no text
+abbrev pub tell-write : Left → WriteTold
+tell-write (left w out scratch) = write-told (write-refusal-of w) (length-of w) out scratch
 
 -- a reading: its refusal and its value
 pub data ReadTold (Value : Type 0) : Type 0 where

@@ -1,12 +1,13 @@
-// The calls for C: parse, check, views, tokens and readings under plain names, on slices (a pointer and a length),
+// The calls for C: parse, check, views, tokens, the way back and readings under plain names, on slices (a pointer and a length),
 // pointers to single numbers, and numbers. Each answers document 01's number of a refusal, 0 for none, and writes through
 // every pointer that it is given, whatever it answers.
 use machine::Parsed;
 use sheet::views;
 use sheet::views::Viewed;
 use tape::words;
+use writer::Written;
 ghost use mathlib.Core.Path.{_≡_};
-ghost use mathlib.Core.Bool.{true};
+ghost use mathlib.Core.Bool.{Bool, true};
 ghost use mathlib.Core.Logic.{_↔_};
 ghost use lib.ListN.{length};
 ghost use Rattle.parse.specs.Parse.{parse-of};
@@ -18,8 +19,10 @@ ghost use Rattle.scalar.specs.Kind.{kind-of};
 ghost use Rattle.scalar.specs.Numbers.{kind-number-of};
 ghost use Rattle.sheet.specs.Sound.{Sound};
 ghost use Rattle.sheet.specs.Views.{viewed};
-ghost use Rattle.tape.specs.Words.{token-in};
-ghost use Rattle.capi.specs.Told.{view-told, tell-view, token-told, tell-token};
+ghost use Rattle.sheet.specs.Decided.{Decided};
+ghost use Rattle.tape.specs.Words.{token-in, tokens-in};
+ghost use Rattle.writer.specs.Write.{write-of};
+ghost use Rattle.capi.specs.Told.{view-told, tell-view, token-told, tell-token, write-told, tell-write};
 ghost use Rattle.capi.specs.Told.{read-told, tell-bool, tell-u64, tell-i64, tell-f64};
 
 // 1 for yes and 0 for no.
@@ -123,6 +126,34 @@ pub extern "C" fn tackacorn_token(
     *code = token.code;
     *a = token.a;
     *b = token.b;
+}
+
+// Writes a sheet back as save text into a lent buffer.
+#[no_mangle]
+pub extern "C" fn tackacorn_write(
+    text: &[u8],
+    words: &[u32],
+    count: usize,
+    out: &mut [u8],
+    scratch: &mut [u32],
+    written: &mut usize,
+) -> u32
+    ensures { λ r. ⌜ Decided (Sound (length (now (text .entry))) (now (words .entry)) count)
+        (λ (sound : Bool). tell-write (write-of (now (text .entry)) (tokens-in (now (words .entry)) count)
+            (length (now (out .entry))) (length (now (scratch .entry))) sound))
+        (write-told r (now (written .exit)) (now (out .exit)) (now (scratch .exit))) ⌝ }
+{
+    match writer::write(text, words, count, out, scratch) {
+        Written::Text(size) => {
+            *written = size;
+            0
+        }
+        Written::Refused(refusal) => {
+            *written = 0;
+            let number = refusal.number();
+            number
+        }
+    }
 }
 
 // Reads yes or no.

@@ -15,6 +15,7 @@ use Rattle.sheet.specs.Views.{refusal-of, part-of}
 use Rattle.report.specs.Digits.{decimal, hex}
 use Rattle.put.specs.Append.{Wrote, append}
 use Rattle.sheet.specs.Decided.{Decided}
+use Rattle.sheet.proofs.Decisions.{decided-as}
 use Rattle.writer.specs.declared.Written.{Written}
 use Rattle.writer.specs.Write.{Left, left}
 use Rattle.report.specs.Sheets.{verdict, Judged, hex-bytes, view-text, written-text, reported, report-written}
@@ -41,14 +42,8 @@ pub written-as : {Holds : Type 0} (answer : Bool → Left) (out : List ℕ) (at 
     → Decided Holds answer (left w buffer scratch) → w ≡ is → put ≡ append out at lines → lines ≡ written-text is buffer
     → Decided Holds (λ (sound : Bool). report-written out at (answer sound)) (reported put buffer scratch)
 written-as answer out at {buffer = buffer} {scratch = scratch} d told e line =
-    record {
-      yes = d .yes;
-      holds = d .holds;
-      gives =
-          ap (λ (p : Wrote). reported p buffer scratch)
-          (e ∙ ap (append out at) (line ∙ ap (λ (x : Written). written-text x buffer) (sym told)))
-          ∙ ap (report-written out at) (d .gives);
-    }
+    decided-as answer (report-written out at) d
+    (ap (λ (p : Wrote). reported p buffer scratch) (e ∙ ap (append out at) (line ∙ ap (λ (x : Written). written-text x buffer) (sym told))))
 
 -- the line of a view that lies in the text, and of one that is refused
 pub view-shown : (text part : List ℕ) (found v : Viewed) (offset size : ℕ) → found ≡ v → found ≡ At offset size → part ≡ part-of text v

@@ -5,3 +5,4 @@ pub mod Nesting
 pub mod Whole
 pub mod Parts
 pub mod Sheets
+pub mod Decisions
