@@ -1,11 +1,14 @@
 -- Each answer fits what is left of the buffer: a law for each kind, and where the next one then goes.
 -- Assumes nothing.
 use mathlib.Core.List.{List}
-use mathlib.Core.Path.{_≡_, ap, subst, _∙_}
+use mathlib.Core.Path.{_≡_, sym, ap, subst, _∙_}
+use mathlib.Core.Bool.{Bool}
 use Prim.Native.Nat.{ℕ, _+_, _≤_}
 use native.Mathlib.Omega.{arith}
 use lib.ListN.{length, take, drop, length-take, length-drop}
+use Rattle.sheet.specs.Decided.{Decided}
 use Rattle.sheet.specs.Views.{viewed}
+use Rattle.writer.specs.Write as sheet
 use Rattle.tape.specs.Words.{words-for}
 use Rattle.put.specs.Append.{Wrote, wrote, append}
 use Rattle.report.specs.Dump.{dump-of}
@@ -13,14 +16,21 @@ use Rattle.report.specs.Readings.{readings-of}
 use Rattle.report.specs.Room.{most-input, most-tokens, Held}
 use Rattle.report.specs.Sheets as sheets
 use Rattle.report.proofs.Room.{put-whole}
-use Rattle.report.proofs.Lengths.{readings-short, verdict-short, view-short}
+use Rattle.report.proofs.Lengths.{readings-short, verdict-short, view-short, written-short}
 use Rattle.answers.specs.declared.Answer.{Answer}
 use Rattle.answers.specs.declared.Answer.the-variants.{Put}
-use Rattle.answers.specs.Whole.{most-answer, Answers, dump, readings, verdict, view, All, Left, Whole}
+use Rattle.answers.specs.Whole.{most-answer, Answers, dump, readings, verdict, view, written, All, Left, Whole}
 
 -- the place after what was put
 abbrev place-of : Wrote → ℕ
 place-of (wrote next left) = next
+
+-- what was put, and the buffer of a text that was written back
+abbrev put-of : sheets.Reported → Wrote
+put-of (sheets.reported put buffer scratch) = put
+
+abbrev buffer-of : sheets.Reported → List ℕ
+buffer-of (sheets.reported put buffer scratch) = buffer
 
 -- the line that is put for a token of some words and a text
 abbrev view-line : List ℕ → List ℕ → ℕ → ℕ → List ℕ
@@ -49,7 +59,7 @@ module _ (capacity : ℕ) (body out : List ℕ) (at : ℕ) {r : ℕ} {o : List �
   -- a verdict
   pub verdict-all : {Holds : Type 0} → sheets.Judged Holds out at (wrote r o) → at + most-answer ≤ length out
       → All capacity body out at r o
-  verdict-all j room = fits (sheets.verdict (j .sound)) (verdict (j .sound)) (j .put) (omega (arith, verdict-short (j .sound))) room
+  verdict-all j room = fits (sheets.verdict (j .yes)) (verdict (j .yes)) (j .gives) (omega (arith, verdict-short (j .yes))) room
 
   -- a view of a part of the body; the words and numbers that it comes from are named, since antt does not read it off the equation
   pub view-all : (from size : ℕ) (words : List ℕ) (count index : ℕ)
@@ -60,6 +70,19 @@ module _ (capacity : ℕ) (body out : List ℕ) (at : ℕ) {r : ℕ} {o : List �
       let v = viewed (length text) words count index in
       let part : length text ≤ most-input = omega (arith, length-take size (drop from body), length-drop from body) in
       fits (view-line text words count index) (view from size v) e (omega (arith, view-short text v)) room
+
+  -- a text that was written back in a buffer, or the refusal
+  pub written-all : {Holds : Type 0} (answer : Bool → sheet.Left) {buffer scratch : List ℕ}
+      → Decided Holds (λ (sound : Bool). sheets.report-written out at (answer sound)) (sheets.reported (wrote r o) buffer scratch)
+      → length buffer ≤ most-input → at + most-answer ≤ length out → All capacity body out at r o
+  unfolding sheets.report-written
+  written-all answer {buffer} {scratch} d within room = go (answer (d .yes)) (d .gives)
+    where
+      go : (l : sheet.Left) → sheets.reported (wrote r o) buffer scratch ≡ sheets.report-written out at l → All capacity body out at r o
+      go (sheet.left w b s) e =
+          let same : b ≡ buffer = sym (ap buffer-of e) in
+          let short : length b ≤ most-input = rw same within in
+          fits (sheets.written-text w b) (written w b short) (ap put-of e) (omega (arith, written-short w b)) room
 
 -- where an answer is put, the next place is past it, and no further than its most bytes
 pub next-near : (capacity : ℕ) (body out : List ℕ) (at next : ℕ) (left : List ℕ) (a : Answer) → a ≡ Put next

@@ -5,11 +5,12 @@ use mathlib.Core.List.{List}
 use mathlib.Core.Path.{_≡_}
 use lib.ListN.{length, take, drop}
 use Rattle.sheet.specs.declared.views.Viewed.{Viewed}
+use Rattle.writer.specs.declared.Written.{Written}
 use Rattle.tape.specs.Words.{words-for}
 use Rattle.put.specs.Append.{wrote, whole}
 use Rattle.report.specs.Dump.{dump-of}
 use Rattle.report.specs.Readings.{readings-of}
-use Rattle.report.specs.Room.{most-tokens, dump-bytes}
+use Rattle.report.specs.Room.{most-input, most-tokens, dump-bytes}
 use Rattle.report.specs.Sheets as sheets
 use Rattle.answers.specs.declared.Answer.{Answer}
 use Rattle.answers.specs.declared.Answer.the-variants.{Put, Bad}
@@ -26,13 +27,14 @@ stop-bytes = 11
 abbrev pub block-bytes : ℕ
 block-bytes = 2 * (most-answer + stop-bytes)
 
--- the lines that answer a record with a capacity and a body: the dump of a text, the readings of a scalar, what is said of a sheet, and
--- a view of the text that stands from some place on
+-- the lines that answer a record with a capacity and a body: the dump of a text, the readings of a scalar, what is said of a sheet,
+-- a view of the text that stands from some place on, and the way back from a sheet, in a buffer of no more bytes than an input has
 pub data Answers (capacity : ℕ) (body : List ℕ) : List ℕ → Type 0 where
   dump : Answers capacity body (dump-of body (words-for capacity))
   readings : Answers capacity body (readings-of body)
   verdict : (sound : Bool) → Answers capacity body (sheets.verdict sound)
   view : (from size : ℕ) (v : Viewed) → Answers capacity body (sheets.view-text (take size (drop from body)) v)
+  written : (w : Written) (buffer : List ℕ) → length buffer ≤ most-input → Answers capacity body (sheets.written-text w buffer)
 
 -- all of such lines from the place on, and the place after the last
 pub record All (capacity : ℕ) (body out : List ℕ) (at next : ℕ) (left : List ℕ) : Type 0 where

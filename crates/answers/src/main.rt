@@ -7,7 +7,8 @@ use report::limits::DUMP_BYTES;
 use report::limits::MOST_INPUT;
 use report::limits::TAPE_WORDS;
 use tape::words::WORDS_PER_TOKEN;
-ghost use Prim.Native.Nat.{_+_, _≤_, _<_};
+ghost use mathlib.Core.Path.{_≡_};
+ghost use Prim.Native.Nat.{_+_, _≤_, _<_, min};
 ghost use lib.ListN.{length};
 ghost use Rattle.tape.specs.Words.{words-for};
 ghost use Rattle.report.specs.Room.{most-input, most-tokens};
@@ -28,6 +29,20 @@ const VIEW_HEAD: usize = 2 * WORD + 2;
 const WORDS_HIGH: usize = 2 * WORD;
 
 const WORDS_LOW: usize = 2 * WORD + 1;
+
+// The bytes of a body before its words, where a sheet is to be written back, and where its numbers stand there.
+const WRITE_HEAD: usize = 2 + WORD + 2;
+
+const WRITE_COUNT: usize = 2;
+
+const WRITE_WORDS_HIGH: usize = 2 + WORD;
+
+const WRITE_WORDS_LOW: usize = 2 + WORD + 1;
+
+// The most bytes and words that are lent to write a sheet back: no record needs more, and one that asks for more gets so much.
+const MOST_BUFFER: usize = MOST_INPUT;
+
+const MOST_SCRATCH: usize = 16384;
 
 // How many bytes are read at a time.
 const BLOCK: usize = 4 * MOST_INPUT;
@@ -148,6 +163,46 @@ fn view_answer(out: &mut [u8], at: usize, capacity: usize, body: &[u8], words: &
     Answer::Put(report::sheets::put_view(out, at, &body[text..], &words[..n], count, index))
 }
 
+// The lesser of two numbers.
+fn least(a: usize, b: usize) -> usize
+    ensures { λ r. ⌜ r ≡ min a b ⌝ }
+{
+    if a < b {
+        return a;
+    }
+    b
+}
+
+// Kind `W`: the text of a sheet, with room for so many bytes. The scratch's words, the count, how many words, the words, and the text to
+// the body's end.
+fn write_answer(out: &mut [u8], at: usize, capacity: usize, body: &[u8], words: &mut [u32]) -> Answer
+    requires { ⌜ at + most-answer ≤ length (now out) ⌝ }
+    ensures { λ r. ⌜ Whole capacity (now (body .entry)) (now (out .entry)) at r (now (out .exit)) ⌝ }
+{
+    if body.len() < WRITE_HEAD {
+        return Answer::Bad;
+    }
+    let lent = least(pair(body[0], body[1]), MOST_SCRATCH);
+    let count = word_at(body, WRITE_COUNT) as usize;
+    let text = WRITE_HEAD + pair(body[WRITE_WORDS_HIGH], body[WRITE_WORDS_LOW]) * WORD;
+    if body.len() < text {
+        return Answer::Bad;
+    }
+    let n = take_words(&body[WRITE_HEAD..text], words);
+    let room = least(capacity, MOST_BUFFER);
+    let mut buffer = [0u8; MOST_BUFFER];
+    let mut scratch = [0u32; MOST_SCRATCH];
+    Answer::Put(report::sheets::put_written(
+        out,
+        at,
+        &body[text..],
+        &words[..n],
+        count,
+        &mut buffer[..room],
+        &mut scratch[..lent],
+    ))
+}
+
 // Answers a record by its kind: it is bad, or all of its answer is put.
 fn answer_record(
     out: &mut [u8],
@@ -165,6 +220,7 @@ fn answer_record(
         b'S' => readings_answer(out, at, capacity, body),
         b'C' => check_answer(out, at, capacity, body, words),
         b'V' => view_answer(out, at, capacity, body, words),
+        b'W' => write_answer(out, at, capacity, body, words),
         _ => Answer::Bad,
     }
 }

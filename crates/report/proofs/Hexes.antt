@@ -41,6 +41,7 @@ judged-as {Holds = Holds} out at sound holds is put =
 pub written-as : {Holds : Type 0} (answer : Bool → Left) (out : List ℕ) (at : ℕ) {w is : Written} {buffer scratch lines : List ℕ} {put : Wrote}
     → Decided Holds answer (left w buffer scratch) → w ≡ is → put ≡ append out at lines → lines ≡ written-text is buffer
     → Decided Holds (λ (sound : Bool). report-written out at (answer sound)) (reported put buffer scratch)
+unfolding report-written
 written-as answer out at {buffer = buffer} {scratch = scratch} d told e line =
     decided-as answer (report-written out at) d
     (ap (λ (p : Wrote). reported p buffer scratch) (e ∙ ap (append out at) (line ∙ ap (λ (x : Written). written-text x buffer) (sym told))))

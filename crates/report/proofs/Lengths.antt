@@ -27,11 +27,16 @@ use Rattle.scalar.specs.declared.whole.I64Part.the-variants as Part
 use Rattle.scalar.specs.declared.whole.I64Part.{I64Part}
 use Rattle.scalar.specs.declared.whole.I64Read.the-variants as I64
 use Rattle.sheet.specs.declared.views.Viewed.{Viewed}
+use Rattle.writer.specs.declared.Refusal.{Refusal}
+use Rattle.writer.specs.declared.Refusal.the-variants.{NotSound, TooDeep, TooLong, NoRoom, ReadsOtherwise, OtherForm}
+use Rattle.writer.specs.declared.Written.{Written}
+use Rattle.writer.specs.declared.Written.the-variants.{Text, Refused}
+use Rattle.writer.specs.Refusals.{number}
 use Rattle.sheet.specs.declared.views.Viewed.the-variants.{At, NoScalar}
 use Rattle.report.proofs.Room.{decimal-short, bit-short, number-short}
 use Rattle.report.specs.Digits.{decimal, hex-by, most-hex, hex}
 use Rattle.report.specs.Readings.{integer, bool-text, u64-text, i64-text, f64-text, exact-of, readings-of}
-use Rattle.report.specs.Sheets.{verdict, hex-bytes, view-text}
+use Rattle.report.specs.Sheets.{verdict, hex-bytes, view-text, written-text}
 
 -- a refusal of a reading has two digits
 two-short : (n : ℕ) → n < 100 → length (decimal n) ≤ 2
@@ -150,3 +155,16 @@ view-short text (At offset size) =
     simp length-append
     (omega (arith, hex-bytes-short (take size (drop offset text)), length-take size (drop offset text), length-drop offset text))
 view-short text NoScalar = simp length-append (omega (arith, two-short 12 (omega arith)))
+
+-- a text that was written stands in its buffer, and a refusal has a number of two digits
+refusal-two : (r : Refusal) → number r < 100
+refusal-two NotSound = omega arith
+refusal-two TooDeep = omega arith
+refusal-two TooLong = omega arith
+refusal-two NoRoom = omega arith
+refusal-two ReadsOtherwise = omega arith
+refusal-two OtherForm = omega arith
+
+pub written-short : (w : Written) (buffer : List ℕ) → length (written-text w buffer) ≤ 2 * length buffer + 11
+written-short (Text size) buffer = simp length-append (omega (arith, hex-bytes-short (take size buffer), length-take size buffer))
+written-short (Refused r) buffer = simp length-append (omega (arith, two-short (number r) (refusal-two r)))

@@ -44,5 +44,5 @@ written-text (Refused r) buffer = words.refused ++ decimal (number r) ++ (line-f
 pub data Reported : Type 0 where
   reported : Wrote → List ℕ → List ℕ → Reported
 
-abbrev pub report-written : List ℕ → ℕ → Left → Reported
+unfoldable pub report-written : List ℕ → ℕ → Left → Reported
 report-written out at (left w buffer scratch) = reported (append out at (written-text w buffer)) buffer scratch
