@@ -6,14 +6,15 @@ use mathlib.Core.Bool.{Bool, true, false}
 use mathlib.Core.List.{List}
 use mathlib.Core.Logic.{_↔_}
 use Prim.Native.Nat.{ℕ}
-use Rattle.put.specs.Append.{Wrote, wrote, append}
-use Rattle.report.specs.Sheets.{verdict, Judged}
+use Rattle.sheet.specs.Decided.{Decided}
+use Rattle.put.specs.Append.{Wrote, wrote}
 use Rattle.promises.specs.Unique.{One-result, One-left, One-line}
 use Rattle.data.proofs.character_class.Reads as character-class
 use Rattle.operator.proofs.Operator.number.Reads as operator-number
 use Rattle.operator.proofs.Operator.is_equal.Reads as operator-is-equal
 use Rattle.operator.proofs.Operator.symbol.Reads as operator-symbol
 use Rattle.operator.proofs.operator_at.Reads as operator-at
+use Rattle.operator.proofs.operator_numbered.Reads as operator-numbered
 use Rattle.scalar.proofs.to_bool.Reads as to-bool
 use Rattle.scalar.proofs.to_u64.Reads as to-u64
 use Rattle.scalar.proofs.to_i64.Reads as to-i64
@@ -93,6 +94,10 @@ use Rattle.sheet.proofs.views.view.Reads as view
 use Rattle.put.proofs.put_byte.Reads as put-byte
 use Rattle.put.proofs.put_bytes.Reads as put-bytes
 use Rattle.put.proofs.front.Reads as front
+use Rattle.put.proofs.part.Reads as part
+use Rattle.put.proofs.clear_from.Reads as zeroed
+use Rattle.writer.proofs.Refusal.number.Reads as write-refusal-number
+use Rattle.writer.proofs.write.Reads as write
 use Rattle.report.proofs.numbers.put_decimal.Reads as put-decimal
 use Rattle.report.proofs.numbers.put_hex.Reads as put-hex
 use Rattle.report.proofs.numbers.put_integer.Reads as put-integer
@@ -113,10 +118,12 @@ use Rattle.report.proofs.readings.put_readings.Reads as put-readings
 use Rattle.report.proofs.sheets.put_check.Reads as put-check
 use Rattle.report.proofs.sheets.put_hex_bytes.Reads as put-hex-bytes
 use Rattle.report.proofs.sheets.put_view.Reads as put-view
+use Rattle.report.proofs.sheets.put_written.Reads as put-written
 use Rattle.capi.proofs.tackacorn_parse.Reads as tackacorn-parse
 use Rattle.capi.proofs.tackacorn_check.Reads as tackacorn-check
 use Rattle.capi.proofs.tackacorn_view.Reads as tackacorn-view
 use Rattle.capi.proofs.tackacorn_token.Reads as tackacorn-token
+use Rattle.capi.proofs.tackacorn_write.Reads as tackacorn-write
 use Rattle.capi.proofs.tackacorn_to_bool.Reads as tackacorn-to-bool
 use Rattle.capi.proofs.tackacorn_to_u64.Reads as tackacorn-to-u64
 use Rattle.capi.proofs.tackacorn_to_i64.Reads as tackacorn-to-i64
@@ -140,10 +147,9 @@ by-bytes : {K : Type 0} {A X : K → Type 0} (out : (κs : K) → X κs → List
     → One-line {R = λ κs. ℕ} (λ κs args r xs. wrote r (out κs xs) ≡ definition κs args) out
 by-bytes out definition = (λ κs args r s xs ys p q. cc, λ κs args r s xs ys p q. cc)
 
--- and one that names a verdict, true exactly when a claim holds, and says that it was put, allows one place and one buffer
-one-judgment : (P : Type 0) (out : List ℕ) (at : ℕ) (w v : Wrote) → Judged P out at w → Judged P out at v → w ≡ v
-one-judgment P out at w v p q =
-    p .put ∙ ap (λ (b : Bool). append out at (verdict b)) (one-verdict P (p .sound) (q .sound) (p .holds) (q .holds)) ∙ sym (q .put)
+-- and one that names what is answered by whether a claim holds allows one answer, with all that it leaves
+one-decided : {Answer : Type 0} (P : Type 0) (answer : Bool → Answer) (x y : Answer) → Decided P answer x → Decided P answer y → x ≡ y
+one-decided P answer x y p q = p .gives ∙ ap answer (one-verdict P (p .yes) (q .yes) (p .holds) (q .holds)) ∙ sym (q .gives)
 
 pub record Data : Type 0 where
   pub character-class : One-result character-class.Post
@@ -154,11 +160,32 @@ data-calls =
       character-class = by-definition _ _;
     }
 
+pub record Put : Type 0 where
+  pub put-byte : One-line put-byte.Post (λ κs xs. xs .0 .now)
+  pub put-bytes : One-line put-bytes.Post (λ κs xs. xs .0 .now)
+  -- the part's bytes, and where they stand
+  pub front : (κs : _) (args : _) (r s : _) (xs ys : _) → front.Post κs args r xs → front.Post κs args s ys
+      → (r .now ≡ s .now) × (r .ptr ≡ s .ptr)
+  pub part : (κs : _) (args : _) (r s : _) (xs ys : _) → part.Post κs args r xs → part.Post κs args s ys
+      → (r .now ≡ s .now) × (r .ptr ≡ s .ptr)
+  pub zeroed : One-left zeroed.Post (λ κs xs. xs .0 .now)
+
+pub put-calls : Put
+put-calls =
+    record {
+      put-byte = by-bytes _ _;
+      put-bytes = by-bytes _ _;
+      front = λ κs args r s xs ys p q. (p .0 ∙ sym (q .0), p .1 ∙ sym (q .1));
+      part = λ κs args r s xs ys p q. (p .0 ∙ sym (q .0), p .1 ∙ sym (q .1));
+      zeroed = λ κs args r s xs ys p q. p ∙ sym q;
+    }
+
 pub record Operator : Type 0 where
   pub operator-number : One-result operator-number.Post
   pub operator-is-equal : One-result operator-is-equal.Post
   pub operator-symbol : One-result operator-symbol.Post
   pub operator-at : One-result operator-at.Post
+  pub operator-numbered : One-result operator-numbered.Post
 
 pub operator-calls : Operator
 operator-calls =
@@ -167,6 +194,7 @@ operator-calls =
       operator-is-equal = by-definition _ _;
       operator-symbol = by-definition _ _;
       operator-at = by-definition _ _;
+      operator-numbered = by-definition _ _;
     }
 
 pub record Scalar : Type 0 where
@@ -374,9 +402,22 @@ sheet-calls =
       view = λ κs args r s xs ys p q. (p .0 ∙ sym (q .0), p .1 ∙ sym (q .1));
     }
 
+pub record Writer : Type 0 where
+  pub write-refusal-number : One-result write-refusal-number.Post
+  pub write-result : One-result write.Post
+  pub write-buffer : One-left write.Post (λ κs xs. xs .1 .1 .1 .0 .now)
+  pub write-scratch : One-left write.Post (λ κs xs. xs .1 .1 .1 .1 .0 .now)
+
+pub writer-calls : Writer
+writer-calls =
+    record {
+      write-refusal-number = by-definition _ _;
+      write-result = λ κs args r s xs ys p q. let e = one-decided _ _ _ _ p q in cc;
+      write-buffer = λ κs args r s xs ys p q. let e = one-decided _ _ _ _ p q in cc;
+      write-scratch = λ κs args r s xs ys p q. let e = one-decided _ _ _ _ p q in cc;
+    }
+
 pub record Report : Type 0 where
-  pub put-byte : One-line put-byte.Post (λ κs xs. xs .0 .now)
-  pub put-bytes : One-line put-bytes.Post (λ κs xs. xs .0 .now)
   pub put-decimal : One-line put-decimal.Post (λ κs xs. xs .0 .now)
   pub put-hex : One-line put-hex.Post (λ κs xs. xs .0 .now)
   pub put-integer : One-line put-integer.Post (λ κs xs. xs .0 .now)
@@ -393,10 +434,10 @@ pub record Report : Type 0 where
   pub put-readings : One-line put-readings.Post (λ κs xs. xs .0 .now)
   pub put-hex-bytes : One-line put-hex-bytes.Post (λ κs xs. xs .0 .now)
   pub put-view : One-line put-view.Post (λ κs xs. xs .0 .now)
-  -- the part's bytes, and where they stand
-  pub front : (κs : _) (args : _) (r s : _) (xs ys : _) → front.Post κs args r xs → front.Post κs args s ys
-      → (r .now ≡ s .now) × (r .ptr ≡ s .ptr)
   pub put-check : One-line put-check.Post (λ κs xs. xs .0 .now)
+  pub put-written-line : One-line put-written.Post (λ κs xs. xs .0 .now)
+  pub put-written-buffer : One-left put-written.Post (λ κs xs. xs .1 .1 .1 .1 .1 .0 .now)
+  pub put-written-scratch : One-left put-written.Post (λ κs xs. xs .1 .1 .1 .1 .1 .1 .0 .now)
   pub put-dump-line : One-line put-dump.Post (λ κs xs. xs .0 .now)
   pub put-dump-tape : One-left put-dump.Post (λ κs xs. xs .1 .1 .1 .0 .now)
   pub put-save-line : One-line put-save.Post (λ κs xs. xs .0 .now)
@@ -407,8 +448,6 @@ pub record Report : Type 0 where
 pub report-calls : Report
 report-calls =
     record {
-      put-byte = by-bytes _ _;
-      put-bytes = by-bytes _ _;
       put-decimal = by-bytes _ _;
       put-hex = by-bytes _ _;
       put-integer = by-bytes _ _;
@@ -425,11 +464,16 @@ report-calls =
       put-readings = by-bytes _ _;
       put-hex-bytes = by-bytes _ _;
       put-view = by-bytes _ _;
-      front = λ κs args r s xs ys p q. (p .0 ∙ sym (q .0), p .1 ∙ sym (q .1));
       put-check = (
-        λ κs args r s xs ys p q. let e = one-judgment _ _ _ _ _ p q in cc,
-        λ κs args r s xs ys p q. let e = one-judgment _ _ _ _ _ p q in cc,
+        λ κs args r s xs ys p q. let e = one-decided _ _ _ _ p q in cc,
+        λ κs args r s xs ys p q. let e = one-decided _ _ _ _ p q in cc,
       );
+      put-written-line = (
+        λ κs args r s xs ys p q. let e = one-decided _ _ _ _ p q in cc,
+        λ κs args r s xs ys p q. let e = one-decided _ _ _ _ p q in cc,
+      );
+      put-written-buffer = λ κs args r s xs ys p q. let e = one-decided _ _ _ _ p q in cc;
+      put-written-scratch = λ κs args r s xs ys p q. let e = one-decided _ _ _ _ p q in cc;
       put-dump-line = (λ κs args r s xs ys p q. cc, λ κs args r s xs ys p q. cc);
       put-dump-tape = λ κs args r s xs ys p q. cc;
       put-save-line = (λ κs args r s xs ys p q. cc, λ κs args r s xs ys p q. cc);
@@ -451,6 +495,10 @@ pub record Capi : Type 0 where
   pub tackacorn-token-code : One-left tackacorn-token.Post (λ κs xs. xs .1 .1 .1 .0 .now)
   pub tackacorn-token-a : One-left tackacorn-token.Post (λ κs xs. xs .1 .1 .1 .1 .0 .now)
   pub tackacorn-token-b : One-left tackacorn-token.Post (λ κs xs. xs .1 .1 .1 .1 .1 .0 .now)
+  pub tackacorn-write-result : One-result tackacorn-write.Post
+  pub tackacorn-write-buffer : One-left tackacorn-write.Post (λ κs xs. xs .1 .1 .1 .0 .now)
+  pub tackacorn-write-scratch : One-left tackacorn-write.Post (λ κs xs. xs .1 .1 .1 .1 .0 .now)
+  pub tackacorn-write-size : One-left tackacorn-write.Post (λ κs xs. xs .1 .1 .1 .1 .1 .0 .now)
   pub tackacorn-to-bool-result : One-result tackacorn-to-bool.Post
   pub tackacorn-to-bool-value : One-left tackacorn-to-bool.Post (λ κs xs. xs .1 .0 .now)
   pub tackacorn-to-u64-result : One-result tackacorn-to-u64.Post
@@ -476,6 +524,10 @@ capi-calls =
       tackacorn-token-code = λ κs args r s xs ys p q. cc;
       tackacorn-token-a = λ κs args r s xs ys p q. cc;
       tackacorn-token-b = λ κs args r s xs ys p q. cc;
+      tackacorn-write-result = λ κs args r s xs ys p q. let e = one-decided _ _ _ _ p q in cc;
+      tackacorn-write-buffer = λ κs args r s xs ys p q. let e = one-decided _ _ _ _ p q in cc;
+      tackacorn-write-scratch = λ κs args r s xs ys p q. let e = one-decided _ _ _ _ p q in cc;
+      tackacorn-write-size = λ κs args r s xs ys p q. let e = one-decided _ _ _ _ p q in cc;
       tackacorn-to-bool-result = λ κs args r s xs ys p q. cc;
       tackacorn-to-bool-value = λ κs args r s xs ys p q. cc;
       tackacorn-to-u64-result = λ κs args r s xs ys p q. cc;
