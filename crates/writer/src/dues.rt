@@ -5,7 +5,7 @@ ghost use mathlib.Core.Path.{_≡_};
 ghost use Rattle.writer.specs.Dues.{due-in, after-scalar, after-container, to-value, due-after};
 
 // An entry of an array, or behind a MixedContainer; a key; what stands right behind a key; or the entry that is still missing.
-pub(crate) enum Due {
+pub enum Due {
     Entry,
     Key,
     AfterKey,

@@ -17,7 +17,7 @@ mod bodies;
 // Whether the text comes back as it was.
 mod back;
 // What is due next in a body.
-mod dues;
+pub mod dues;
 // Whether a sheet is of the form that can be written.
 mod form;
 // How deep a sheet nests.
@@ -25,7 +25,7 @@ pub mod levels;
 // How long its text will be.
 mod measure;
 // What a token is to the writer.
-mod pieces;
+pub mod pieces;
 // Walks over a body's direct tokens.
 mod ranges;
 

@@ -9,7 +9,7 @@ ghost use mathlib.Core.Path.{_≡_};
 ghost use Rattle.writer.specs.Pieces.{scalar-piece, bare-piece, piece-of};
 
 // A scalar with or without quotes, a Header, an operator's sign, a MixedContainer, a container's opener, or what cannot be written.
-pub(crate) enum Piece {
+pub enum Piece {
     Scalar {
         quoted: bool,
         offset: u32,
