@@ -44,9 +44,9 @@ pub data Bare : Piece → Type 0 where
   other : Bare Other
 
 scalar-bare : (kind : ScalarKind) (offset size : ℕ) → Bare (scalar-piece kind offset size)
-scalar-bare Unquoted offset size = scalar false offset size
-scalar-bare Quoted offset size = scalar true offset size
-scalar-bare QuotedEscape offset size = scalar true offset size
+scalar-bare Unquoted offset size = scalar _ offset size
+scalar-bare Quoted offset size = scalar _ offset size
+scalar-bare QuotedEscape offset size = scalar _ offset size
 scalar-bare Header offset size = heading offset size
 scalar-bare Parameter offset size = other
 scalar-bare UndefinedParameter offset size = other
