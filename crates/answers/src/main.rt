@@ -175,7 +175,13 @@ fn least(a: usize, b: usize) -> usize
 
 // Kind `W`: the text of a sheet, with room for so many bytes. The scratch's words, the count, how many words, the words, and the text to
 // the body's end.
-fn write_answer(out: &mut [u8], at: usize, capacity: usize, body: &[u8], words: &mut [u32]) -> Answer
+fn write_answer(
+    out: &mut [u8],
+    at: usize,
+    capacity: usize,
+    body: &[u8],
+    words: &mut [u32],
+) -> Answer
     requires { ⌜ at + most-answer ≤ length (now out) ⌝ }
     ensures { λ r. ⌜ Whole capacity (now (body .entry)) (now (out .entry)) at r (now (out .exit)) ⌝ }
 {

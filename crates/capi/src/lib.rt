@@ -140,7 +140,7 @@ pub extern "C" fn tackacorn_write(
 ) -> u32
     ensures { λ r. ⌜ Decided (Sound (length (now (text .entry))) (now (words .entry)) count)
         (λ (sound : Bool). tell-write (write-of (now (text .entry)) (tokens-in (now (words .entry)) count)
-            (length (now (out .entry))) (length (now (scratch .entry))) sound))
+        (length (now (out .entry))) (length (now (scratch .entry))) sound))
         (write-told r (now (written .exit)) (now (out .exit)) (now (scratch .exit))) ⌝ }
 {
     match writer::write(text, words, count, out, scratch) {

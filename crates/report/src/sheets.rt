@@ -1,9 +1,9 @@
 // The answers about a sheet as lines, which are what records of the kinds `C`, `V` and `W` are answered with.
 use crate::numbers::put_decimal;
 use crate::numbers::put_hex;
+use put::front;
 use put::put_byte;
 use put::put_bytes;
-use put::front;
 use sheet::views::Viewed;
 use writer::Written;
 ghost use mathlib.Core.Path.{_≡_};
@@ -88,7 +88,7 @@ pub fn put_written(
 ) -> usize
     ensures { λ r. ⌜ Decided (Sound (length (now (text .entry))) (now (words .entry)) count)
         (λ (sound : Bool). report-written (now (out .entry)) at
-            (write-of (now (text .entry)) (tokens-in (now (words .entry)) count) (length (now (buffer .entry))) (length (now (scratch .entry))) sound))
+        (write-of (now (text .entry)) (tokens-in (now (words .entry)) count) (length (now (buffer .entry))) (length (now (scratch .entry))) sound))
         (reported (wrote r (now (out .exit))) (now (buffer .exit)) (now (scratch .exit))) ⌝ }
 {
     match writer::write(text, words, count, buffer, scratch) {

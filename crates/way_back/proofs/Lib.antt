@@ -19,3 +19,4 @@ pub mod Likeness
 pub mod Stable
 pub mod Cases
 pub mod Samples
+pub mod Contracts

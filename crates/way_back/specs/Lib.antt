@@ -2,3 +2,4 @@ pub mod Plain
 pub mod Accepted
 pub mod Stable
 pub mod Cases
+pub mod Contracts
