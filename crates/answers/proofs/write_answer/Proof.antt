@@ -87,7 +87,10 @@ array-borrow-prefix-scratch : tie.Need-array-borrow-prefix-scratch
 array-borrow-prefix-scratch c = search needs
 
 slice-aggregate-put-written-3 : tie.Need-slice-aggregate-put-written-3
-slice-aggregate-put-written-3 c = sym (length-take-le _ _ (omega (arith, c .before .before .before .before .before .before .before .before .before .before .before .before .before .before .before .before .least .ensures)))
+slice-aggregate-put-written-3 c =
+    let at-words = c .before .before .before .before .before .before .before .before in
+    let at-least = at-words .before .before .before .before .before .before .before .before in
+    sym (length-take-le _ _ (omega (arith, at-least .least .ensures)))
 
 put-written-requires : tie.Need-put-written-requires
 put-written-requires c κs = search needs
@@ -101,9 +104,16 @@ same-length-2 c = search needs
 returns-3 : tie.Need-returns-3
 returns-3 c =
     let at-put = c .before .before .before .before in
-    let at-room = c .before .before .before .before .before .before .before .before .before .before in
-    let at-start = c .before .before .before .before .before .before .before .before .before .before .before .before .before .before .before .before .before .before .before .before .before .before .before .before .before .before .before .before .before in
-    record { holds = written-all _ _ _ _ _ (at-put .put-written .ensures) (omega (arith, at-put .put-written .kept .1 .1 .1 .1 .1 .0, at-room .least2 .ensures, slice-aggregate-put-written-2 (c .before .before .before .before .before .before))) (at-start .pre) }
+    let at-buffer = at-put .before .before in
+    let at-room = at-buffer .before .before .before .before in
+    let at-words = at-room .before .before .before in
+    let at-least = at-words .before .before .before .before .before .before .before .before in
+    let at-start = at-least .before .before .before .before .before .before .before .before in
+    let kept = at-put .put-written .kept .1 .1 .1 .1 .1 .0 in
+    let lent = slice-aggregate-put-written-2 at-buffer in
+    record {
+      holds = written-all _ _ _ _ _ (at-put .put-written .ensures) (omega (arith, kept, lent, at-room .least2 .ensures)) (at-start .pre);
+    }
 
 pub write-answer-spec : {M : Type 1} → statement M
 write-answer-spec =
