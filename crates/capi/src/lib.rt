@@ -150,8 +150,7 @@ pub extern "C" fn tackacorn_write(
         }
         Written::Refused(refusal) => {
             *written = 0;
-            let number = refusal.number();
-            number
+            refusal.number()
         }
     }
 }
