@@ -4,12 +4,12 @@
 //! `SEED` and `CASES` choose others than are tried by themselves.
 
 use compare::generate::Generator;
-use compare::record::Question;
+use compare::record::{Question, ToWrite};
 use compare::rng::Rng;
 use compare::{oracle, texts};
 use std::env;
 use tackacorn::sheet::{self, Sheet};
-use tackacorn::{Scalar, ScalarError, TextTape, TextToken, WORDS_PER_TOKEN};
+use tackacorn::{Scalar, ScalarError, TextTape, TextToken, WORDS_PER_TOKEN, WriteError};
 
 fn number(name: &str, default: u64) -> u64 {
     env::var(name).map_or(default, |word| word.parse().expect("a number"))
@@ -161,12 +161,24 @@ fn same_back(text: &[u8]) -> bool {
     true
 }
 
+/// What is written of a sheet, with just the room that a record lends: the text or the refusal, and zeros
+/// behind it and on the scratch.
+fn same_write(asked: ToWrite<'_>) {
+    let theirs = compare::writer::write(&asked).map_err(u32::from);
+    let ToWrite { room, scratch, count, words, text } = asked;
+    let (mut out, mut tape) = (vec![255u8; room], vec![u32::MAX; scratch]);
+    let ours = sheet::write_into(text, &words, count as usize, &mut out, &mut tape);
+    let size = ours.unwrap_or(0);
+    assert_eq!(ours.map(|size| out[..size].to_vec()).map_err(WriteError::number), theirs, "{:?}", shown(text));
+    assert!(out[size..].iter().all(|&byte| byte == 0) && tape.iter().all(|&word| word == 0));
+}
+
 // ---- what is tried ----
 
 #[test]
 fn the_records_of_the_comparison() {
     let (seed, cases) = (number("SEED", 2026), number("CASES", 500_000));
-    let (mut parses, mut written, mut scalars, mut sheets, mut views) = (0, 0, 0, 0, 0);
+    let (mut parses, mut written, mut scalars, mut sheets, mut views, mut writes) = (0, 0, 0, 0, 0, 0);
     for record in Generator::new(seed).take(cases as usize) {
         match record.question().expect("a good record") {
             Question::Text { text, capacity } => {
@@ -191,11 +203,15 @@ fn the_records_of_the_comparison() {
                 assert_eq!(parts.0.map(<[u8]>::as_ptr_range), parts.1.map(<[u8]>::as_ptr_range));
                 views += 1;
             }
+            Question::Write(asked) => {
+                same_write(asked);
+                writes += 1;
+            }
         }
     }
     println!(
-        "seed {seed}: {parses} texts, {written} of them written back, {scalars} scalars, {sheets} sheets and \
-         {views} views, no difference"
+        "seed {seed}: {parses} texts, {written} of them written back, {scalars} scalars, {sheets} sheets, \
+         {views} views and {writes} sheets to write, no difference"
     );
 }
 
