@@ -75,6 +75,21 @@ abbrev put-token-below : ℕ → In 3 put-token-kinds.ps
 put-token-below t =
     and 3 put-token-kinds.ps (falls 3 put-token-kinds.ps _<_ μ-put-token t) put-token.Pre
 
+-- what `put_entries` asks of its callees and learns from them, at the measure t
+abbrev put-entries-claims : ℕ → put-entries-lts.Claims
+put-entries-claims t = (
+  token-of-reads.Asked,
+  token-of-reads.Learnt,
+  piece-of-reads.Asked,
+  piece-of-reads.Learnt,
+  put-token-below t,
+  put-token.Post,
+  still-first-reads.Asked,
+  still-first-reads.Learnt,
+  behind-reads.Asked,
+  behind-reads.Learnt,
+)
+
 abbrev put-entries-Inv-loop : put-entries-lts.InvT-loop
 put-entries-Inv-loop out₀ at text words count from end alone i₀ next₀ first₀ out i next first =
     Putting (tokens-in words count) text out₀ at from end (body-text (stretch (tokens-in words count) from end) text alone Entry) out i next first Entry
@@ -82,76 +97,21 @@ put-entries-Inv-loop out₀ at text words count from end alone i₀ next₀ firs
 abbrev put-entries-μ-loop : put-entries-lts.MeasureT-loop
 put-entries-μ-loop out₀ at text words count from end alone i₀ next₀ first₀ out i next first = end - i
 
-put-entries-loop-holds : (t : ℕ) → put-entries-lts.Need-loop-holds (
-  token-of-reads.Asked,
-  token-of-reads.Learnt,
-  piece-of-reads.Asked,
-  piece-of-reads.Learnt,
-  put-token-below t,
-  put-token.Post,
-  still-first-reads.Asked,
-  still-first-reads.Learnt,
-  behind-reads.Asked,
-  behind-reads.Learnt,
-) (put-entries-at t) put-entries.Post put-entries-Inv-loop put-entries-μ-loop
+put-entries-loop-holds : (t : ℕ) → put-entries-lts.Need-loop-holds (put-entries-claims t) (put-entries-at t) put-entries.Post put-entries-Inv-loop put-entries-μ-loop
 put-entries-loop-holds t c =
     let args = c .before .before .before .args in
     put-start _ (args .text .now) (args .out .now) (args .at) (args .from) (args .end) (args .alone) Entry (c .before .before .before .pre .1)
 
-put-entries-token-of-requires : (t : ℕ) → put-entries-lts.Need-token-of-requires (
-  token-of-reads.Asked,
-  token-of-reads.Learnt,
-  piece-of-reads.Asked,
-  piece-of-reads.Learnt,
-  put-token-below t,
-  put-token.Post,
-  still-first-reads.Asked,
-  still-first-reads.Learnt,
-  behind-reads.Asked,
-  behind-reads.Learnt,
-) (put-entries-at t) put-entries.Post put-entries-Inv-loop put-entries-μ-loop
+put-entries-token-of-requires : (t : ℕ) → put-entries-lts.Need-token-of-requires (put-entries-claims t) (put-entries-at t) put-entries.Post put-entries-Inv-loop put-entries-μ-loop
 put-entries-token-of-requires t c κs = search needs
 
-put-entries-piece-of-requires : (t : ℕ) → put-entries-lts.Need-piece-of-requires (
-  token-of-reads.Asked,
-  token-of-reads.Learnt,
-  piece-of-reads.Asked,
-  piece-of-reads.Learnt,
-  put-token-below t,
-  put-token.Post,
-  still-first-reads.Asked,
-  still-first-reads.Learnt,
-  behind-reads.Asked,
-  behind-reads.Learnt,
-) (put-entries-at t) put-entries.Post put-entries-Inv-loop put-entries-μ-loop
+put-entries-piece-of-requires : (t : ℕ) → put-entries-lts.Need-piece-of-requires (put-entries-claims t) (put-entries-at t) put-entries.Post put-entries-Inv-loop put-entries-μ-loop
 put-entries-piece-of-requires t c κs = search needs
 
-put-entries-add-put-token : (t : ℕ) → put-entries-lts.Need-add-put-token (
-  token-of-reads.Asked,
-  token-of-reads.Learnt,
-  piece-of-reads.Asked,
-  piece-of-reads.Learnt,
-  put-token-below t,
-  put-token.Post,
-  still-first-reads.Asked,
-  still-first-reads.Learnt,
-  behind-reads.Asked,
-  behind-reads.Learnt,
-) (put-entries-at t) put-entries.Post put-entries-Inv-loop put-entries-μ-loop
+put-entries-add-put-token : (t : ℕ) → put-entries-lts.Need-add-put-token (put-entries-claims t) (put-entries-at t) put-entries.Post put-entries-Inv-loop put-entries-μ-loop
 put-entries-add-put-token t c = omega arith
 
-put-entries-put-token-requires : (t : ℕ) → put-entries-lts.Need-put-token-requires (
-  token-of-reads.Asked,
-  token-of-reads.Learnt,
-  piece-of-reads.Asked,
-  piece-of-reads.Learnt,
-  put-token-below t,
-  put-token.Post,
-  still-first-reads.Asked,
-  still-first-reads.Learnt,
-  behind-reads.Asked,
-  behind-reads.Learnt,
-) (put-entries-at t) put-entries.Post put-entries-Inv-loop put-entries-μ-loop
+put-entries-put-token-requires : (t : ℕ) → put-entries-lts.Need-put-token-requires (put-entries-claims t) (put-entries-at t) put-entries.Post put-entries-Inv-loop put-entries-μ-loop
 put-entries-put-token-requires t c =
     let read = c .before in
     let in-loop = read .before .before in
@@ -167,60 +127,16 @@ put-entries-put-token-requires t c =
       step-inside ts (m .i) (args .end) (m .inv .range) h _ is,
     )
 
-put-entries-still-first-requires : (t : ℕ) → put-entries-lts.Need-still-first-requires (
-  token-of-reads.Asked,
-  token-of-reads.Learnt,
-  piece-of-reads.Asked,
-  piece-of-reads.Learnt,
-  put-token-below t,
-  put-token.Post,
-  still-first-reads.Asked,
-  still-first-reads.Learnt,
-  behind-reads.Asked,
-  behind-reads.Learnt,
-) (put-entries-at t) put-entries.Post put-entries-Inv-loop put-entries-μ-loop
+put-entries-still-first-requires : (t : ℕ) → put-entries-lts.Need-still-first-requires (put-entries-claims t) (put-entries-at t) put-entries.Post put-entries-Inv-loop put-entries-μ-loop
 put-entries-still-first-requires t c κs = search needs
 
-put-entries-add-behind : (t : ℕ) → put-entries-lts.Need-add-behind (
-  token-of-reads.Asked,
-  token-of-reads.Learnt,
-  piece-of-reads.Asked,
-  piece-of-reads.Learnt,
-  put-token-below t,
-  put-token.Post,
-  still-first-reads.Asked,
-  still-first-reads.Learnt,
-  behind-reads.Asked,
-  behind-reads.Learnt,
-) (put-entries-at t) put-entries.Post put-entries-Inv-loop put-entries-μ-loop
+put-entries-add-behind : (t : ℕ) → put-entries-lts.Need-add-behind (put-entries-claims t) (put-entries-at t) put-entries.Post put-entries-Inv-loop put-entries-μ-loop
 put-entries-add-behind t c = omega arith
 
-put-entries-behind-requires : (t : ℕ) → put-entries-lts.Need-behind-requires (
-  token-of-reads.Asked,
-  token-of-reads.Learnt,
-  piece-of-reads.Asked,
-  piece-of-reads.Learnt,
-  put-token-below t,
-  put-token.Post,
-  still-first-reads.Asked,
-  still-first-reads.Learnt,
-  behind-reads.Asked,
-  behind-reads.Learnt,
-) (put-entries-at t) put-entries.Post put-entries-Inv-loop put-entries-μ-loop
+put-entries-behind-requires : (t : ℕ) → put-entries-lts.Need-behind-requires (put-entries-claims t) (put-entries-at t) put-entries.Post put-entries-Inv-loop put-entries-μ-loop
 put-entries-behind-requires t c κs = search needs
 
-put-entries-loop-less : (t : ℕ) → put-entries-lts.Need-loop-less (
-  token-of-reads.Asked,
-  token-of-reads.Learnt,
-  piece-of-reads.Asked,
-  piece-of-reads.Learnt,
-  put-token-below t,
-  put-token.Post,
-  still-first-reads.Asked,
-  still-first-reads.Learnt,
-  behind-reads.Asked,
-  behind-reads.Learnt,
-) (put-entries-at t) put-entries.Post put-entries-Inv-loop put-entries-μ-loop
+put-entries-loop-less : (t : ℕ) → put-entries-lts.Need-loop-less (put-entries-claims t) (put-entries-at t) put-entries.Post put-entries-Inv-loop put-entries-μ-loop
 put-entries-loop-less t c =
     let read = c .before .before .before .before .before .before in
     let in-loop = read .before .before in
@@ -234,18 +150,7 @@ put-entries-loop-less t c =
     let on = step-ahead ts (m .i) (args .end) (m .inv .range) h _ is _ (c .behind .ensures) in
     omega (arith, on .0)
 
-put-entries-loop-again : (t : ℕ) → put-entries-lts.Need-loop-again (
-  token-of-reads.Asked,
-  token-of-reads.Learnt,
-  piece-of-reads.Asked,
-  piece-of-reads.Learnt,
-  put-token-below t,
-  put-token.Post,
-  still-first-reads.Asked,
-  still-first-reads.Learnt,
-  behind-reads.Asked,
-  behind-reads.Learnt,
-) (put-entries-at t) put-entries.Post put-entries-Inv-loop put-entries-μ-loop
+put-entries-loop-again : (t : ℕ) → put-entries-lts.Need-loop-again (put-entries-claims t) (put-entries-at t) put-entries.Post put-entries-Inv-loop put-entries-μ-loop
 put-entries-loop-again t c =
     let read = c .before .before .before .before .before .before in
     let in-loop = read .before .before in
@@ -259,33 +164,32 @@ put-entries-loop-again t c =
     put-step _ _ _ _ _ _ _ _ _ _ _ _ (m .inv) h _ is _ (c .behind .ensures) (c .before .still-first .ensures) (entry-stays _) _ _
     (c .before .before .before .before .put-token .ensures) (c .before .before .before .before .put-token .kept .0)
 
-put-entries-same-length : (t : ℕ) → put-entries-lts.Need-same-length (
-  token-of-reads.Asked,
-  token-of-reads.Learnt,
-  piece-of-reads.Asked,
-  piece-of-reads.Learnt,
-  put-token-below t,
-  put-token.Post,
-  still-first-reads.Asked,
-  still-first-reads.Learnt,
-  behind-reads.Asked,
-  behind-reads.Learnt,
-) (put-entries-at t) put-entries.Post put-entries-Inv-loop put-entries-μ-loop
+put-entries-same-length : (t : ℕ) → put-entries-lts.Need-same-length (put-entries-claims t) (put-entries-at t) put-entries.Post put-entries-Inv-loop put-entries-μ-loop
 put-entries-same-length t c = c .before .loop .inv .same
 
-put-entries-returns : (t : ℕ) → put-entries-lts.Need-returns (
+put-entries-returns : (t : ℕ) → put-entries-lts.Need-returns (put-entries-claims t) (put-entries-at t) put-entries.Post put-entries-Inv-loop put-entries-μ-loop
+put-entries-returns t c = put-done _ _ _ _ _ _ _ _ _ _ _ _ (c .before .loop .inv) (c .loop-test .left)
+
+-- what `put_pairs` asks of its callees and learns from them, at the measure t
+abbrev put-pairs-claims : ℕ → put-pairs-lts.Claims
+put-pairs-claims t = (
   token-of-reads.Asked,
   token-of-reads.Learnt,
   piece-of-reads.Asked,
   piece-of-reads.Learnt,
+  is-mixed-reads.Asked,
+  is-mixed-reads.Learnt,
+  put-entries-below t,
+  put-entries.Post,
   put-token-below t,
   put-token.Post,
   still-first-reads.Asked,
   still-first-reads.Learnt,
+  due-after-reads.Asked,
+  due-after-reads.Learnt,
   behind-reads.Asked,
   behind-reads.Learnt,
-) (put-entries-at t) put-entries.Post put-entries-Inv-loop put-entries-μ-loop
-put-entries-returns t c = put-done _ _ _ _ _ _ _ _ _ _ _ _ (c .before .loop .inv) (c .loop-test .left)
+)
 
 abbrev put-pairs-Inv-loop : put-pairs-lts.InvT-loop
 put-pairs-Inv-loop out₀ at text words count from end i₀ next₀ first₀ due₀ out i next first due =
@@ -294,126 +198,24 @@ put-pairs-Inv-loop out₀ at text words count from end i₀ next₀ first₀ due
 abbrev put-pairs-μ-loop : put-pairs-lts.MeasureT-loop
 put-pairs-μ-loop out₀ at text words count from end i₀ next₀ first₀ due₀ out i next first due = end - i
 
-put-pairs-loop-holds : (t : ℕ) → put-pairs-lts.Need-loop-holds (
-  token-of-reads.Asked,
-  token-of-reads.Learnt,
-  piece-of-reads.Asked,
-  piece-of-reads.Learnt,
-  is-mixed-reads.Asked,
-  is-mixed-reads.Learnt,
-  put-entries-below t,
-  put-entries.Post,
-  put-token-below t,
-  put-token.Post,
-  still-first-reads.Asked,
-  still-first-reads.Learnt,
-  due-after-reads.Asked,
-  due-after-reads.Learnt,
-  behind-reads.Asked,
-  behind-reads.Learnt,
-) (put-pairs-at t) put-pairs.Post put-pairs-Inv-loop put-pairs-μ-loop
+put-pairs-loop-holds : (t : ℕ) → put-pairs-lts.Need-loop-holds (put-pairs-claims t) (put-pairs-at t) put-pairs.Post put-pairs-Inv-loop put-pairs-μ-loop
 put-pairs-loop-holds t c =
     let args = c .before .before .before .args in
     put-start _ (args .text .now) (args .out .now) (args .at) (args .from) (args .end) true Key (c .before .before .before .pre .1)
 
-put-pairs-token-of-requires : (t : ℕ) → put-pairs-lts.Need-token-of-requires (
-  token-of-reads.Asked,
-  token-of-reads.Learnt,
-  piece-of-reads.Asked,
-  piece-of-reads.Learnt,
-  is-mixed-reads.Asked,
-  is-mixed-reads.Learnt,
-  put-entries-below t,
-  put-entries.Post,
-  put-token-below t,
-  put-token.Post,
-  still-first-reads.Asked,
-  still-first-reads.Learnt,
-  due-after-reads.Asked,
-  due-after-reads.Learnt,
-  behind-reads.Asked,
-  behind-reads.Learnt,
-) (put-pairs-at t) put-pairs.Post put-pairs-Inv-loop put-pairs-μ-loop
+put-pairs-token-of-requires : (t : ℕ) → put-pairs-lts.Need-token-of-requires (put-pairs-claims t) (put-pairs-at t) put-pairs.Post put-pairs-Inv-loop put-pairs-μ-loop
 put-pairs-token-of-requires t c κs = search needs
 
-put-pairs-piece-of-requires : (t : ℕ) → put-pairs-lts.Need-piece-of-requires (
-  token-of-reads.Asked,
-  token-of-reads.Learnt,
-  piece-of-reads.Asked,
-  piece-of-reads.Learnt,
-  is-mixed-reads.Asked,
-  is-mixed-reads.Learnt,
-  put-entries-below t,
-  put-entries.Post,
-  put-token-below t,
-  put-token.Post,
-  still-first-reads.Asked,
-  still-first-reads.Learnt,
-  due-after-reads.Asked,
-  due-after-reads.Learnt,
-  behind-reads.Asked,
-  behind-reads.Learnt,
-) (put-pairs-at t) put-pairs.Post put-pairs-Inv-loop put-pairs-μ-loop
+put-pairs-piece-of-requires : (t : ℕ) → put-pairs-lts.Need-piece-of-requires (put-pairs-claims t) (put-pairs-at t) put-pairs.Post put-pairs-Inv-loop put-pairs-μ-loop
 put-pairs-piece-of-requires t c κs = search needs
 
-put-pairs-is-mixed-requires : (t : ℕ) → put-pairs-lts.Need-is-mixed-requires (
-  token-of-reads.Asked,
-  token-of-reads.Learnt,
-  piece-of-reads.Asked,
-  piece-of-reads.Learnt,
-  is-mixed-reads.Asked,
-  is-mixed-reads.Learnt,
-  put-entries-below t,
-  put-entries.Post,
-  put-token-below t,
-  put-token.Post,
-  still-first-reads.Asked,
-  still-first-reads.Learnt,
-  due-after-reads.Asked,
-  due-after-reads.Learnt,
-  behind-reads.Asked,
-  behind-reads.Learnt,
-) (put-pairs-at t) put-pairs.Post put-pairs-Inv-loop put-pairs-μ-loop
+put-pairs-is-mixed-requires : (t : ℕ) → put-pairs-lts.Need-is-mixed-requires (put-pairs-claims t) (put-pairs-at t) put-pairs.Post put-pairs-Inv-loop put-pairs-μ-loop
 put-pairs-is-mixed-requires t c κs = search needs
 
-put-pairs-add-put-entries : (t : ℕ) → put-pairs-lts.Need-add-put-entries (
-  token-of-reads.Asked,
-  token-of-reads.Learnt,
-  piece-of-reads.Asked,
-  piece-of-reads.Learnt,
-  is-mixed-reads.Asked,
-  is-mixed-reads.Learnt,
-  put-entries-below t,
-  put-entries.Post,
-  put-token-below t,
-  put-token.Post,
-  still-first-reads.Asked,
-  still-first-reads.Learnt,
-  due-after-reads.Asked,
-  due-after-reads.Learnt,
-  behind-reads.Asked,
-  behind-reads.Learnt,
-) (put-pairs-at t) put-pairs.Post put-pairs-Inv-loop put-pairs-μ-loop
+put-pairs-add-put-entries : (t : ℕ) → put-pairs-lts.Need-add-put-entries (put-pairs-claims t) (put-pairs-at t) put-pairs.Post put-pairs-Inv-loop put-pairs-μ-loop
 put-pairs-add-put-entries t c = omega arith
 
-put-pairs-put-entries-requires : (t : ℕ) → put-pairs-lts.Need-put-entries-requires (
-  token-of-reads.Asked,
-  token-of-reads.Learnt,
-  piece-of-reads.Asked,
-  piece-of-reads.Learnt,
-  is-mixed-reads.Asked,
-  is-mixed-reads.Learnt,
-  put-entries-below t,
-  put-entries.Post,
-  put-token-below t,
-  put-token.Post,
-  still-first-reads.Asked,
-  still-first-reads.Learnt,
-  due-after-reads.Asked,
-  due-after-reads.Learnt,
-  behind-reads.Asked,
-  behind-reads.Learnt,
-) (put-pairs-at t) put-pairs.Post put-pairs-Inv-loop put-pairs-μ-loop
+put-pairs-put-entries-requires : (t : ℕ) → put-pairs-lts.Need-put-entries-requires (put-pairs-claims t) (put-pairs-at t) put-pairs.Post put-pairs-Inv-loop put-pairs-μ-loop
 put-pairs-put-entries-requires t c =
     let read = c .before .before .before in
     let in-loop = read .before .before in
@@ -429,45 +231,11 @@ put-pairs-put-entries-requires t c =
       mixed-range ts (m .i) (args .end) (m .inv .range) h _ is (c .before .before .is-mixed .ensures) (c .before .if1 .taken),
     )
 
-put-pairs-same-length : (t : ℕ) → put-pairs-lts.Need-same-length (
-  token-of-reads.Asked,
-  token-of-reads.Learnt,
-  piece-of-reads.Asked,
-  piece-of-reads.Learnt,
-  is-mixed-reads.Asked,
-  is-mixed-reads.Learnt,
-  put-entries-below t,
-  put-entries.Post,
-  put-token-below t,
-  put-token.Post,
-  still-first-reads.Asked,
-  still-first-reads.Learnt,
-  due-after-reads.Asked,
-  due-after-reads.Learnt,
-  behind-reads.Asked,
-  behind-reads.Learnt,
-) (put-pairs-at t) put-pairs.Post put-pairs-Inv-loop put-pairs-μ-loop
+put-pairs-same-length : (t : ℕ) → put-pairs-lts.Need-same-length (put-pairs-claims t) (put-pairs-at t) put-pairs.Post put-pairs-Inv-loop put-pairs-μ-loop
 put-pairs-same-length t c =
     c .before .before .put-entries .kept .0 ∙ c .before .before .before .before .before .before .before .before .before .loop .inv .same
 
-put-pairs-returns : (t : ℕ) → put-pairs-lts.Need-returns (
-  token-of-reads.Asked,
-  token-of-reads.Learnt,
-  piece-of-reads.Asked,
-  piece-of-reads.Learnt,
-  is-mixed-reads.Asked,
-  is-mixed-reads.Learnt,
-  put-entries-below t,
-  put-entries.Post,
-  put-token-below t,
-  put-token.Post,
-  still-first-reads.Asked,
-  still-first-reads.Learnt,
-  due-after-reads.Asked,
-  due-after-reads.Learnt,
-  behind-reads.Asked,
-  behind-reads.Learnt,
-) (put-pairs-at t) put-pairs.Post put-pairs-Inv-loop put-pairs-μ-loop
+put-pairs-returns : (t : ℕ) → put-pairs-lts.Need-returns (put-pairs-claims t) (put-pairs-at t) put-pairs.Post put-pairs-Inv-loop put-pairs-μ-loop
 put-pairs-returns t c =
     let read = c .before .before .before .before .before .before in
     let in-loop = read .before .before in
@@ -481,44 +249,10 @@ put-pairs-returns t c =
     put-rest _ _ _ _ _ _ _ _ _ _ _ _ (m .inv) h _ is (c .before .before .before .before .before .is-mixed .ensures)
     (c .before .before .before .before .if1 .taken) (c .before .before .put-entries .ensures)
 
-put-pairs-add-put-token : (t : ℕ) → put-pairs-lts.Need-add-put-token (
-  token-of-reads.Asked,
-  token-of-reads.Learnt,
-  piece-of-reads.Asked,
-  piece-of-reads.Learnt,
-  is-mixed-reads.Asked,
-  is-mixed-reads.Learnt,
-  put-entries-below t,
-  put-entries.Post,
-  put-token-below t,
-  put-token.Post,
-  still-first-reads.Asked,
-  still-first-reads.Learnt,
-  due-after-reads.Asked,
-  due-after-reads.Learnt,
-  behind-reads.Asked,
-  behind-reads.Learnt,
-) (put-pairs-at t) put-pairs.Post put-pairs-Inv-loop put-pairs-μ-loop
+put-pairs-add-put-token : (t : ℕ) → put-pairs-lts.Need-add-put-token (put-pairs-claims t) (put-pairs-at t) put-pairs.Post put-pairs-Inv-loop put-pairs-μ-loop
 put-pairs-add-put-token t c = omega arith
 
-put-pairs-put-token-requires : (t : ℕ) → put-pairs-lts.Need-put-token-requires (
-  token-of-reads.Asked,
-  token-of-reads.Learnt,
-  piece-of-reads.Asked,
-  piece-of-reads.Learnt,
-  is-mixed-reads.Asked,
-  is-mixed-reads.Learnt,
-  put-entries-below t,
-  put-entries.Post,
-  put-token-below t,
-  put-token.Post,
-  still-first-reads.Asked,
-  still-first-reads.Learnt,
-  due-after-reads.Asked,
-  due-after-reads.Learnt,
-  behind-reads.Asked,
-  behind-reads.Learnt,
-) (put-pairs-at t) put-pairs.Post put-pairs-Inv-loop put-pairs-μ-loop
+put-pairs-put-token-requires : (t : ℕ) → put-pairs-lts.Need-put-token-requires (put-pairs-claims t) (put-pairs-at t) put-pairs.Post put-pairs-Inv-loop put-pairs-μ-loop
 put-pairs-put-token-requires t c =
     let read = c .before .before .before in
     let in-loop = read .before .before in
@@ -534,104 +268,19 @@ put-pairs-put-token-requires t c =
       step-inside ts (m .i) (args .end) (m .inv .range) h _ is,
     )
 
-put-pairs-still-first-requires : (t : ℕ) → put-pairs-lts.Need-still-first-requires (
-  token-of-reads.Asked,
-  token-of-reads.Learnt,
-  piece-of-reads.Asked,
-  piece-of-reads.Learnt,
-  is-mixed-reads.Asked,
-  is-mixed-reads.Learnt,
-  put-entries-below t,
-  put-entries.Post,
-  put-token-below t,
-  put-token.Post,
-  still-first-reads.Asked,
-  still-first-reads.Learnt,
-  due-after-reads.Asked,
-  due-after-reads.Learnt,
-  behind-reads.Asked,
-  behind-reads.Learnt,
-) (put-pairs-at t) put-pairs.Post put-pairs-Inv-loop put-pairs-μ-loop
+put-pairs-still-first-requires : (t : ℕ) → put-pairs-lts.Need-still-first-requires (put-pairs-claims t) (put-pairs-at t) put-pairs.Post put-pairs-Inv-loop put-pairs-μ-loop
 put-pairs-still-first-requires t c κs = search needs
 
-put-pairs-due-after-requires : (t : ℕ) → put-pairs-lts.Need-due-after-requires (
-  token-of-reads.Asked,
-  token-of-reads.Learnt,
-  piece-of-reads.Asked,
-  piece-of-reads.Learnt,
-  is-mixed-reads.Asked,
-  is-mixed-reads.Learnt,
-  put-entries-below t,
-  put-entries.Post,
-  put-token-below t,
-  put-token.Post,
-  still-first-reads.Asked,
-  still-first-reads.Learnt,
-  due-after-reads.Asked,
-  due-after-reads.Learnt,
-  behind-reads.Asked,
-  behind-reads.Learnt,
-) (put-pairs-at t) put-pairs.Post put-pairs-Inv-loop put-pairs-μ-loop
+put-pairs-due-after-requires : (t : ℕ) → put-pairs-lts.Need-due-after-requires (put-pairs-claims t) (put-pairs-at t) put-pairs.Post put-pairs-Inv-loop put-pairs-μ-loop
 put-pairs-due-after-requires t c κs = search needs
 
-put-pairs-add-behind : (t : ℕ) → put-pairs-lts.Need-add-behind (
-  token-of-reads.Asked,
-  token-of-reads.Learnt,
-  piece-of-reads.Asked,
-  piece-of-reads.Learnt,
-  is-mixed-reads.Asked,
-  is-mixed-reads.Learnt,
-  put-entries-below t,
-  put-entries.Post,
-  put-token-below t,
-  put-token.Post,
-  still-first-reads.Asked,
-  still-first-reads.Learnt,
-  due-after-reads.Asked,
-  due-after-reads.Learnt,
-  behind-reads.Asked,
-  behind-reads.Learnt,
-) (put-pairs-at t) put-pairs.Post put-pairs-Inv-loop put-pairs-μ-loop
+put-pairs-add-behind : (t : ℕ) → put-pairs-lts.Need-add-behind (put-pairs-claims t) (put-pairs-at t) put-pairs.Post put-pairs-Inv-loop put-pairs-μ-loop
 put-pairs-add-behind t c = omega arith
 
-put-pairs-behind-requires : (t : ℕ) → put-pairs-lts.Need-behind-requires (
-  token-of-reads.Asked,
-  token-of-reads.Learnt,
-  piece-of-reads.Asked,
-  piece-of-reads.Learnt,
-  is-mixed-reads.Asked,
-  is-mixed-reads.Learnt,
-  put-entries-below t,
-  put-entries.Post,
-  put-token-below t,
-  put-token.Post,
-  still-first-reads.Asked,
-  still-first-reads.Learnt,
-  due-after-reads.Asked,
-  due-after-reads.Learnt,
-  behind-reads.Asked,
-  behind-reads.Learnt,
-) (put-pairs-at t) put-pairs.Post put-pairs-Inv-loop put-pairs-μ-loop
+put-pairs-behind-requires : (t : ℕ) → put-pairs-lts.Need-behind-requires (put-pairs-claims t) (put-pairs-at t) put-pairs.Post put-pairs-Inv-loop put-pairs-μ-loop
 put-pairs-behind-requires t c κs = search needs
 
-put-pairs-loop-less : (t : ℕ) → put-pairs-lts.Need-loop-less (
-  token-of-reads.Asked,
-  token-of-reads.Learnt,
-  piece-of-reads.Asked,
-  piece-of-reads.Learnt,
-  is-mixed-reads.Asked,
-  is-mixed-reads.Learnt,
-  put-entries-below t,
-  put-entries.Post,
-  put-token-below t,
-  put-token.Post,
-  still-first-reads.Asked,
-  still-first-reads.Learnt,
-  due-after-reads.Asked,
-  due-after-reads.Learnt,
-  behind-reads.Asked,
-  behind-reads.Learnt,
-) (put-pairs-at t) put-pairs.Post put-pairs-Inv-loop put-pairs-μ-loop
+put-pairs-loop-less : (t : ℕ) → put-pairs-lts.Need-loop-less (put-pairs-claims t) (put-pairs-at t) put-pairs.Post put-pairs-Inv-loop put-pairs-μ-loop
 put-pairs-loop-less t c =
     let read = c .before .before .before .before .before .before .before .before .before in
     let in-loop = read .before .before in
@@ -645,24 +294,7 @@ put-pairs-loop-less t c =
     let on = step-ahead ts (m .i) (args .end) (m .inv .range) h _ is _ (c .behind .ensures) in
     omega (arith, on .0)
 
-put-pairs-loop-again : (t : ℕ) → put-pairs-lts.Need-loop-again (
-  token-of-reads.Asked,
-  token-of-reads.Learnt,
-  piece-of-reads.Asked,
-  piece-of-reads.Learnt,
-  is-mixed-reads.Asked,
-  is-mixed-reads.Learnt,
-  put-entries-below t,
-  put-entries.Post,
-  put-token-below t,
-  put-token.Post,
-  still-first-reads.Asked,
-  still-first-reads.Learnt,
-  due-after-reads.Asked,
-  due-after-reads.Learnt,
-  behind-reads.Asked,
-  behind-reads.Learnt,
-) (put-pairs-at t) put-pairs.Post put-pairs-Inv-loop put-pairs-μ-loop
+put-pairs-loop-again : (t : ℕ) → put-pairs-lts.Need-loop-again (put-pairs-claims t) (put-pairs-at t) put-pairs.Post put-pairs-Inv-loop put-pairs-μ-loop
 put-pairs-loop-again t c =
     let read = c .before .before .before .before .before .before .before .before .before in
     let in-loop = read .before .before in
@@ -676,47 +308,15 @@ put-pairs-loop-again t c =
     put-step _ _ _ _ _ _ _ _ _ _ _ _ (m .inv) h _ is _ (c .behind .ensures) (c .before .before .still-first .ensures) (c .before .due-after .ensures) _ _
     (c .before .before .before .before .before .put-token .ensures) (c .before .before .before .before .before .put-token .kept .0)
 
-put-pairs-same-length-2 : (t : ℕ) → put-pairs-lts.Need-same-length-2 (
-  token-of-reads.Asked,
-  token-of-reads.Learnt,
-  piece-of-reads.Asked,
-  piece-of-reads.Learnt,
-  is-mixed-reads.Asked,
-  is-mixed-reads.Learnt,
-  put-entries-below t,
-  put-entries.Post,
-  put-token-below t,
-  put-token.Post,
-  still-first-reads.Asked,
-  still-first-reads.Learnt,
-  due-after-reads.Asked,
-  due-after-reads.Learnt,
-  behind-reads.Asked,
-  behind-reads.Learnt,
-) (put-pairs-at t) put-pairs.Post put-pairs-Inv-loop put-pairs-μ-loop
+put-pairs-same-length-2 : (t : ℕ) → put-pairs-lts.Need-same-length-2 (put-pairs-claims t) (put-pairs-at t) put-pairs.Post put-pairs-Inv-loop put-pairs-μ-loop
 put-pairs-same-length-2 t c = c .before .loop .inv .same
 
-put-pairs-returns-2 : (t : ℕ) → put-pairs-lts.Need-returns-2 (
-  token-of-reads.Asked,
-  token-of-reads.Learnt,
-  piece-of-reads.Asked,
-  piece-of-reads.Learnt,
-  is-mixed-reads.Asked,
-  is-mixed-reads.Learnt,
-  put-entries-below t,
-  put-entries.Post,
-  put-token-below t,
-  put-token.Post,
-  still-first-reads.Asked,
-  still-first-reads.Learnt,
-  due-after-reads.Asked,
-  due-after-reads.Learnt,
-  behind-reads.Asked,
-  behind-reads.Learnt,
-) (put-pairs-at t) put-pairs.Post put-pairs-Inv-loop put-pairs-μ-loop
+put-pairs-returns-2 : (t : ℕ) → put-pairs-lts.Need-returns-2 (put-pairs-claims t) (put-pairs-at t) put-pairs.Post put-pairs-Inv-loop put-pairs-μ-loop
 put-pairs-returns-2 t c = put-done _ _ _ _ _ _ _ _ _ _ _ _ (c .before .loop .inv) (c .loop-test .left)
 
-put-token-enum-known-piece : (t : ℕ) → put-token-lts.Need-enum-known-piece (
+-- what `put_token` asks of its callees and learns from them, at the measure t
+abbrev put-token-claims : ℕ → put-token-lts.Claims
+put-token-claims t = (
   put-piece-reads.Asked,
   put-piece-reads.Learnt,
   put-lead-reads.Asked,
@@ -727,123 +327,37 @@ put-token-enum-known-piece : (t : ℕ) → put-token-lts.Need-enum-known-piece (
   put-entries.Post,
   put-pairs-below t,
   put-pairs.Post,
-) (put-token-at t) put-token.Post
+)
+
+put-token-enum-known-piece : (t : ℕ) → put-token-lts.Need-enum-known-piece (put-token-claims t) (put-token-at t) put-token.Post
 put-token-enum-known-piece t c = search needs
 
-put-token-put-piece-requires : (t : ℕ) → put-token-lts.Need-put-piece-requires (
-  put-piece-reads.Asked,
-  put-piece-reads.Learnt,
-  put-lead-reads.Asked,
-  put-lead-reads.Learnt,
-  put-byte-reads.Asked,
-  put-byte-reads.Learnt,
-  put-entries-below t,
-  put-entries.Post,
-  put-pairs-below t,
-  put-pairs.Post,
-) (put-token-at t) put-token.Post
+put-token-put-piece-requires : (t : ℕ) → put-token-lts.Need-put-piece-requires (put-token-claims t) (put-token-at t) put-token.Post
 put-token-put-piece-requires t c κs = search needs
 
-put-token-same-length : (t : ℕ) → put-token-lts.Need-same-length (
-  put-piece-reads.Asked,
-  put-piece-reads.Learnt,
-  put-lead-reads.Asked,
-  put-lead-reads.Learnt,
-  put-byte-reads.Asked,
-  put-byte-reads.Learnt,
-  put-entries-below t,
-  put-entries.Post,
-  put-pairs-below t,
-  put-pairs.Post,
-) (put-token-at t) put-token.Post
+put-token-same-length : (t : ℕ) → put-token-lts.Need-same-length (put-token-claims t) (put-token-at t) put-token.Post
 put-token-same-length t c = search needs
 
-put-token-returns : (t : ℕ) → put-token-lts.Need-returns (
-  put-piece-reads.Asked,
-  put-piece-reads.Learnt,
-  put-lead-reads.Asked,
-  put-lead-reads.Learnt,
-  put-byte-reads.Asked,
-  put-byte-reads.Learnt,
-  put-entries-below t,
-  put-entries.Post,
-  put-pairs-below t,
-  put-pairs.Post,
-) (put-token-at t) put-token.Post
+put-token-returns : (t : ℕ) → put-token-lts.Need-returns (put-token-claims t) (put-token-at t) put-token.Post
 put-token-returns t c =
     let args = c .before .before .before .before .before .before .before .before .args in
     let ts : List Token = tokens-in (args .words .now) (args .count) in
     same-bytes (args .out .now) (args .at) _ _ (c .before .before .put-piece .ensures)
     (sym (bare-text (not-opener (args .piece) (c .before .before .before .before .match .keys2)) (args .text .now) ts (args .from) (args .first) (args .due)))
 
-put-token-put-lead-requires : (t : ℕ) → put-token-lts.Need-put-lead-requires (
-  put-piece-reads.Asked,
-  put-piece-reads.Learnt,
-  put-lead-reads.Asked,
-  put-lead-reads.Learnt,
-  put-byte-reads.Asked,
-  put-byte-reads.Learnt,
-  put-entries-below t,
-  put-entries.Post,
-  put-pairs-below t,
-  put-pairs.Post,
-) (put-token-at t) put-token.Post
+put-token-put-lead-requires : (t : ℕ) → put-token-lts.Need-put-lead-requires (put-token-claims t) (put-token-at t) put-token.Post
 put-token-put-lead-requires t c κs = search needs
 
-put-token-put-byte-requires : (t : ℕ) → put-token-lts.Need-put-byte-requires (
-  put-piece-reads.Asked,
-  put-piece-reads.Learnt,
-  put-lead-reads.Asked,
-  put-lead-reads.Learnt,
-  put-byte-reads.Asked,
-  put-byte-reads.Learnt,
-  put-entries-below t,
-  put-entries.Post,
-  put-pairs-below t,
-  put-pairs.Post,
-) (put-token-at t) put-token.Post
+put-token-put-byte-requires : (t : ℕ) → put-token-lts.Need-put-byte-requires (put-token-claims t) (put-token-at t) put-token.Post
 put-token-put-byte-requires t c κs = search needs
 
-put-token-enum-told : (t : ℕ) → put-token-lts.Need-enum-told (
-  put-piece-reads.Asked,
-  put-piece-reads.Learnt,
-  put-lead-reads.Asked,
-  put-lead-reads.Learnt,
-  put-byte-reads.Asked,
-  put-byte-reads.Learnt,
-  put-entries-below t,
-  put-entries.Post,
-  put-pairs-below t,
-  put-pairs.Post,
-) (put-token-at t) put-token.Post
+put-token-enum-told : (t : ℕ) → put-token-lts.Need-enum-told (put-token-claims t) (put-token-at t) put-token.Post
 put-token-enum-told t c = search needs
 
-put-token-cast-put-entries : (t : ℕ) → put-token-lts.Need-cast-put-entries (
-  put-piece-reads.Asked,
-  put-piece-reads.Learnt,
-  put-lead-reads.Asked,
-  put-lead-reads.Learnt,
-  put-byte-reads.Asked,
-  put-byte-reads.Learnt,
-  put-entries-below t,
-  put-entries.Post,
-  put-pairs-below t,
-  put-pairs.Post,
-) (put-token-at t) put-token.Post
+put-token-cast-put-entries : (t : ℕ) → put-token-lts.Need-cast-put-entries (put-token-claims t) (put-token-at t) put-token.Post
 put-token-cast-put-entries t c = search needs
 
-put-token-put-entries-requires : (t : ℕ) → put-token-lts.Need-put-entries-requires (
-  put-piece-reads.Asked,
-  put-piece-reads.Learnt,
-  put-lead-reads.Asked,
-  put-lead-reads.Learnt,
-  put-byte-reads.Asked,
-  put-byte-reads.Learnt,
-  put-entries-below t,
-  put-entries.Post,
-  put-pairs-below t,
-  put-pairs.Post,
-) (put-token-at t) put-token.Post
+put-token-put-entries-requires : (t : ℕ) → put-token-lts.Need-put-entries-requires (put-token-claims t) (put-token-at t) put-token.Post
 put-token-put-entries-requires t c =
     let known = c .before .before .before .before .before .before .before .before .before .before .before .before in
     let start = known .before .before .before .before .before in
@@ -852,60 +366,16 @@ put-token-put-entries-requires t c =
     let opened = known .piece .given .1 in
     λ κs. (enters (args .piece) (args .from) opened (start .pre .0), enters-range ts (args .piece) (args .from) opened (start .pre .1))
 
-put-token-put-byte-requires-2 : (t : ℕ) → put-token-lts.Need-put-byte-requires-2 (
-  put-piece-reads.Asked,
-  put-piece-reads.Learnt,
-  put-lead-reads.Asked,
-  put-lead-reads.Learnt,
-  put-byte-reads.Asked,
-  put-byte-reads.Learnt,
-  put-entries-below t,
-  put-entries.Post,
-  put-pairs-below t,
-  put-pairs.Post,
-) (put-token-at t) put-token.Post
+put-token-put-byte-requires-2 : (t : ℕ) → put-token-lts.Need-put-byte-requires-2 (put-token-claims t) (put-token-at t) put-token.Post
 put-token-put-byte-requires-2 t c κs = search needs
 
-put-token-enum-told-2 : (t : ℕ) → put-token-lts.Need-enum-told-2 (
-  put-piece-reads.Asked,
-  put-piece-reads.Learnt,
-  put-lead-reads.Asked,
-  put-lead-reads.Learnt,
-  put-byte-reads.Asked,
-  put-byte-reads.Learnt,
-  put-entries-below t,
-  put-entries.Post,
-  put-pairs-below t,
-  put-pairs.Post,
-) (put-token-at t) put-token.Post
+put-token-enum-told-2 : (t : ℕ) → put-token-lts.Need-enum-told-2 (put-token-claims t) (put-token-at t) put-token.Post
 put-token-enum-told-2 t c = search needs
 
-put-token-cast-put-pairs : (t : ℕ) → put-token-lts.Need-cast-put-pairs (
-  put-piece-reads.Asked,
-  put-piece-reads.Learnt,
-  put-lead-reads.Asked,
-  put-lead-reads.Learnt,
-  put-byte-reads.Asked,
-  put-byte-reads.Learnt,
-  put-entries-below t,
-  put-entries.Post,
-  put-pairs-below t,
-  put-pairs.Post,
-) (put-token-at t) put-token.Post
+put-token-cast-put-pairs : (t : ℕ) → put-token-lts.Need-cast-put-pairs (put-token-claims t) (put-token-at t) put-token.Post
 put-token-cast-put-pairs t c = search needs
 
-put-token-put-pairs-requires : (t : ℕ) → put-token-lts.Need-put-pairs-requires (
-  put-piece-reads.Asked,
-  put-piece-reads.Learnt,
-  put-lead-reads.Asked,
-  put-lead-reads.Learnt,
-  put-byte-reads.Asked,
-  put-byte-reads.Learnt,
-  put-entries-below t,
-  put-entries.Post,
-  put-pairs-below t,
-  put-pairs.Post,
-) (put-token-at t) put-token.Post
+put-token-put-pairs-requires : (t : ℕ) → put-token-lts.Need-put-pairs-requires (put-token-claims t) (put-token-at t) put-token.Post
 put-token-put-pairs-requires t c =
     let known = c .before .before .before .before .before .before .before .before .before .before .before .before in
     let start = known .before .before .before .before .before in
@@ -914,46 +384,13 @@ put-token-put-pairs-requires t c =
     let opened = known .piece .given .1 in
     λ κs. (enters (args .piece) (args .from) opened (start .pre .0), enters-range ts (args .piece) (args .from) opened (start .pre .1))
 
-put-token-put-byte-requires-3 : (t : ℕ) → put-token-lts.Need-put-byte-requires-3 (
-  put-piece-reads.Asked,
-  put-piece-reads.Learnt,
-  put-lead-reads.Asked,
-  put-lead-reads.Learnt,
-  put-byte-reads.Asked,
-  put-byte-reads.Learnt,
-  put-entries-below t,
-  put-entries.Post,
-  put-pairs-below t,
-  put-pairs.Post,
-) (put-token-at t) put-token.Post
+put-token-put-byte-requires-3 : (t : ℕ) → put-token-lts.Need-put-byte-requires-3 (put-token-claims t) (put-token-at t) put-token.Post
 put-token-put-byte-requires-3 t c κs = search needs
 
-put-token-same-length-2 : (t : ℕ) → put-token-lts.Need-same-length-2 (
-  put-piece-reads.Asked,
-  put-piece-reads.Learnt,
-  put-lead-reads.Asked,
-  put-lead-reads.Learnt,
-  put-byte-reads.Asked,
-  put-byte-reads.Learnt,
-  put-entries-below t,
-  put-entries.Post,
-  put-pairs-below t,
-  put-pairs.Post,
-) (put-token-at t) put-token.Post
+put-token-same-length-2 : (t : ℕ) → put-token-lts.Need-same-length-2 (put-token-claims t) (put-token-at t) put-token.Post
 put-token-same-length-2 t c = search needs
 
-put-token-returns-2 : (t : ℕ) → put-token-lts.Need-returns-2 (
-  put-piece-reads.Asked,
-  put-piece-reads.Learnt,
-  put-lead-reads.Asked,
-  put-lead-reads.Learnt,
-  put-byte-reads.Asked,
-  put-byte-reads.Learnt,
-  put-entries-below t,
-  put-entries.Post,
-  put-pairs-below t,
-  put-pairs.Post,
-) (put-token-at t) put-token.Post
+put-token-returns-2 : (t : ℕ) → put-token-lts.Need-returns-2 (put-token-claims t) (put-token-at t) put-token.Post
 unfolding token-text
 put-token-returns-2 t c =
     let brace = c .before .before .before .before .before .before .before .before .before .before .before .before in
@@ -968,32 +405,10 @@ put-token-returns-2 t c =
     (c .before .before .before .before .before .before .put-entries .ensures) (c .before .before .put-byte2 .ensures))
     opened
 
-put-token-same-length-3 : (t : ℕ) → put-token-lts.Need-same-length-3 (
-  put-piece-reads.Asked,
-  put-piece-reads.Learnt,
-  put-lead-reads.Asked,
-  put-lead-reads.Learnt,
-  put-byte-reads.Asked,
-  put-byte-reads.Learnt,
-  put-entries-below t,
-  put-entries.Post,
-  put-pairs-below t,
-  put-pairs.Post,
-) (put-token-at t) put-token.Post
+put-token-same-length-3 : (t : ℕ) → put-token-lts.Need-same-length-3 (put-token-claims t) (put-token-at t) put-token.Post
 put-token-same-length-3 t c = search needs
 
-put-token-returns-3 : (t : ℕ) → put-token-lts.Need-returns-3 (
-  put-piece-reads.Asked,
-  put-piece-reads.Learnt,
-  put-lead-reads.Asked,
-  put-lead-reads.Learnt,
-  put-byte-reads.Asked,
-  put-byte-reads.Learnt,
-  put-entries-below t,
-  put-entries.Post,
-  put-pairs-below t,
-  put-pairs.Post,
-) (put-token-at t) put-token.Post
+put-token-returns-3 : (t : ℕ) → put-token-lts.Need-returns-3 (put-token-claims t) (put-token-at t) put-token.Post
 unfolding token-text
 put-token-returns-3 t c =
     let brace = c .before .before .before .before .before .before .before .before .before .before .before .before in
@@ -1010,18 +425,7 @@ put-token-returns-3 t c =
 
 pub +put-entries+put-pairs+put-token-spec : {M : Type 1} → statement M
 +put-entries+put-pairs+put-token-spec =
-    close μ-put-entries μ-put-pairs μ-put-token (λ t. put-entries-lts.spec (
-      token-of-reads.Asked,
-      token-of-reads.Learnt,
-      piece-of-reads.Asked,
-      piece-of-reads.Learnt,
-      put-token-below t,
-      put-token.Post,
-      still-first-reads.Asked,
-      still-first-reads.Learnt,
-      behind-reads.Asked,
-      behind-reads.Learnt,
-    )
+    close μ-put-entries μ-put-pairs μ-put-token (λ t. put-entries-lts.spec (put-entries-claims t)
     (put-entries-at t)
     put-entries.Post
     put-entries-Inv-loop
@@ -1038,24 +442,7 @@ pub +put-entries+put-pairs+put-token-spec : {M : Type 1} → statement M
     (put-entries-loop-again t)
     (put-entries-same-length t)
     (put-entries-returns t))
-    (λ t. put-pairs-lts.spec (
-      token-of-reads.Asked,
-      token-of-reads.Learnt,
-      piece-of-reads.Asked,
-      piece-of-reads.Learnt,
-      is-mixed-reads.Asked,
-      is-mixed-reads.Learnt,
-      put-entries-below t,
-      put-entries.Post,
-      put-token-below t,
-      put-token.Post,
-      still-first-reads.Asked,
-      still-first-reads.Learnt,
-      due-after-reads.Asked,
-      due-after-reads.Learnt,
-      behind-reads.Asked,
-      behind-reads.Learnt,
-    )
+    (λ t. put-pairs-lts.spec (put-pairs-claims t)
     (put-pairs-at t)
     put-pairs.Post
     put-pairs-Inv-loop
@@ -1078,18 +465,7 @@ pub +put-entries+put-pairs+put-token-spec : {M : Type 1} → statement M
     (put-pairs-loop-again t)
     (put-pairs-same-length-2 t)
     (put-pairs-returns-2 t))
-    λ t. put-token-lts.spec (
-      put-piece-reads.Asked,
-      put-piece-reads.Learnt,
-      put-lead-reads.Asked,
-      put-lead-reads.Learnt,
-      put-byte-reads.Asked,
-      put-byte-reads.Learnt,
-      put-entries-below t,
-      put-entries.Post,
-      put-pairs-below t,
-      put-pairs.Post,
-    )
+    λ t. put-token-lts.spec (put-token-claims t)
     (put-token-at t)
     put-token.Post
     (put-token-enum-known-piece t)
