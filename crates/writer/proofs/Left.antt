@@ -1,7 +1,7 @@
 -- What is left in what was lent.
 -- Assumes nothing.
-use mathlib.Core.Path.{_≡_, refl, sym, _∙_, ap}
-use mathlib.Core.Bool.{Bool, false}
+use mathlib.Core.Path.{_≡_, _∙_, ap}
+use mathlib.Core.Bool.{Bool}
 use mathlib.Core.List.{List, _++_}
 use Prim.Native.Nat.{ℕ, _-_}
 use native.Mathlib.Nat.{sub-zero}
@@ -9,9 +9,8 @@ use lib.ListN.{length, take, replicate}
 use Rattle.tape.specs.declared.token.Token.{Token}
 use Rattle.tape.specs.Words.{tokens-in, words-of, padded, cleared}
 use Rattle.machine.specs.declared.Parsed.{Parsed}
-use Rattle.machine.specs.declared.Parsed.the-variants.{Tokens, Refused}
-use Rattle.machine.specs.declared.Refusal as parsing
-use Rattle.machine.specs.Finish.{Outcome, outcome}
+use Rattle.machine.specs.declared.Parsed.the-variants.{Tokens}
+use Rattle.machine.specs.Finish.{outcome}
 use Rattle.writer.specs.Alike.{found-alike, comes-back}
 use Rattle.writer.specs.declared.Refusal.{Refusal}
 use Rattle.writer.specs.declared.Written.the-variants as Written
@@ -28,13 +27,10 @@ pub buffer-cleared : (bytes : List ℕ) {out : List ℕ} {n : ℕ} → out ≡ t
     → out ≡ zeros n
 buffer-cleared bytes e h = e ∙ ap zeros (sub-zero (length bytes) ∙ h)
 
--- what a parse tells of the way back
-module _ (text other : List ℕ) (ts : List Token) {p : Parsed} {tape : List ℕ} {o : Outcome} (told : outcome p tape ≡ o) where
-  pub back-found : {n : ℕ} {bom r : Bool} → p ≡ Tokens n bom → r ≡ found-alike text other ts n tape → r ≡ comes-back text other ts o
-  back-found f g = as-told (comes-back text other ts) g (sym told ∙ ap (λ (q : Parsed). outcome q tape) f)
-
-  pub back-refused : {why : parsing.Refusal} → p ≡ Refused why → false ≡ comes-back text other ts o
-  back-refused f = as-told (comes-back text other ts) refl (sym told ∙ ap (λ (q : Parsed). outcome q tape) f)
+-- a parse that found tokens tells what they tell
+pub back-found : (text other : List ℕ) (ts : List Token) (tape : List ℕ) {p : Parsed} {n : ℕ} {bom r : Bool} → p ≡ Tokens n bom
+    → r ≡ found-alike text other ts n tape → r ≡ comes-back text other ts (outcome p tape)
+back-found text other ts tape told e = as-told (λ (q : Parsed). comes-back text other ts (outcome q tape)) e told
 
 -- a refusal over what is all zero
 pub refused-left : (why : Refusal) (room scratch : ℕ) {out tape : List ℕ} → out ≡ zeros room → tape ≡ zeros scratch

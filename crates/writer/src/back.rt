@@ -9,6 +9,7 @@ ghost use mathlib.Core.Path.{_≡_};
 ghost use Prim.Native.Nat.{_≤_};
 ghost use lib.ListN.{length};
 ghost use Rattle.tape.specs.Words.{words-for, tokens-in};
+ghost use Rattle.machine.specs.Finish.{outcome};
 ghost use Rattle.parse.specs.Parse.{parse-of};
 ghost use Rattle.writer.specs.Alike.{same-bytes, same-view, same-words, same-token, found-alike, comes-back};
 ghost use Rattle.writer.specs.Write.{zeros};
@@ -86,6 +87,28 @@ fn alike(text: &[u8], other: &[u8], words: &[u32], count: usize, tape: &[u32], f
     true
 }
 
+// Whether what a parse of another text answered, and left on its tape, are a sheet's tokens.
+fn parsed_alike(
+    text: &[u8],
+    other: &[u8],
+    words: &[u32],
+    count: usize,
+    tape: &[u32],
+    parsed: Parsed,
+) -> bool
+    requires { ⌜ words-for count ≤ length (now words) ⌝ }
+    ensures { λ r. ⌜ r ≡ comes-back (now (text .entry)) (now (other .entry)) (tokens-in (now (words .entry)) count)
+        (outcome parsed (now (tape .entry))) ⌝ }
+{
+    match parsed {
+        Parsed::Tokens {
+            count: found,
+            bom: _,
+        } => alike(text, other, words, count, tape, found as usize),
+        Parsed::Refused(_) => false,
+    }
+}
+
 // Whether another text, parsed, gives a sheet's tokens. The scratch is the parse's tape, and is zero afterwards.
 pub(crate) fn comes_back(
     text: &[u8],
@@ -99,18 +122,8 @@ pub(crate) fn comes_back(
         (parse-of (now (other .entry)) (length (now (scratch .entry)))) ⌝ }
     ensures clear { λ r. ⌜ now (scratch .exit) ≡ zeros (length (now (scratch .entry))) ⌝ }
 {
-    match parse::parse(other, scratch) {
-        Parsed::Tokens {
-            count: found,
-            bom: _,
-        } => {
-            let same = alike(text, other, words, count, scratch, found as usize);
-            words::clear_from(scratch, 0);
-            same
-        }
-        Parsed::Refused(_) => {
-            words::clear_from(scratch, 0);
-            false
-        }
-    }
+    let parsed = parse::parse(other, scratch);
+    let same = parsed_alike(text, other, words, count, scratch, parsed);
+    words::clear_from(scratch, 0);
+    same
 }
