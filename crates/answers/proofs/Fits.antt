@@ -3,7 +3,7 @@
 use mathlib.Core.List.{List}
 use mathlib.Core.Path.{_≡_, sym, ap, subst, _∙_}
 use mathlib.Core.Bool.{Bool}
-use Prim.Native.Nat.{ℕ, _+_, _≤_}
+use Prim.Native.Nat.{ℕ, _+_, _≤_, min}
 use native.Mathlib.Omega.{arith}
 use lib.ListN.{length, take, drop, length-take, length-drop}
 use Rattle.sheet.specs.Decided.{Decided}
@@ -43,13 +43,13 @@ module _ (capacity : ℕ) (body out : List ℕ) (at : ℕ) {r : ℕ} {o : List �
   fits lines a e few room =
       record { lines = lines; answers = a; short = few; put = put-whole out lines at e (omega arith) }
 
-  -- a dump, on as many words as the capacity takes
-  pub dump-all : (len : ℕ) → wrote r o ≡ append out at (dump-of body len) → Held (dump-of body len) len → len ≡ words-for capacity
-      → capacity ≤ most-tokens → at + most-answer ≤ length out → All capacity body out at r o
-  dump-all len e held sized few room =
-      let same : dump-of body len ≡ dump-of body (words-for capacity) = ap (dump-of body) sized in
+  -- a dump, on as many words as the capacity takes, and no more than a dump has
+  pub dump-all : (len : ℕ) → wrote r o ≡ append out at (dump-of body len) → Held (dump-of body len) len
+      → len ≡ words-for (min capacity most-tokens) → at + most-answer ≤ length out → All capacity body out at r o
+  dump-all len e held sized room =
+      let same : dump-of body len ≡ dump-of body (words-for (min capacity most-tokens)) = ap (dump-of body) sized in
       let short : length (dump-of body len) ≤ most-answer = held most-tokens (omega arith) in
-      fits (dump-of body (words-for capacity)) dump (e ∙ ap (append out at) same)
+      fits (dump-of body (words-for (min capacity most-tokens))) dump (e ∙ ap (append out at) same)
       (subst (λ (ls : List ℕ). length ls ≤ most-answer) same short) room
 
   -- the readings of a scalar

@@ -1,5 +1,5 @@
 -- What the answer to a record leaves in the buffer: nothing more than stood there, or all of the answer. None is cut short.
-use Prim.Native.Nat.{ℕ, _+_, _*_, _≤_}
+use Prim.Native.Nat.{ℕ, _+_, _*_, _≤_, min}
 use mathlib.Core.Bool.{Bool}
 use mathlib.Core.List.{List}
 use mathlib.Core.Path.{_≡_}
@@ -27,10 +27,11 @@ stop-bytes = 11
 abbrev pub block-bytes : ℕ
 block-bytes = 2 * (most-answer + stop-bytes)
 
--- the lines that answer a record with a capacity and a body: the dump of a text, the readings of a scalar, what is said of a sheet,
--- a view of the text that stands from some place on, and the way back from a sheet, in a buffer of no more bytes than an input has
+-- the lines that answer a record with a capacity and a body: the dump of a text, with room for no more tokens than a dump has, the
+-- readings of a scalar, what is said of a sheet, a view of the text that stands from some place on, and the way back from a sheet, in a
+-- buffer of no more bytes than an input has
 pub data Answers (capacity : ℕ) (body : List ℕ) : List ℕ → Type 0 where
-  dump : Answers capacity body (dump-of body (words-for capacity))
+  dump : Answers capacity body (dump-of body (words-for (min capacity most-tokens)))
   readings : Answers capacity body (readings-of body)
   verdict : (sound : Bool) → Answers capacity body (sheets.verdict sound)
   view : (from size : ℕ) (v : Viewed) → Answers capacity body (sheets.view-text (take size (drop from body)) v)

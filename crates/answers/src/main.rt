@@ -5,6 +5,7 @@ use libc::STDOUT_FILENO;
 use put::front;
 use report::limits::DUMP_BYTES;
 use report::limits::MOST_INPUT;
+use report::limits::MOST_TOKENS;
 use report::limits::TAPE_WORDS;
 use tape::words::WORDS_PER_TOKEN;
 ghost use mathlib.Core.Path.{_≡_};
@@ -96,7 +97,17 @@ fn take_words(bytes: &[u8], words: &mut [u32]) -> usize
     n
 }
 
-// Kind `T`: the dump of a text, with room for so many tokens.
+// The lesser of two numbers.
+fn least(a: usize, b: usize) -> usize
+    ensures { λ r. ⌜ r ≡ min a b ⌝ }
+{
+    if a < b {
+        return a;
+    }
+    b
+}
+
+// Kind `T`: the dump of a text, with room for so many tokens, or for a dump's most where the record asks for more.
 fn tokens_answer(
     out: &mut [u8],
     at: usize,
@@ -104,13 +115,10 @@ fn tokens_answer(
     text: &[u8],
     words: &mut [u32],
 ) -> Answer
-    requires { ⌜ (at + most-answer ≤ length (now out)) × (length (now words) ≤ words-for most-tokens) ⌝ }
+    requires { ⌜ (at + most-answer ≤ length (now out)) × (words-for most-tokens ≤ length (now words)) ⌝ }
     ensures { λ r. ⌜ Whole capacity (now (text .entry)) (now (out .entry)) at r (now (out .exit)) ⌝ }
 {
-    if words.len() / WORDS_PER_TOKEN < capacity {
-        return Answer::Bad;
-    }
-    let room = capacity * WORDS_PER_TOKEN;
+    let room = least(capacity, MOST_TOKENS) * WORDS_PER_TOKEN;
     Answer::Put(report::dump::put_dump(out, at, text, &mut words[..room]))
 }
 
@@ -163,16 +171,6 @@ fn view_answer(out: &mut [u8], at: usize, capacity: usize, body: &[u8], words: &
     Answer::Put(report::sheets::put_view(out, at, &body[text..], &words[..n], count, index))
 }
 
-// The lesser of two numbers.
-fn least(a: usize, b: usize) -> usize
-    ensures { λ r. ⌜ r ≡ min a b ⌝ }
-{
-    if a < b {
-        return a;
-    }
-    b
-}
-
 // Kind `W`: the text of a sheet, with room for so many bytes. The scratch's words, the count, how many words, the words, and the text to
 // the body's end.
 fn write_answer(
@@ -218,7 +216,7 @@ fn answer_record(
     body: &[u8],
     words: &mut [u32],
 ) -> Answer
-    requires { ⌜ (at + most-answer ≤ length (now out)) × (length (now words) ≤ words-for most-tokens) × (length (now body) ≤ most-input) ⌝ }
+    requires { ⌜ (at + most-answer ≤ length (now out)) × (words-for most-tokens ≤ length (now words)) × (length (now body) ≤ most-input) ⌝ }
     ensures { λ r. ⌜ Whole capacity (now (body .entry)) (now (out .entry)) at r (now (out .exit)) ⌝ }
 {
     match kind {
@@ -253,7 +251,7 @@ fn place_for_next(out: &[u8], to: usize) -> usize
 
 // Answers the records that are all there.
 fn answer_block(input: &[u8], words: &mut [u32], out: &mut [u8]) -> Answered
-    requires { ⌜ (block-bytes ≤ length (now out)) × (length (now words) ≤ words-for most-tokens) ⌝ }
+    requires { ⌜ (block-bytes ≤ length (now out)) × (words-for most-tokens ≤ length (now words)) ⌝ }
 {
     let mut to = 0;
     let mut at = 0;
@@ -304,7 +302,7 @@ fn to_front(input: &mut [u8], from: usize, n: usize) -> usize
 // Block by block, until the input ends or a record is bad. A record that a block cuts waits at the front for the rest of it. The count of
 // turns is there so that the loop is seen to end, and no input is that long.
 fn run(input: &mut [u8], words: &mut [u32], out: &mut [u8])
-    requires { ⌜ (block-bytes ≤ length (now out)) × (length (now words) ≤ words-for most-tokens) ⌝ }
+    requires { ⌜ (block-bytes ≤ length (now out)) × (words-for most-tokens ≤ length (now words)) ⌝ }
 {
     let mut kept = 0;
     let mut turns = u64::MAX;

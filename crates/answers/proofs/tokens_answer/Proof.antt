@@ -1,15 +1,16 @@
 -- `answers::tokens_answer` puts all of the dump: the room lies within the words, and holds no more tokens than the buffer's half does lines.
 -- Assumes nothing.
-use mathlib.Core.Path.{sym}
+use mathlib.Core.Path.{sym, ap, _∙_}
 use native.Mathlib.Omega.{arith}
 use lib.Seq.{length-take-le}
 use borrow.Author.Needs.{needs}
+use Rattle.tape.specs.Words.{words-for}
 use Rattle.answers.proofs.Fits.{dump-all}
 use Rattle.answers.proofs.tokens_answer.Statement.{statement}
 use Rattle.answers.proofs.tokens_answer.Tie as tie
 
-returns : tie.Need-returns
-returns c = search needs
+least-requires : tie.Need-least-requires
+least-requires c κs = search needs
 
 mul-room : tie.Need-mul-room
 mul-room c = search needs
@@ -29,21 +30,24 @@ same-length c = search needs
 same-length-2 : tie.Need-same-length-2
 same-length-2 c = search needs
 
-returns-2 : tie.Need-returns-2
-returns-2 c =
+returns : tie.Need-returns
+returns c =
     let at-put = c .before .before .before .before in
     let put = at-put .put-dump .ensures in
-    record { holds = dump-all _ _ _ _ _ (put .0) (put .1 .1) (length-take-le _ _ (omega arith)) (search needs) (search needs) }
+    let least = at-put .before .before .before .least .ensures in
+    record {
+      holds = dump-all _ _ _ _ _ (put .0) (put .1 .1) (length-take-le _ _ (omega arith) ∙ ap words-for least) (search needs);
+    }
 
 pub tokens-answer-spec : {M : Type 1} → statement M
 tokens-answer-spec =
     tie.close
     (tie.spec
-    returns
+    least-requires
     mul-room
     slice-relend-prefix-put-dump
     slice-aggregate-put-dump
     put-dump-requires
     same-length
     same-length-2
-    returns-2)
+    returns)
