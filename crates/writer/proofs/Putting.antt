@@ -26,7 +26,7 @@ use Rattle.writer.specs.Dues.{due-after}
 use Rattle.writer.specs.Text.{still-first, braced, body-text}
 use Rattle.writer.specs.Ranges.{Range, behind, Inside, token-text}
 use Rattle.writer.proofs.Grown.{stretch-none}
-use Rattle.writer.proofs.Walks.{Bare, scalar, heading, sign, mixed, other, step-inside, step-range, step-ahead, step-text}
+use Rattle.writer.proofs.Walks.{Bare, scalar, heading, sign, mixed, other, Met, step-inside, step-range, step-ahead, step-text}
 
 -- ---- a piece by its tag: one that is not an opener's opens nothing
 abbrev bare-tags : List ℕ
@@ -78,12 +78,13 @@ span-short ts from j Mixed h g f = omega arith
 span-short ts from j (Opener kind e) h g f = let u = h .1 in omega arith
 span-short ts from j Other h g f = omega arith
 
-module _ (ts : List Token) (i j : ℕ) (b : Range ts i j) (h : i < j) (p : Piece) (is : p ≡ piece-of (nth ts i)) where
+module _ {ts : List Token} {i j : ℕ} {p : Piece} (met : Met ts i j p) where
   pub step-span : (from : ℕ) {t : ℕ} → from ≤ i → left-in from j ≡ t → span p (i + 1) < t
   step-span from u m =
-      let on = step-ahead ts i j b h p is _ refl in
-      let s = span-short ts (i + 1) j p (step-inside ts i j b h p is) (on .1) (omega (arith, h)) in
-      omega (arith, s, u, h, m)
+      let on = step-ahead met _ refl in
+      let h = met .early in
+      let s = span-short ts (i + 1) j p (step-inside met) (on .1) (omega arith) in
+      omega arith
 
   -- a MixedContainer writes nothing and takes no space, and behind it entries follow as in an array
   mixed-is : is-mixed p ≡ true → p ≡ Mixed
@@ -101,15 +102,15 @@ module _ (ts : List Token) (i j : ℕ) (b : Range ts i j) (h : i < j) (p : Piece
   unfolding behind
   mixed-range e f =
       let m = mixed-is (sym e ∙ f) in
-      step-range ts i j b h p is (i + 1) (ap (λ (q : Piece). behind q (i + 1)) (sym m))
+      step-range met (i + 1) (ap (λ (q : Piece). behind q (i + 1)) (sym m))
 
   pub mixed-text : (text : List ℕ) (first : Bool) (due : Due) {r : Bool} → r ≡ is-mixed p → r ≡ true
       → body-text (stretch ts i j) text first due ≡ body-text (stretch ts (i + 1) j) text first Entry
   unfolding behind token-text due-after
   mixed-text text first due e f =
       let m = mixed-is (sym e ∙ f) in
-      step-text ts i j b h p is (i + 1) (ap (λ (q : Piece). behind q (i + 1)) (sym m)) text first due
-      (ap (still-first first) (sym m)) (ap (due-after due) (sym m))
+      step-text met (i + 1) (ap (λ (q : Piece). behind q (i + 1)) (sym m)) text first due (ap (still-first first) (sym m))
+      (ap (due-after due) (sym m))
       ∙ ap (λ (q : Piece). token-text text ts (i + 1) first due q ++ body-text (stretch ts (i + 1) j) text first Entry) m
 
 -- ---- entries stay entries
@@ -138,19 +139,18 @@ pub record Putting (ts : List Token) (text out₀ : List ℕ) (at from end : ℕ
   pub left : append out₀ at whole ≡ append out next (body-text (stretch ts i end) text first due)
   pub same : length out ≡ length out₀
 
-module _ (ts : List Token) (text out₀ : List ℕ) (at from end : ℕ) (whole out : List ℕ) (i next : ℕ) (first : Bool) (due : Due)
+module _ {ts : List Token} {text out₀ : List ℕ} {at from end : ℕ} {whole out : List ℕ} {i next : ℕ} {first : Bool} {due : Due}
     (w : Putting ts text out₀ at from end whole out i next first due) where
   -- one token is put
-  pub put-step : (h : i < end) (p : Piece) (is : p ≡ piece-of (nth ts i)) (on : ℕ) → on ≡ behind p (i + 1) → {still : Bool} {after : Due}
+  pub put-step : {p : Piece} (met : Met ts i end p) (on : ℕ) → on ≡ behind p (i + 1) → {still : Bool} {after : Due}
       → still ≡ still-first first p → after ≡ due-after due p → (r : ℕ) (o : List ℕ)
       → wrote r o ≡ append out next (token-text text ts (i + 1) first due p) → length o ≡ length out
       → Putting ts text out₀ at from end whole o on r still after
-  put-step h p is on goes e f r o put kept =
+  put-step {p} met on goes e f r o put kept =
       record {
-        range = step-range ts i end (w .range) h p is on goes;
-        past = omega (arith, step-ahead ts i end (w .range) h p is on goes .0, w .past);
-        left = w .left
-            ∙ put-on out next _ (token-text text ts (i + 1) first due p) _ (step-text ts i end (w .range) h p is on goes text first due e f) put;
+        range = step-range met on goes;
+        past = omega (arith, step-ahead met on goes .0, w .past);
+        left = w .left ∙ put-on out next _ (token-text text ts (i + 1) first due p) _ (step-text met on goes text first due e f) put;
         same = kept ∙ w .same;
       }
 
@@ -160,9 +160,9 @@ module _ (ts : List Token) (text out₀ : List ℕ) (at from end : ℕ) (whole o
   put-done h = put-empty out next ∙ sym (w .left ∙ ap (λ (f : Forest). append out next (body-text f text first due)) (stretch-none ts i end h))
 
   -- the rest is put as entries
-  pub put-rest : (h : i < end) (p : Piece) → p ≡ piece-of (nth ts i) → {m : Bool} → m ≡ is-mixed p → m ≡ true → {r : ℕ} {o : List ℕ}
+  pub put-rest : {p : Piece} → Met ts i end p → {m : Bool} → m ≡ is-mixed p → m ≡ true → {r : ℕ} {o : List ℕ}
       → wrote r o ≡ append out next (body-text (stretch ts (i + 1) end) text first Entry) → wrote r o ≡ append out₀ at whole
-  put-rest h p is e f put = put ∙ sym (w .left ∙ ap (append out next) (mixed-text ts i end (w .range) h p is text first due e f))
+  put-rest met e f put = put ∙ sym (w .left ∙ ap (append out next) (mixed-text met text first due e f))
 
 -- at the start all is left
 pub put-start : (ts : List Token) (text out : List ℕ) (at from end : ℕ) (first : Bool) (due : Due) → Range ts from end

@@ -154,31 +154,37 @@ pub read-piece : (words : List ℕ) (count i : ℕ) {x : Token} {p : Piece} → 
 unfolding token-in
 read-piece words count i e f = f ∙ ap piece-of e
 
-module _ (ts : List Token) (i j : ℕ) (b : Range ts i j) (h : i < j) (p : Piece) (is : p ≡ piece-of (nth ts i)) where
+-- a direct token of a part of a sheet that a walk has read: the part from it on, that this is not its end, and what the token is
+pub record Met (ts : List Token) (i j : ℕ) (p : Piece) : Type 0 where
+  pub range : Range ts i j
+  pub early : i < j
+  pub piece : p ≡ piece-of (nth ts i)
+
+module _ {ts : List Token} {i j : ℕ} {p : Piece} (met : Met ts i j p) where
   pub step-inside : Inside ts (i + 1) p
-  step-inside = subst (Inside ts (i + 1)) (sym is) (range-inside ts i j b h)
+  step-inside = subst (Inside ts (i + 1)) (sym (met .piece)) (range-inside ts i j (met .range) (met .early))
 
   -- what is due is not there
   pub step-wrong : (due : Due) {t : Bool} → t ≡ takes due p → t ≡ false → false ≡ body-form (stretch ts i j) due
-  step-wrong due e f = sym (form-on ts i j b h due ∙ rw (← is) (rw (sym e ∙ f)))
+  step-wrong due e f = sym (form-on ts i j (met .range) (met .early) due ∙ rw (← (met .piece)) (rw (sym e ∙ f)))
 
   module _ (next : ℕ) (goes : next ≡ behind p (i + 1)) where
-    there : next ≡ on ts i j b h
-    there = goes ∙ ap (λ (q : Piece). behind q (i + 1)) is
+    there : next ≡ on ts i j (met .range) (met .early)
+    there = goes ∙ ap (λ (q : Piece). behind q (i + 1)) (met .piece)
 
     pub step-range : Range ts next j
-    step-range = subst (λ (n : ℕ). Range ts n j) (sym there) (range-behind ts i j b h)
+    step-range = subst (λ (n : ℕ). Range ts n j) (sym there) (range-behind ts i j (met .range) (met .early))
 
     pub step-ahead : (i < next) × (next ≤ j)
-    step-ahead = rw there (ahead ts i j b h)
+    step-ahead = rw there (ahead ts i j (met .range) (met .early))
 
     pub step-form : (due : Due) {t : Bool} {after : Due} → t ≡ takes due p → t ≡ true → after ≡ due-after due p
         → body-form (stretch ts i j) due ≡ body-form (stretch ts next j) after
-    step-form due e f g = form-on ts i j b h due ∙ rw (g, there, ← is) (rw (sym e ∙ f))
+    step-form due e f g = form-on ts i j (met .range) (met .early) due ∙ rw (g, there, ← (met .piece)) (rw (sym e ∙ f))
 
     pub step-text : (text : List ℕ) (first : Bool) (due : Due) {still : Bool} {after : Due} → still ≡ still-first first p → after ≡ due-after due p
         → body-text (stretch ts i j) text first due ≡ token-text text ts (i + 1) first due p ++ body-text (stretch ts next j) text still after
-    step-text text first due e g = text-on ts i j b h text first due ∙ rw (e, g, there, is)
+    step-text text first due e g = text-on ts i j (met .range) (met .early) text first due ∙ rw (e, g, there, met .piece)
 
 -- the same body by what is due in it under another name
 pub due-as : (f : Forest) {d e : Due} {r : Bool} → r ≡ body-form f d → d ≡ e → r ≡ body-form f e

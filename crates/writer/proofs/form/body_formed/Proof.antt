@@ -10,7 +10,7 @@ use Rattle.tape.specs.Words.{tokens-in}
 use Rattle.writer.specs.Forest.{stretch, Forest}
 use Rattle.writer.specs.Ranges.{Range, body-form}
 use Rattle.writer.proofs.Grown.{stretch-none}
-use Rattle.writer.proofs.Walks.{read-piece, step-wrong, step-range, step-ahead, step-form}
+use Rattle.writer.proofs.Walks.{read-piece, Met, step-wrong, step-range, step-ahead, step-form}
 use native.Mathlib.Omega.{arith}
 use Rattle.writer.proofs.form.body_formed.Statement.{statement}
 use Rattle.writer.proofs.form.body_formed.Tie as tie
@@ -35,17 +35,24 @@ piece-of-requires c κs = search needs
 takes-requires : tie.Need-takes-requires Inv-loop μ-loop
 takes-requires c κs = search needs
 
+-- the token that a turn of the loop has read
+met : (c : tie.After-piece-of Inv-loop μ-loop)
+    → let at-loop = c .before .before .before in
+    let args = at-loop .before .before .args in
+    Met (tokens-in (args .words .now) (args .count)) (at-loop .loop .i) (args .end) (c .piece-of .result)
+met c =
+    let in-loop = c .before .before in
+    record {
+      range = in-loop .before .loop .inv .0;
+      early = in-loop .loop-test .taken;
+      piece = read-piece _ _ _ (c .before .token-of .ensures) (c .piece-of .ensures);
+    }
+
 returns : tie.Need-returns Inv-loop μ-loop
 returns c =
     let read = c .before .before in
-    let in-loop = read .before .before in
-    let at-loop = in-loop .before in
-    let args = at-loop .before .before .args in
-    let m = at-loop .loop in
-    let ts : List Token = tokens-in (args .words .now) (args .count) in
-    let is = read-piece _ _ _ (read .before .token-of .ensures) (read .piece-of .ensures) in
-    sym (m .inv .1
-    ∙ sym (step-wrong ts (m .i) (args .end) (m .inv .0) (in-loop .loop-test .taken) _ is (m .due) (c .before .takes .ensures) (not-true _ (c .if1 .taken))))
+    let m = read .before .before .before .loop in
+    sym (m .inv .1 ∙ sym (step-wrong (met read) (m .due) (c .before .takes .ensures) (not-true _ (c .if1 .taken))))
 
 due-after-requires : tie.Need-due-after-requires Inv-loop μ-loop
 due-after-requires c κs = search needs
@@ -58,31 +65,17 @@ behind-requires c κs = search needs
 
 loop-less : tie.Need-loop-less Inv-loop μ-loop
 loop-less c =
-    let read = c .before .before .before .before in
-    let in-loop = read .before .before in
-    let at-loop = in-loop .before in
-    let args = at-loop .before .before .args in
-    let m = at-loop .loop in
-    let ts : List Token = tokens-in (args .words .now) (args .count) in
-    let is = read-piece _ _ _ (read .before .token-of .ensures) (read .piece-of .ensures) in
-    let on = step-ahead ts (m .i) (args .end) (m .inv .0) (in-loop .loop-test .taken) _ is _ (c .behind .ensures) in
+    let on = step-ahead (met (c .before .before .before .before)) _ (c .behind .ensures) in
     omega (arith, on .0)
 
 loop-again : tie.Need-loop-again Inv-loop μ-loop
 loop-again c =
     let read = c .before .before .before .before in
-    let in-loop = read .before .before in
-    let at-loop = in-loop .before in
-    let args = at-loop .before .before .args in
-    let m = at-loop .loop in
-    let ts : List Token = tokens-in (args .words .now) (args .count) in
-    let is = read-piece _ _ _ (read .before .token-of .ensures) (read .piece-of .ensures) in
-    let h = in-loop .loop-test .taken in (
-      step-range ts (m .i) (args .end) (m .inv .0) h _ is _ (c .behind .ensures),
+    let m = read .before .before .before .loop in (
+      step-range (met read) _ (c .behind .ensures),
       m .inv .1
-          ∙ step-form ts (m .i) (args .end) (m .inv .0) h _ is _ (c .behind .ensures) (m .due)
-          (c .before .before .before .takes .ensures) (not-false _ (c .before .before .if1 .left))
-          (c .before .due-after .ensures),
+          ∙ step-form (met read) _ (c .behind .ensures) (m .due) (c .before .before .before .takes .ensures)
+          (not-false _ (c .before .before .if1 .left)) (c .before .due-after .ensures),
     )
 
 may-end-requires : tie.Need-may-end-requires Inv-loop μ-loop
