@@ -1,13 +1,13 @@
 -- What is said before a byte is written, and what is left when all are: by the tests that lead there.
 -- Assumes nothing.
 use mathlib.Core.Path.{_≡_, refl, sym, _∙_, ap}
-use mathlib.Core.Bool.{Bool, true, false}
-use mathlib.Core.List.{List, _++_}
+use mathlib.Core.Bool.{Bool, true, false, not, _||_, false≢true}
+use mathlib.Core.List.{List, [], _∷_, _++_}
 use mathlib.Core.Logic.{_↔_}
 use Prim.Native.Nat.{ℕ, _-_, _≤_, _<_}
 use native.Mathlib.Nat.{zero-add}
 use native.Mathlib.Omega.{arith}
-use borrow.Author.Tests.{ltb-false, lt-ltb, le-ltb}
+use borrow.Author.Tests.{not-false, ltb-false, lt-ltb, le-ltb}
 use lib.Dec.{ltb}
 use lib.ListN.{length, take, drop, replicate, length-append, length-drop}
 use lib.Seq.{take-append-seam}
@@ -33,7 +33,7 @@ use Rattle.writer.specs.Alike.{comes-back}
 use Rattle.writer.specs.Scans.{measured}
 use Rattle.writer.specs.Ranges.{Whole}
 use Rattle.writer.specs.Write.{Left, left, zeros, text-of, formed, too-deep}
-use Rattle.writer.specs.Write.{weigh-text, weigh-sound, weigh, read-back, settle, write-of}
+use Rattle.writer.specs.Write.{Reason, if-so, first-of, weigh-text, weigh, read-back, settle, write-of}
 use Rattle.writer.proofs.Forms.{whole-count}
 
 -- ---- a length that was measured
@@ -58,18 +58,47 @@ module _ (n : ℕ) {m : Measured} (told : m ≡ measured n) where
       (λ t. t)
       (λ t. absurd (over-not (sym (rw (measured, t) at (sym told ∙ e)))))
 
+-- ---- reasons, one after the other
+fits-not : {why : Refusal} → Refused why ≡ Fits → ⊥
+fits-not e = let z : _≡_ {A = ℕ} 0 1 = cc in omega arith
+
+module _ (why : Refusal) (rs : List Reason) {there : Bool} where
+  pub first-here : there ≡ true → first-of (if-so there why ∷ rs) ≡ Refused why
+  unfolding first-of
+  first-here e = rw e
+
+  pub first-later : there ≡ false → first-of (if-so there why ∷ rs) ≡ first-of rs
+  unfolding first-of
+  first-later e = rw e
+
+pub first-none : first-of [] ≡ Fits
+unfolding first-of
+first-none = refl
+
+-- where the text fits, none of them is there
+fits-later : (there : Bool) (why : Refusal) (rs : List Reason) → first-of (if-so there why ∷ rs) ≡ Fits → (there ≡ false) × (first-of rs ≡ Fits)
+fits-later there why rs e =
+    by-bool there
+    (λ t. absurd (fits-not (sym (first-here why rs t) ∙ e)))
+    (λ t. (t, sym (first-later why rs t) ∙ e))
+
+-- neither of two tests
+pub neither : (a b : Bool) → (a || b) ≡ false → (a ≡ false) × (b ≡ false)
+neither true b h = absurd (false≢true (sym h))
+neither false b h = (refl, h)
+
 -- ---- 43 and 44
 module _ (room scratch : ℕ) (ts : List Token) (bytes : List ℕ) {m : Measured} (told : m ≡ measured (length bytes)) where
   pub text-over : m ≡ Over → Refused TooLong ≡ weigh-text room scratch ts bytes
   unfolding weigh-text
-  text-over e = rw (weigh-text, over-known (length bytes) told e)
+  text-over e = sym (first-here _ _ (over-known (length bytes) told e))
 
   module _ {s : ℕ} (size : m ≡ Size s) where
     pub text-no-room : room < s → Refused NoRoom ≡ weigh-text room scratch ts bytes
     unfolding weigh-text
     text-no-room h =
         let known = size-known (length bytes) told size in
-        rw (weigh-text, known .1, lt-ltb room (length bytes) (omega (arith, known .0, h)))
+        sym (first-later _ _ (known .1) ∙ first-here _ _ (rw (lt-ltb room (length bytes) (omega (arith, known .0, h)))))
 
     module _ (fits : s ≤ room) {count k : ℕ} (counted : length ts ≡ count) (tokens : k ≡ capacity scratch) where
       pub scratch-no-room : k < count → Refused NoRoom ≡ weigh-text room scratch ts bytes
@@ -77,62 +106,49 @@ module _ (room scratch : ℕ) (ts : List Token) (bytes : List ℕ) {m : Measured
       scratch-no-room h =
           let known = size-known (length bytes) told size in
           let few : capacity scratch < length ts = omega (arith, counted, tokens, h) in
-          rw (weigh-text, known .1, le-ltb room (length bytes) (omega (arith, known .0, fits)), lt-ltb (capacity scratch) (length ts) few)
+          sym (first-later _ _ (known .1)
+          ∙ first-here _ _ (rw (le-ltb room (length bytes) (omega (arith, known .0, fits)), lt-ltb (capacity scratch) (length ts) few)))
 
       pub text-fits : count ≤ k → Fits ≡ weigh-text room scratch ts bytes
       unfolding weigh-text
       text-fits h =
           let known = size-known (length bytes) told size in
           let all : length ts ≤ capacity scratch = omega (arith, counted, tokens, h) in
-          rw (weigh-text, known .1, le-ltb room (length bytes) (omega (arith, known .0, fits)), le-ltb (capacity scratch) (length ts) all)
+          sym (first-later _ _ (known .1)
+          ∙ first-later _ _ (rw (le-ltb room (length bytes) (omega (arith, known .0, fits)), le-ltb (capacity scratch) (length ts) all)) ∙ first-none)
 
 -- ---- 41, 46, 42, and then the text
 module _ (text : List ℕ) (ts : List Token) (room scratch : ℕ) {sound : Bool} where
   pub weigh-unsound : sound ≡ false → Refused NotSound ≡ weigh text ts room scratch sound
   unfolding weigh
-  weigh-unsound e = rw e
+  weigh-unsound e = sym (first-here _ _ (ap not e))
 
   module _ (yes : sound ≡ true) {f : Bool} (form : f ≡ formed ts) where
     pub weigh-other : f ≡ false → Refused OtherForm ≡ weigh text ts room scratch sound
-    unfolding weigh weigh-sound
-    weigh-other e = rw (yes, weigh-sound, sym form ∙ e)
+    unfolding weigh
+    weigh-other e = sym (first-later _ _ (ap not yes) ∙ first-here _ _ (ap not (sym form ∙ e)))
 
     module _ (is : f ≡ true) {d : Bool} (deep : d ≡ too-deep ts) where
       pub weigh-deep : d ≡ true → Refused TooDeep ≡ weigh text ts room scratch sound
-      unfolding weigh weigh-sound
-      weigh-deep e = rw (yes, weigh-sound, sym form ∙ is, sym deep ∙ e)
+      unfolding weigh
+      weigh-deep e = sym (first-later _ _ (ap not yes) ∙ first-later _ _ (ap not (sym form ∙ is)) ∙ first-here _ _ (sym deep ∙ e))
 
       pub weigh-on : {r : Weighed} → d ≡ false → r ≡ weigh-text room scratch ts (text-of text ts) → r ≡ weigh text ts room scratch sound
-      unfolding weigh weigh-sound
-      weigh-on e g = rw (yes, weigh-sound, sym form ∙ is, sym deep ∙ e) g
+      unfolding weigh weigh-text
+      weigh-on e g = g ∙ sym (first-later _ _ (ap not yes) ∙ first-later _ _ (ap not (sym form ∙ is)) ∙ first-later _ _ (sym deep ∙ e))
 
 -- the words of a sheet that is found sound
 pub found-whole : {n count : ℕ} {words : List ℕ} {r : Bool} → (r ≡ true) ↔ Sound n words count → r ≡ true → Whole words count
 found-whole {n} told e = record { text-length = n; sound = told .0 e }
 
--- ---- what fits is sound, and no longer than the buffer
-fits-not : {r : Refusal} → Refused r ≡ Fits → ⊥
-fits-not e = let z : _≡_ {A = ℕ} 0 1 = cc in omega arith
-
-text-within : (room scratch : ℕ) (ts : List Token) (bytes : List ℕ) → weigh-text room scratch ts bytes ≡ Fits → length bytes ≤ room
-unfolding weigh-text
-text-within room scratch ts bytes e =
-    by-bool (ltb text-limit (length bytes))
-    (λ t. absurd (fits-not (rw (weigh-text, t) at e)))
-    (λ t. by-bool (ltb room (length bytes))
-    (λ u. absurd (fits-not (rw (weigh-text, t, u) at e)))
-    (λ u. ltb-false room (length bytes) u))
-
+-- what fits is sound, and no longer than the buffer
 pub fits-known : (text : List ℕ) (ts : List Token) (room scratch : ℕ) (sound : Bool) → weigh text ts room scratch sound ≡ Fits
     → (sound ≡ true) × (length (text-of text ts) ≤ room)
-unfolding weigh weigh-sound
-fits-known text ts room scratch false e = absurd (fits-not e)
-fits-known text ts room scratch true e =
-    by-bool (formed ts)
-    (λ t. by-bool (too-deep ts)
-    (λ u. absurd (fits-not (rw (weigh-sound, t, u) at e)))
-    (λ u. (refl, text-within room scratch ts (text-of text ts) (rw (weigh-sound, t, u) at e))))
-    (λ t. absurd (fits-not (rw (weigh-sound, t) at e)))
+unfolding weigh
+fits-known text ts room scratch sound e =
+    let on = fits-later _ _ _ e in
+    let room-there = fits-later _ _ _ (fits-later _ _ _ (fits-later _ _ _ (fits-later _ _ _ (on .1) .1) .1) .1) in
+    (not-false sound (on .0), ltb-false room (length (text-of text ts)) (neither _ _ (room-there .0) .0))
 
 -- ---- the text of a whole sheet is that of its root's body
 pub whole-text : {words : List ℕ} {count : ℕ} → Whole words count → (text : List ℕ)

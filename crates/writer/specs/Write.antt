@@ -1,7 +1,7 @@
 -- From a sheet back to save text: the answer, and what it leaves in the lent buffer and on the scratch.
 use Prim.Native.Nat.{ℕ, _-_}
-use mathlib.Core.Bool.{Bool, true, false, _||_}
-use mathlib.Core.List.{List, _++_}
+use mathlib.Core.Bool.{Bool, true, false, not, _||_}
+use mathlib.Core.List.{List, [], _∷_, _++_}
 use lib.Dec.{ltb}
 use lib.ListN.{length, replicate}
 use Rattle.tape.specs.declared.token.Token.{Token}
@@ -54,26 +54,40 @@ abbrev pub no-room : ℕ → ℕ → List Token → List ℕ → Bool
 no-room room scratch ts bytes = ltb room (length bytes) || ltb (capacity scratch) (length ts)
 
 -- ---- what can be said before a byte is written
--- 43 text over the limit of 01, then 44
+-- a reason to refuse, and whether it is there
+pub record Reason : Type 0 where
+  pub there : Bool
+  pub refusal : Refusal
+
+abbrev pub if-so : Bool → Refusal → Reason
+if-so there refusal = record { there = there; refusal = refusal }
+
+-- the first of some reasons that is there; where none is, the text fits
+unfoldable pub first-of : List Reason → Weighed
+first-of [] = Fits
+first-of (r ∷ rs) = elim (r .there) [ true ↦ Weighed.Refused (r .refusal) | false ↦ first-of rs ]
+
+-- 43 text over the limit of 01, 44 no room, in that order: by a buffer of so many bytes and a scratch of so many words
+abbrev pub text-reasons : ℕ → ℕ → List Token → List ℕ → List Reason
+text-reasons room scratch ts bytes =
+    if-so (ltb text-limit (length bytes)) TooLong
+    ∷ if-so (no-room room scratch ts bytes) NoRoom
+    ∷ []
+
+-- 41 not sound, 46 not of this form, 42 too deep, and then those, in that order: by whether the sheet is sound
+abbrev pub reasons : List ℕ → List Token → ℕ → ℕ → Bool → List Reason
+reasons text ts room scratch sound =
+    if-so (not sound) NotSound
+    ∷ if-so (not (formed ts)) OtherForm
+    ∷ if-so (too-deep ts) TooDeep
+    ∷ text-reasons room scratch ts (text-of text ts)
+
+-- what is said of a text that is to be written, and of any sheet
 unfoldable pub weigh-text : ℕ → ℕ → List Token → List ℕ → Weighed
-weigh-text room scratch ts bytes =
-    elim (ltb text-limit (length bytes)) [
-      | true ↦ Weighed.Refused TooLong
-      | false ↦ elim (no-room room scratch ts bytes) [ true ↦ Weighed.Refused NoRoom | false ↦ Fits ]
-    ]
+weigh-text room scratch ts bytes = first-of (text-reasons room scratch ts bytes)
 
--- a sound sheet, by a buffer of so many bytes and a scratch of so many words: 46, then 42
-unfoldable pub weigh-sound : List ℕ → List Token → ℕ → ℕ → Weighed
-weigh-sound text ts room scratch =
-    elim (formed ts) [
-      | true ↦ elim (too-deep ts) [ true ↦ Weighed.Refused TooDeep | false ↦ weigh-text room scratch ts (text-of text ts) ]
-      | false ↦ Weighed.Refused OtherForm
-    ]
-
--- any sheet, by whether it is sound: 41 first
 unfoldable pub weigh : List ℕ → List Token → ℕ → ℕ → Bool → Weighed
-weigh text ts room scratch true = weigh-sound text ts room scratch
-weigh text ts room scratch false = Weighed.Refused NotSound
+weigh text ts room scratch sound = first-of (reasons text ts room scratch sound)
 
 -- ---- the whole
 -- 45 would read differently
