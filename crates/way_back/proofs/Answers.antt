@@ -99,7 +99,7 @@ module _ (text : List ℕ) (ts : List Token) (room scratch : ℕ) where
     pub given : Given text ts room scratch
     pub back : Reads-back text ts scratch
 
-  pub settled : Answers-length text ts room scratch → Settled
+  pub settled : Answers-length answered → Settled
   settled (size, e) =
       by-tests
       (λ f. length-apart _ size OtherForm e (ap answer-of (other-form f)))
