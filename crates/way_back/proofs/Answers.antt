@@ -13,7 +13,7 @@ use Rattle.tape.specs.declared.token.Token.{Token}
 use Rattle.tape.specs.Words.{capacity}
 use Rattle.parse.specs.Parse.{text-limit, parse-of}
 use Rattle.writer.specs.declared.Refusal.{Refusal}
-use Rattle.writer.specs.declared.Refusal.the-variants.{TooDeep, TooLong, NoRoom, ReadsOtherwise, OtherForm}
+use Rattle.writer.specs.declared.Refusal.the-variants.{NotSound, TooDeep, TooLong, NoRoom, ReadsOtherwise, OtherForm}
 use Rattle.writer.specs.declared.Written.{Written}
 use Rattle.writer.specs.declared.Written.the-variants.{Text, Refused}
 use Rattle.writer.specs.Refusals.{number}
@@ -107,6 +107,15 @@ module _ (text : List ℕ) (ts : List Token) (room scratch : ℕ) where
       (λ f g. by-bool (comes-back text (text-of text ts) ts (parse-of (text-of text ts) scratch))
       (λ b. record { form = f; given = g; back = b })
       (λ b. length-apart _ size ReadsOtherwise e (ap answer-of (given-refuses f g b))))
+
+  -- and to a sound sheet alone
+  not-sound : write-of text ts room scratch false ≡ refuse room scratch NotSound
+  unfolding write-of weigh
+  not-sound = refl
+
+  pub length-sound : (yes : Bool) → Answers-length (write-of text ts room scratch yes) → yes ≡ true
+  length-sound true a = refl
+  length-sound false (size, e) = length-apart _ size NotSound e (ap answer-of not-sound)
 
   -- a sheet of the form whose text reads back wherever there is room is refused for depth, length and room alone
   pub promised : formed ts ≡ true → (Given text ts room scratch → Reads-back text ts scratch) → Promised (answer-of answered)

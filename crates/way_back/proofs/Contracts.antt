@@ -1,10 +1,12 @@
 -- The promises, of whatever answers the contracts of `write` and `parse` allow.
 -- Assumes nothing.
-use mathlib.Core.Path.{_≡_, _∙_, ap}
+use mathlib.Core.Path.{_≡_, sym, _∙_, ap}
 use mathlib.Core.Bool.{true}
-use Prim.Native.Nat.{ℕ, _≤_}
+use mathlib.Core.List.{List}
+use Prim.Native.Nat.{ℕ, _-_, _≤_}
 use native.Mathlib.Omega.{arith}
 use lib.ListN.{length}
+use lib.Seq.{take-append-seam}
 use Rattle.tape.specs.Words.{capacity}
 use Rattle.tape.proofs.Views.{tokens-length}
 use Rattle.machine.specs.declared.Parsed.{Parsed}
@@ -14,11 +16,17 @@ use Rattle.parse.proofs.parse.Reads as parse
 use Rattle.sheet.specs.Decided.{Decided}
 use Rattle.sheet.specs.Sound.{Sound}
 use Rattle.writer.specs.declared.Written.{Written}
-use Rattle.writer.specs.Write.{Left, left, write-of}
+use Rattle.writer.specs.declared.Written.the-variants.{Text}
+use Rattle.writer.specs.Write.{Left, left, zeros, accept, text-of, write-of}
 use Rattle.writer.proofs.write.Reads as write
+use Rattle.way_back.specs.Accepted.{Accepted, answer-of}
+use Rattle.way_back.specs.Stable.{Accepted-as}
 use Rattle.way_back.specs.Contracts.{Write-call, Parse-call, sheet-of, Write-exactly, Write-plain}
+use Rattle.way_back.specs.Contracts.{front-of, Parses-written, Write-parses, Write-stable}
+use Rattle.way_back.proofs.Answers.{given-accepts, settled, length-sound}
 use Rattle.way_back.proofs.Exactly.{length-exactly}
 use Rattle.way_back.proofs.Promised.{plain-accepted, plain-promised}
+use Rattle.way_back.proofs.Stable.{parses-again, stable}
 
 -- ---- what the contracts say of a call's values
 abbrev written-of : Write-call → Left
@@ -51,6 +59,43 @@ plain-told w d fits p =
       accepted = plain-accepted (w .text) (sheet-of w) p (w .room) (w .scratch);
     }
 
+-- ---- writing is stable
+-- the bytes that are counted are the text
+counted : (room scratch size : ℕ) (bytes : List ℕ) (written : Left) → written ≡ accept room scratch bytes → answer-of written ≡ Text size
+    → (size ≡ length bytes) × (front-of size written ≡ bytes)
+counted room scratch size bytes written e f =
+    let same : Text size ≡ Text (length bytes) = sym f ∙ ap answer-of e in
+    let n : size ≡ length bytes = cc in
+    (n, ap (front-of size) e ∙ rw n (take-append-seam bytes (zeros (room - length bytes))))
+
+-- the sheet is accepted as the bytes that are parsed
+pub record Came (w : Write-call) (size : ℕ) (p : Parse-call) : Type 0 where
+  pub accepted : Accepted-as (w .text) (sheet-of w) (w .room) (w .scratch) (p .text)
+  pub size-is : size ≡ length (p .text)
+
+came : (w : Write-call) (p : Parse-call) → Writes w → (size : ℕ) → Parses-written w size p → Came w size p
+came w p d size h =
+    let yes = length-sound (w .text) (sheet-of w) (w .room) (w .scratch) (d .yes) (size, sym (ap answer-of (d .gives)) ∙ h .answered) in
+    let e : w .written ≡ written-of w = told w d (d .holds .0 yes) in
+    let s = settled (w .text) (sheet-of w) (w .room) (w .scratch) (size, sym (ap answer-of e) ∙ h .answered) in
+    let a : Accepted (w .text) (sheet-of w) (w .room) (w .scratch)
+    = given-accepts (w .text) (sheet-of w) (w .room) (w .scratch) (s .form) (s .given) (s .back) in
+    let c = counted (w .room) (w .scratch) size (text-of (w .text) (sheet-of w)) (w .written) (e ∙ a) (h .answered) in
+    let t : p .text ≡ text-of (w .text) (sheet-of w) = h .text ∙ c .1 in
+    record { accepted = rw t a; size-is = rw t (c .0) }
+
+parses-told : (w : Write-call) (p : Parse-call) → Writes w → Parses p → Write-parses w p
+parses-told w p d q size h fits =
+    rw q
+    (parses-again (w .text) (sheet-of w) (w .room) (w .scratch) (p .text) (came w p d size h .accepted) (p .len) (roomy w (p .len) fits))
+
+stable-told : (w : Write-call) (p : Parse-call) (v : Write-call) → Writes w → Parses p → Writes v → Write-stable w p v
+stable-told w p v d q f size h k =
+    let c = came w p d size h in
+    let s = stable (w .text) (sheet-of w) (w .room) (w .scratch) (p .text) (c .accepted) (p .len) (v .count) (k .bom) (v .words) (sym q ∙ k .parsed) in
+    let again = s .again (v .room) (v .scratch) (k .buffer) (k .tape) in
+    rw (told v f (rw (k .text) (s .sound)), k .text, again, ← h .text, c .size-is)
+
 -- ---- of the contracts
 module _ (κs : _) (args : _) (r : Written) (xs : _) (post : write.Post κs args r xs) where
   -- the call by its values
@@ -75,3 +120,10 @@ module _ (κs : _) (args : _) (r : Written) (xs : _) (post : write.Post κs args
     (ls : _) (asked : _) (p : Parsed) (ys : _) (q : parse.Post ls asked p ys) where
   pub write-exactly : Write-exactly (writing κs args r xs post) (parsing ls asked p ys q)
   write-exactly = exactly-told _ _ post q
+
+  pub write-parses : Write-parses (writing κs args r xs post) (parsing ls asked p ys q)
+  write-parses = parses-told _ _ post q
+
+  pub write-stable : (ms : _) (taken : _) (s : Written) (zs : _) (t : write.Post ms taken s zs)
+      → Write-stable (writing κs args r xs post) (parsing ls asked p ys q) (writing ms taken s zs t)
+  write-stable ms taken s zs t = stable-told _ _ _ post q t

@@ -1,15 +1,19 @@
 -- What the contracts of the calls themselves promise together, told of the values of calls.
-use Prim.Native.Nat.{ℕ, _≤_}
+use Prim.Native.Nat.{ℕ, _-_, _≤_}
+use mathlib.Core.Bool.{Bool}
 use mathlib.Core.Path.{_≡_}
-use mathlib.Core.List.{List}
-use lib.ListN.{length}
+use mathlib.Core.List.{List, _++_}
+use lib.ListN.{length, take}
 use Rattle.tape.specs.declared.token.Token.{Token}
 use Rattle.tape.specs.Words.{capacity, words-for, tokens-in}
-use Rattle.machine.specs.Finish.{Outcome}
+use Rattle.machine.specs.declared.Parsed.the-variants.{Tokens}
+use Rattle.machine.specs.Finish.{Outcome, outcome}
 use Rattle.sheet.specs.Sound.{Sound}
-use Rattle.writer.specs.Write.{Left, accept, text-of}
+use Rattle.writer.specs.declared.Written.the-variants.{Text}
+use Rattle.writer.specs.Write.{Left, left, zeros, accept, text-of}
 use Rattle.way_back.specs.Plain.{Plain}
 use Rattle.way_back.specs.Accepted.{Given, answer-of, Exactly, Promised}
+use Rattle.way_back.specs.Stable.{Leaves-alike}
 
 -- a call of `write`: the text, the words and the count that it is given, the lengths of the buffer and of the scratch that it is lent,
 -- and its answer with what it leaves in them
@@ -47,3 +51,32 @@ abbrev pub Write-plain : Write-call → Type 0
 Write-plain w =
     words-for (w .count) ≤ length (w .words) → Plain (w .text) (sheet-of w)
     → Kept (w .text) (sheet-of w) (w .room) (w .scratch) (w .written)
+
+-- ---- writing is stable
+-- the first bytes of the buffer that was left
+abbrev pub front-of : ℕ → Left → List ℕ
+front-of size (left answer buffer scratch) = take size buffer
+
+-- a length was answered, and that many bytes of the buffer are parsed
+pub record Parses-written (w : Write-call) (size : ℕ) (p : Parse-call) : Type 0 where
+  pub answered : answer-of (w .written) ≡ Text size
+  pub text : p .text ≡ front-of size (w .written)
+
+-- what a parse left is written, over the text that it parsed, with room
+pub record Writes-parsed (p : Parse-call) (v : Write-call) : Type 0 where
+  pub bom : Bool
+  pub parsed : p .parsed ≡ outcome (Tokens (v .count) bom) (v .words)
+  pub text : v .text ≡ p .text
+  pub buffer : length (p .text) ≤ v .room
+  pub tape : v .count ≤ capacity (v .scratch)
+
+-- what is written and parsed is the sheet, offsets aside, on any tape with room for the count
+abbrev pub Write-parses : Write-call → Parse-call → Type 0
+Write-parses w p =
+    (size : ℕ) → Parses-written w size p → w .count ≤ capacity (p .len) → Leaves-alike (w .text) (sheet-of w) (p .text) (p .parsed)
+
+-- and written again it is the same length and the same bytes, and zeros behind them
+abbrev pub Write-stable : Write-call → Parse-call → Write-call → Type 0
+Write-stable w p v =
+    (size : ℕ) → Parses-written w size p → Writes-parsed p v
+    → v .written ≡ left (Text size) (front-of size (w .written) ++ zeros (v .room - size)) (zeros (v .scratch))
