@@ -47,7 +47,7 @@ same-bytes-are (b ∷ bs) (c ∷ cs) h =
 
 -- ---- tokens
 -- a token by its words
-as-made : (x : Token) {c a b : ℕ} → x .code ≡ c → x .a ≡ a → x .b ≡ b → x ≡ record { code = c; a = a; b = b }
+pub as-made : (x : Token) {c a b : ℕ} → x .code ≡ c → x .a ≡ a → x .b ≡ b → x ≡ record { code = c; a = a; b = b }
 as-made x e f g = rw (← e, ← f, ← g)
 
 -- two tokens that are the same: one that is no scalar, as it is, or a scalar, by what it views
