@@ -73,7 +73,7 @@ module _ (text : List ℕ) (ts : List Token) (room scratch : ℕ) where
 
   -- ---- by what is answered: a refusal that comes before 45, or else all was given
   by-tests : {P : Type 0} → (formed ts ≡ false → P)
-      → (formed ts ≡ true → (r : Refusal) → number r < 45 → answered ≡ refuse room scratch r → P)
+      → (formed ts ≡ true → (r : Refusal) → number r < number ReadsOtherwise → answered ≡ refuse room scratch r → P)
       → (formed ts ≡ true → Given text ts room scratch → P) → P
   by-tests {P} none early given =
       by-bool (formed ts)
@@ -130,7 +130,8 @@ module _ (text : List ℕ) (ts : List Token) (room scratch : ℕ) where
       let a = ap answer-of (given-accepts f g (back g)) in
       record { not-45 = λ e. length-apart _ _ ReadsOtherwise a e; not-46 = λ e. length-apart _ _ OtherForm a e })
     where
-      later : (r s : Refusal) → number r < 45 → 45 ≤ number s → answered ≡ refuse room scratch r → answer-of answered ≡ Refused s → ⊥
+      later : (r s : Refusal) → number r < number ReadsOtherwise → number ReadsOtherwise ≤ number s → answered ≡ refuse room scratch r
+          → answer-of answered ≡ Refused s → ⊥
       later r s n m a e =
           let same : Refused r ≡ Refused s = sym (ap answer-of a) ∙ e in
           let one : r ≡ s = cc in

@@ -15,7 +15,7 @@ use Rattle.parse.specs.Parse.{parse-of}
 use Rattle.writer.specs.Alike.{alike, found-alike, comes-back}
 use Rattle.writer.specs.Write.{text-of, write-of}
 use Rattle.way_back.specs.Accepted.{Accepted, answer-of, Answers-length, Accepted-exactly, Length-exactly}
-use Rattle.way_back.proofs.Same.{both, first-of, second-of}
+use Rattle.writer.proofs.Forms.{both, first-of, second-of}
 use Rattle.way_back.proofs.Rooms.{Laid, found, laid-anywhere}
 use Rattle.way_back.proofs.Answers.{given-accepts, settled}
 

@@ -30,9 +30,13 @@ pub record Case : Type 0 where
   pub tokens : List Token
   pub refusal : ℕ
 
--- what is answered, with room for 16 bytes and 16 tokens
+-- how many bytes and how many tokens there is room for
+abbrev pub room : ℕ
+room = 16
+
+-- what is answered
 unfoldable pub refused : Case → ℕ
-refused c = refusal-of (answer-of (write-of (bytes (c .text)) (c .tokens) 16 (words-for 16) true))
+refused c = refusal-of (answer-of (write-of (bytes (c .text)) (c .tokens) room (words-for room) true))
 
 -- such a line, written in a line
 abbrev pub case : String → Clause → String → List Token → ℕ → Case

@@ -5,7 +5,7 @@ use mathlib.Core.Path.{_≡_}
 use mathlib.Core.List.{List, [], _∷_, _++_}
 use lib.Dec.{eqb}
 use lib.ListN.{length}
-use Rattle.data.specs.Bytes.{quote, backslash}
+use Rattle.data.specs.Bytes.{quote, minus, point, digit-zero, backslash}
 use Rattle.data.specs.Classes.{among}
 use Rattle.tape.specs.declared.token.Token.{Token}
 use Rattle.tape.specs.declared.token.ContainerKind.{ContainerKind}
@@ -13,10 +13,27 @@ use Rattle.tape.specs.declared.token.ContainerKind.the-variants.{Array, Object}
 use Rattle.tape.specs.declared.token.ScalarKind.the-variants.{Unquoted, Quoted, Parameter, UndefinedParameter, Header, QuotedEscape}
 use Rattle.tape.specs.Token.{nth, opener-of, scalar-of, operator-of, mixed-container-token}
 use Rattle.sheet.specs.Sound.{Sheet}
+use Rattle.promises.specs.Each.{Each}
 use Rattle.writer.specs.Forest.{Forest, no-more, leaf, box, forest-of}
 use Rattle.writer.specs.Pieces.{view-of}
 
 -- ---- bytes
+-- the first of the letters, small and capital, and how many there are; how many digits
+abbrev pub letter-a : ℕ
+letter-a = 97
+
+abbrev pub capital-a : ℕ
+capital-a = 65
+
+abbrev pub letters : ℕ
+letters = 26
+
+abbrev pub digits : ℕ
+digits = 10
+
+abbrev pub underscore : ℕ
+underscore = 95
+
 -- n bytes from b on
 abbrev pub bytes-from : ℕ → ℕ → List ℕ
 bytes-from b zero = []
@@ -24,7 +41,8 @@ bytes-from b (suc n) = b ∷ bytes-from (b + 1) n
 
 -- letters, digits, `_`, `.` and `-`: a to z, A to Z, 0 to 9, and the three
 abbrev pub plain-bytes : List ℕ
-plain-bytes = bytes-from 97 26 ++ (bytes-from 65 26 ++ (bytes-from 48 10 ++ (95 ∷ 46 ∷ 45 ∷ [])))
+plain-bytes =
+    bytes-from letter-a letters ++ (bytes-from capital-a letters ++ (bytes-from digit-zero digits ++ (underscore ∷ point ∷ minus ∷ [])))
 
 -- a byte that is one of them
 unfoldable pub plain-byte : ℕ → Bool
@@ -34,10 +52,12 @@ plain-byte b = among b plain-bytes
 unfoldable pub bare-byte : ℕ → Bool
 bare-byte b = not (eqb b quote) && not (eqb b backslash)
 
--- a test holds of each byte
-abbrev pub Each : (ℕ → Bool) → List ℕ → Type 0
-Each test [] = Unit {0}
-Each test (b ∷ bs) = (test b ≡ true) × Each test bs
+-- each byte is plain, and each is bare
+abbrev pub All-plain : List ℕ → Type 0
+All-plain bytes = Each (λ b. plain-byte b ≡ true) bytes
+
+abbrev pub All-bare : List ℕ → Type 0
+All-bare bytes = Each (λ b. bare-byte b ≡ true) bytes
 
 -- ---- key and entry in turn
 -- a body of a kind, and every body in it: an object's is key and entry in turn, and an array's is entries
@@ -79,9 +99,9 @@ Says no-parameters text ts = (i offset size : ℕ) → nth ts i ≡ scalar-of Pa
 Says no-undefined-parameters text ts = (i offset size : ℕ) → nth ts i ≡ scalar-of UndefinedParameter offset size → ⊥
 Says no-escapes text ts = (i offset size : ℕ) → nth ts i ≡ scalar-of QuotedEscape offset size → ⊥
 -- unquoted bytes only letters, digits, `_`, `.` and `-`
-Says unquoted-bytes text ts = (i offset size : ℕ) → nth ts i ≡ scalar-of Unquoted offset size → Each plain-byte (view-of text offset size)
+Says unquoted-bytes text ts = (i offset size : ℕ) → nth ts i ≡ scalar-of Unquoted offset size → All-plain (view-of text offset size)
 -- quoted bytes without quote or backslash
-Says quoted-bytes text ts = (i offset size : ℕ) → nth ts i ≡ scalar-of Quoted offset size → Each bare-byte (view-of text offset size)
+Says quoted-bytes text ts = (i offset size : ℕ) → nth ts i ≡ scalar-of Quoted offset size → All-bare (view-of text offset size)
 -- objects not empty: an empty container is one whose End is the next token
 Says objects-filled text ts = (i : ℕ) (flag : Bool) → nth ts i ≡ opener-of Object (i + 1) flag → ⊥
 -- no array whose first entry is an empty container
