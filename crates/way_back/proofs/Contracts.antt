@@ -19,8 +19,7 @@ use Rattle.writer.specs.declared.Written.{Written}
 use Rattle.writer.specs.declared.Written.the-variants.{Text}
 use Rattle.writer.specs.Write.{Left, left, zeros, accept, text-of, write-of}
 use Rattle.writer.proofs.write.Reads as write
-use Rattle.way_back.specs.Accepted.{Accepted, answer-of}
-use Rattle.way_back.specs.Stable.{Accepted-as}
+use Rattle.way_back.specs.Accepted.{Accepted-as, Accepted, answer-of}
 use Rattle.way_back.specs.Contracts.{Write-call, Parse-call, sheet-of, Write-exactly, Write-plain}
 use Rattle.way_back.specs.Contracts.{front-of, Parses-written, Write-parses, Write-stable}
 use Rattle.way_back.proofs.Answers.{given-accepts, settled, length-sound}

@@ -13,8 +13,8 @@ use Rattle.tape.specs.Words.{padded, capacity, words-for, tokens-in}
 use Rattle.promises.proofs.Demand3.{parse-sound}
 use Rattle.writer.specs.Alike.{alike}
 use Rattle.writer.specs.Write.{accept, zeros, text-of}
-use Rattle.way_back.specs.Accepted.{Given, Reads-back, answer-of}
-use Rattle.way_back.specs.Stable.{Accepted-as, Parses-again, Writes-again}
+use Rattle.way_back.specs.Accepted.{Given, Accepted-as, Reads-back, answer-of}
+use Rattle.way_back.specs.Stable.{Parses-again, Writes-again}
 use Rattle.way_back.proofs.Same.{alike-self}
 use Rattle.way_back.proofs.Rooms.{Laid, found, laid-anywhere}
 use Rattle.way_back.proofs.Answers.{given-accepts, Settled, settled}

@@ -24,9 +24,13 @@ pub record Given (text : List ℕ) (ts : List Token) (room scratch : ℕ) : Type
   pub buffer : length (text-of text ts) ≤ room
   pub tape : length ts ≤ capacity scratch
 
--- accepted: the answer is the text's length, the text stands in the buffer, and the rest and the scratch are zero
+-- accepted as some bytes: the answer is their length, they stand in the buffer, and the rest and the scratch are zero
+abbrev pub Accepted-as : List ℕ → List Token → ℕ → ℕ → List ℕ → Type 0
+Accepted-as text ts room scratch bytes = write-of text ts room scratch true ≡ accept room scratch bytes
+
+-- accepted: as the text
 abbrev pub Accepted : List ℕ → List Token → ℕ → ℕ → Type 0
-Accepted text ts room scratch = write-of text ts room scratch true ≡ accept room scratch (text-of text ts)
+Accepted text ts room scratch = Accepted-as text ts room scratch (text-of text ts)
 
 -- the text written parses, on a tape of so many words, to the same codes, words and scalar bytes, offsets aside
 abbrev pub Reads-back : List ℕ → List Token → ℕ → Type 0

@@ -11,11 +11,8 @@ use Rattle.machine.specs.Finish.{Outcome, outcome}
 use Rattle.parse.specs.Parse.{parse-of}
 use Rattle.sheet.specs.Sound.{Sound}
 use Rattle.writer.specs.Alike.{alike}
-use Rattle.writer.specs.Write.{accept, text-of, formed, too-deep, write-of}
-
--- a sheet is accepted, and these are the bytes of its text
-abbrev pub Accepted-as : List ℕ → List Token → ℕ → ℕ → List ℕ → Type 0
-Accepted-as text ts room scratch bytes = write-of text ts room scratch true ≡ accept room scratch bytes
+use Rattle.writer.specs.Write.{text-of, formed, too-deep}
+use Rattle.way_back.specs.Accepted.{Accepted-as}
 
 -- a parse of some bytes that leaves a sheet's tokens, offsets aside
 pub record Leaves-alike (text : List ℕ) (ts : List Token) (bytes : List ℕ) (parsed : Outcome) : Type 0 where
