@@ -68,9 +68,9 @@ counted room scratch size bytes written e f =
     (n, ap (front-of size) e ∙ rw n (take-append-seam bytes (zeros (room - length bytes))))
 
 -- the sheet is accepted as the bytes that are parsed
-pub record Came (w : Write-call) (size : ℕ) (p : Parse-call) : Type 0 where
-  pub accepted : Accepted-as (w .text) (sheet-of w) (w .room) (w .scratch) (p .text)
-  pub size-is : size ≡ length (p .text)
+record Came (w : Write-call) (size : ℕ) (p : Parse-call) : Type 0 where
+  accepted : Accepted-as (w .text) (sheet-of w) (w .room) (w .scratch) (p .text)
+  size-is : size ≡ length (p .text)
 
 came : (w : Write-call) (p : Parse-call) → Writes w → (size : ℕ) → Parses-written w size p → Came w size p
 came w p d size h =
