@@ -13,7 +13,7 @@ use Rattle.tape.specs.declared.token.Token.{Token}
 use Rattle.tape.specs.Words.{capacity}
 use Rattle.parse.specs.Parse.{text-limit, parse-of}
 use Rattle.writer.specs.declared.Refusal.{Refusal}
-use Rattle.writer.specs.declared.Refusal.the-variants.{TooDeep, TooLong, NoRoom, ReadsOtherwise, OtherForm}
+use Rattle.writer.specs.declared.Refusal.the-variants.{NotSound, TooDeep, TooLong, NoRoom, ReadsOtherwise, OtherForm}
 use Rattle.writer.specs.declared.Written.{Written}
 use Rattle.writer.specs.declared.Written.the-variants.{Text, Refused}
 use Rattle.writer.specs.Refusals.{number}
@@ -73,7 +73,7 @@ module _ (text : List ℕ) (ts : List Token) (room scratch : ℕ) where
 
   -- ---- by what is answered: a refusal that comes before 45, or else all was given
   by-tests : {P : Type 0} → (formed ts ≡ false → P)
-      → (formed ts ≡ true → (r : Refusal) → number r < 45 → answered ≡ refuse room scratch r → P)
+      → (formed ts ≡ true → (r : Refusal) → number r < number ReadsOtherwise → answered ≡ refuse room scratch r → P)
       → (formed ts ≡ true → Given text ts room scratch → P) → P
   by-tests {P} none early given =
       by-bool (formed ts)
@@ -99,7 +99,7 @@ module _ (text : List ℕ) (ts : List Token) (room scratch : ℕ) where
     pub given : Given text ts room scratch
     pub back : Reads-back text ts scratch
 
-  pub settled : Answers-length text ts room scratch → Settled
+  pub settled : Answers-length answered → Settled
   settled (size, e) =
       by-tests
       (λ f. length-apart _ size OtherForm e (ap answer-of (other-form f)))
@@ -107,6 +107,15 @@ module _ (text : List ℕ) (ts : List Token) (room scratch : ℕ) where
       (λ f g. by-bool (comes-back text (text-of text ts) ts (parse-of (text-of text ts) scratch))
       (λ b. record { form = f; given = g; back = b })
       (λ b. length-apart _ size ReadsOtherwise e (ap answer-of (given-refuses f g b))))
+
+  -- and to a sound sheet alone
+  not-sound : write-of text ts room scratch false ≡ refuse room scratch NotSound
+  unfolding write-of weigh
+  not-sound = refl
+
+  pub length-sound : (yes : Bool) → Answers-length (write-of text ts room scratch yes) → yes ≡ true
+  length-sound true a = refl
+  length-sound false (size, e) = length-apart _ size NotSound e (ap answer-of not-sound)
 
   -- a sheet of the form whose text reads back wherever there is room is refused for depth, length and room alone
   pub promised : formed ts ≡ true → (Given text ts room scratch → Reads-back text ts scratch) → Promised (answer-of answered)
@@ -121,7 +130,8 @@ module _ (text : List ℕ) (ts : List Token) (room scratch : ℕ) where
       let a = ap answer-of (given-accepts f g (back g)) in
       record { not-45 = λ e. length-apart _ _ ReadsOtherwise a e; not-46 = λ e. length-apart _ _ OtherForm a e })
     where
-      later : (r s : Refusal) → number r < 45 → 45 ≤ number s → answered ≡ refuse room scratch r → answer-of answered ≡ Refused s → ⊥
+      later : (r s : Refusal) → number r < number ReadsOtherwise → number ReadsOtherwise ≤ number s → answered ≡ refuse room scratch r
+          → answer-of answered ≡ Refused s → ⊥
       later r s n m a e =
           let same : Refused r ≡ Refused s = sym (ap answer-of a) ∙ e in
           let one : r ≡ s = cc in

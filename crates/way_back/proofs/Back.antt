@@ -12,13 +12,17 @@ use Rattle.data.specs.Classes.{is-boundary}
 use Rattle.cut.specs.declared.Skipped.the-variants.{At}
 use Rattle.cut.specs.Blanks.{is-blank, skip-ws}
 use Rattle.tape.specs.declared.token.Token.{Token}
+use Rattle.tape.specs.declared.token.ContainerKind.{ContainerKind}
 use Rattle.tape.specs.declared.token.ContainerKind.the-variants.{Array, Object}
-use Rattle.tape.specs.Token.{no-token, opener-of, container-of}
+use Rattle.tape.specs.declared.token.Container.the-variants.{Opened}
+use Rattle.tape.specs.Token.{no-token, opener-of}
+use Rattle.tape.proofs.Makers.{opener-container}
 use Rattle.tape.specs.Tape.{Tape}
 use Rattle.machine.specs.declared.State.{State}
 use Rattle.machine.specs.declared.State.the-variants.{Key, KeyValueSeparator, ObjectValue, ParseOpen, ArrayValue}
 use Rattle.machine.specs.declared.Machine.{Machine}
 use Rattle.machine.specs.Machine.{byte-at}
+use Rattle.machine.specs.Parents.{state-in}
 use Rattle.machine.specs.Bytes.{follows-key}
 use Rattle.parse.specs.After.{After, next}
 use Rattle.parse.specs.Parse.{turn, run}
@@ -29,7 +33,7 @@ use Rattle.way_back.proofs.Tree.{Filled, Plain-entry, Plain-entries, Pl
 use Rattle.way_back.proofs.Stands.{first-byte, one-on, further}
 use Rattle.way_back.proofs.Bytes.{Begins, brace-begins}
 use Rattle.way_back.proofs.Cuts.{ends, skip-none, skip-space}
-use Rattle.way_back.proofs.Turns.{now, Held, held-more, First, word-first, begun, key-word, equals-turn, Due, in-object}
+use Rattle.way_back.proofs.Turns.{now, Held, held-more, First, word-first, begun, key-word, equals-turn, Awaits, in-object}
 use Rattle.way_back.proofs.Turns.{in-array, value-word, value-brace, object-closes, array-closes, fresh, open-closes, open-key, open-value}
 use Rattle.way_back.proofs.Turns.{open-braces}
 
@@ -77,22 +81,17 @@ entries-end no-entries post h = h
 entries-end (more e es) post h = refl
 
 -- the container that an opener makes
-pub held-object : (ts us : List Token) (p : ℕ) → Held (ts ++ (opener-of Object p false ∷ us)) (length ts) Key
-unfolding container-of
-held-object ts us p =
-    let e = getD-append-seam ts (opener-of Object p false) us no-token in
-    record { within = omega (arith, length-append ts (opener-of Object p false ∷ us)); state = rw e; mixed = rw e }
-
-pub held-array : (ts us : List Token) (p : ℕ) → Held (ts ++ (opener-of Array p false ∷ us)) (length ts) ArrayValue
-unfolding container-of
-held-array ts us p =
-    let e = getD-append-seam ts (opener-of Array p false) us no-token in
-    record { within = omega (arith, length-append ts (opener-of Array p false ∷ us)); state = rw e; mixed = rw e }
+held-opener : (kind : ContainerKind) (ts us : List Token) (p : ℕ)
+    → Held (ts ++ (opener-of kind p false ∷ us)) (length ts) (state-in (Opened kind p false))
+held-opener kind ts us p =
+    let e = getD-append-seam ts (opener-of kind p false) us no-token in
+    let c = opener-container kind p false in
+    record { within = omega (arith, length-append ts (opener-of kind p false ∷ us)); state = rw (e, c); mixed = rw (e, c) }
 
 -- ---- the statements
 abbrev pub Reads : Entry → Type 0
 Reads e =
-    (text : List ℕ) (q at : ℕ) (post : List ℕ) (s₀ s : State) (p i : ℕ) (ts : List Token) → Due s₀ s → Plain-entry e → Held ts p s
+    (text : List ℕ) (q at : ℕ) (post : List ℕ) (s₀ s : State) (p i : ℕ) (ts : List Token) → Awaits s₀ s → Plain-entry e → Held ts p s
     → i ≡ length ts
     → skip-ws text q ≡ At at → drop at text ≡ write e ++ post → ends post ≡ true
     → Reaches text (now q s₀ p ts) (now (at + length (write e)) s p (ts ++ flatten e at i))
@@ -172,7 +171,7 @@ read-object k e ps ihe ihps text q at post s₀ s p i ts d pl h c f st n =
     let c2 : i + 2 + length X ≡ length T2 = omega (arith, length-append T1 X, c1) in
     let Y : List Token = flatten-pairs ps (a + 1 + length W) (i + 2 + length X) in
     let body : List Token = token-of k (at + 1) ∷ (X ++ Y) in
-    let h1 : Held T1 (length ts) Key = held-object ts (token-of k (at + 1) ∷ []) p in
+    let h1 : Held T1 (length ts) Key = held-opener Object ts (token-of k (at + 1) ∷ []) p in
     let inside : T2 ++ Y ≡ ts ++ (o ∷ body) = simp append-assoc in
     let place : a + 1 + length W + length P + 1 ≡ at + length (write (object k e ps)) =
     omega (
@@ -221,13 +220,13 @@ read-more e es ihe ihes text q at post s p j ts us pl h c f st =
     ap (λ (l : List Token). ts ++ enclosed Array (length ts) l) (append-assoc us X Y) in
     arrive place tokens
     (arrive refl inside
-    (ihe text q (at + 1) (E ++ (brace-close ∷ post)) ArrayValue ArrayValue (length ts) j T1 in-array (pl .0) (held-array ts us p) c
+    (ihe text q (at + 1) (E ++ (brace-close ∷ post)) ArrayValue ArrayValue (length ts) j T1 in-array (pl .0) (held-opener Array ts us p) c
     (f ∙ skip-space text at (s0 ∙ ap (λ (l : List ℕ). space ∷ (l ++ (E ++ (brace-close ∷ post)))) (g .is)) (g .fits .blank)
     (g .fits .comment)) s1 (entries-end es (brace-close ∷ post) refl))
     then ihes text (at + 1 + length W) (at + 1 + length W) post s p (j + length X) ts (us ++ X) (pl .1) h c2 refl s2)
 
 -- ---- the first entry of an array: the machine comes to stand behind it, or behind the blank that follows it
-record Entered (text : List ℕ) (x : After) (at p : ℕ) (ts : List Token) : Type 0 where
+record Past-first (text : List ℕ) (x : After) (at p : ℕ) (ts : List Token) : Type 0 where
   place : ℕ
   same : skip-ws text place ≡ skip-ws text at
   reached : Reaches text x (now place ArrayValue p ts)
@@ -266,7 +265,7 @@ module _ (es : Entries) (text : List ℕ) (at : ℕ) (post : List ℕ) (p i : �
 
   enter-container : (e : Entry) → Reads e → Plain-entry e → (b : ℕ) (bs : List ℕ) → Begins b → drop at text ≡ brace-open ∷ b ∷ bs
       → drop at text ≡ write e ++ behind
-      → Entered text (now at ParseOpen p (ts ++ (fresh ∷ []))) (at + length (write e)) (length ts)
+      → Past-first text (now at ParseOpen p (ts ++ (fresh ∷ []))) (at + length (write e)) (length ts)
       (ts ++ (opener-of Array p false ∷ flatten e at (i + 1)))
   unfolding is-boundary is-blank
   enter-container e ih pl b bs g s1 st =
@@ -277,11 +276,11 @@ module _ (es : Entries) (text : List ℕ) (at : ℕ) (post : List ℕ) (p i : �
             step (open-braces text at b bs p ts s1 g)
             then arrive refl (append-assoc ts (opener-of Array p false ∷ []) (flatten e at (i + 1)))
             (ih text at at behind ArrayValue ArrayValue (length ts) (i + 1) (ts ++ (opener-of Array p false ∷ [])) in-array pl
-            (held-array ts [] p) c (skip-none text at s1 refl refl) st (entries-end es (brace-close ∷ post) refl));
+            (held-opener Array ts [] p) c (skip-none text at s1 refl refl) st (entries-end es (brace-close ∷ post) refl));
       }
 
   enter : (e : Entry) → Reads e → Filled e → Plain-entry e → drop at text ≡ write e ++ behind
-      → Entered text (now at ParseOpen p (ts ++ (fresh ∷ []))) (at + length (write e)) (length ts)
+      → Past-first text (now at ParseOpen p (ts ++ (fresh ∷ []))) (at + length (write e)) (length ts)
       (ts ++ (opener-of Array p false ∷ flatten e at (i + 1)))
   unfolding is-boundary
   enter (scalar w) ih fl pl st =

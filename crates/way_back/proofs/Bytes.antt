@@ -1,10 +1,9 @@
 -- What the bytes of plain scalars are to the parse: a test that holds at each of the 65 holds at every plain byte, by computing.
 -- Assumes nothing.
 use mathlib.Core.Path.{_≡_, refl}
-use mathlib.Core.Bool.{Bool, true, false, not}
+use mathlib.Core.Bool.{Bool, true, false, not, false≢true}
 use mathlib.Core.List.{List, [], _∷_}
 use Prim.Native.Nat.{ℕ}
-use native.Mathlib.Omega.{arith}
 use borrow.Author.Tests.{eqb-true, not-true}
 use lib.Dec.{eqb}
 use Rattle.data.proofs.Cases.{by-bool}
@@ -21,17 +20,14 @@ abbrev all : (ℕ → Bool) → List ℕ → Bool
 all test [] = true
 all test (b ∷ bs) = elim (test b) [ true ↦ all test bs | false ↦ false ]
 
-no-truth : {P : Type 0} → false ≡ true → P
-no-truth e = let z : _≡_ {A = ℕ} 0 1 = cc in absurd (omega arith)
-
 of-all : (test : ℕ → Bool) (l : List ℕ) (b : ℕ) → all test l ≡ true → among b l ≡ true → test b ≡ true
-of-all test [] b a m = no-truth m
+of-all test [] b a m = absurd (false≢true m)
 of-all test (x ∷ xs) b a m =
     by-bool (test x)
     (λ t. by-bool (eqb b x)
     (λ e. rw (eqb-true b x e) t)
     (λ f. of-all test xs b (rw (all, t) at a) (rw (among, f) at m)))
-    (λ f. no-truth (rw (all, f) at a))
+    (λ f. absurd (false≢true (rw (all, f) at a)))
 
 -- a test that fails at each of them fails at every plain byte
 pub spared : (test : ℕ → Bool) (b : ℕ) → all (λ x. not (test x)) plain-bytes ≡ true → plain-byte b ≡ true → test b ≡ false

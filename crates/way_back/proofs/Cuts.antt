@@ -4,7 +4,7 @@ use mathlib.Core.Path.{_≡_, refl, sym, _∙_, ap}
 use mathlib.Core.Bool.{Bool, true, false, false≢true}
 use mathlib.Core.List.{List, [], _∷_, _++_}
 use Prim.Native.Nat.{ℕ, suc, _+_}
-use native.Mathlib.Nat.{add-zero}
+use native.Mathlib.Nat.{add-zero, zero-add}
 use native.Mathlib.Omega.{arith}
 use borrow.Author.Tests.{lt-ltb, eqb-false, not-true}
 use lib.Dec.{eqb}
@@ -21,7 +21,7 @@ use Rattle.cut.specs.Runs.{stop-from, run-of, run-end-of}
 use Rattle.cut.specs.Quotes.{quoted-from, skipped-from, quoted-run}
 use Rattle.cut.specs.Scalars.{scalar-cut, cut-of}
 use Rattle.cut.proofs.Scalars.{opens-not}
-use Rattle.way_back.specs.Plain.{plain-byte, bare-byte, Each}
+use Rattle.way_back.specs.Plain.{bare-byte, All-plain, All-bare}
 use Rattle.way_back.proofs.Stands.{first-byte, one-on, stands-within}
 use Rattle.way_back.proofs.Bytes.{plain-runs, plain-unquoted, plain-no-variable}
 
@@ -55,13 +55,13 @@ abbrev pub ends : List ℕ → Bool
 ends [] = true
 ends (b ∷ bs) = is-boundary b
 
-pub stop-run : (bs post : List ℕ) (at : ℕ) → Each plain-byte bs → ends post ≡ true → stop-from is-boundary (bs ++ post) at ≡ at + length bs
+pub stop-run : (bs post : List ℕ) (at : ℕ) → All-plain bs → ends post ≡ true → stop-from is-boundary (bs ++ post) at ≡ at + length bs
 unfolding stop-from
 stop-run [] [] at h e = sym (add-zero at)
 stop-run [] (b ∷ post) at h e = rw (stop-from, e) (sym (add-zero at))
 stop-run (b ∷ bs) post at h e = rw (stop-from, plain-runs b (h .0)) (stop-run bs post (at + 1) (h .1) e ∙ omega arith)
 
-pub cut-unquoted : (text : List ℕ) (at b : ℕ) (bs post : List ℕ) → drop at text ≡ (b ∷ bs) ++ post → Each plain-byte (b ∷ bs)
+pub cut-unquoted : (text : List ℕ) (at b : ℕ) (bs post : List ℕ) → drop at text ≡ (b ∷ bs) ++ post → All-plain (b ∷ bs)
     → ends post ≡ true
     → scalar-cut text at ≡ Cut.the-variants.Unquoted at (at + length (b ∷ bs)) (at + length (b ∷ bs))
 unfolding scalar-cut cut-of run-end-of run-of
@@ -82,7 +82,7 @@ quoted-at : (b : ℕ) (bs : List ℕ) (n : ℕ)
 unfolding quoted-from
 quoted-at b bs n = refl
 
-quoted-all : (bs post : List ℕ) (n : ℕ) → Each bare-byte bs → quoted-from (bs ++ (quote ∷ post)) n false ≡ Closed (n + length bs) false
+quoted-all : (bs post : List ℕ) (n : ℕ) → All-bare bs → quoted-from (bs ++ (quote ∷ post)) n false ≡ Closed (n + length bs) false
 unfolding quoted-from bare-byte
 quoted-all [] post n h = rw (add-zero n)
 quoted-all (b ∷ bs) post n h =
@@ -91,12 +91,9 @@ quoted-all (b ∷ bs) post n h =
     (λ q. rw (quoted-at, q, not-true (eqb b backslash) (rw (bare-byte, q) at (h .0)))
     (quoted-all bs post (n + 1) (h .1) ∙ ap (λ (k : ℕ). Closed k false) {x = n + 1 + length bs} {y = n + suc (length bs)} (omega arith)))
 
-pub cut-quoted : (text : List ℕ) (at : ℕ) (bs post : List ℕ) → drop at text ≡ quote ∷ (bs ++ (quote ∷ post)) → Each bare-byte bs
+pub cut-quoted : (text : List ℕ) (at : ℕ) (bs post : List ℕ) → drop at text ≡ quote ∷ (bs ++ (quote ∷ post)) → All-bare bs
     → scalar-cut text at ≡ Cut.the-variants.Quoted (at + 1) (at + 1 + length bs) (at + 1 + length bs + 1) false
 unfolding scalar-cut cut-of quoted-run
 cut-quoted text at bs post e h =
     let within = lt-ltb at (length text) (stands-within text at e) in
-    rw (scalar-cut, cut-of, within, first-byte text at e, one-on text at e, quoted-run, quoted-all bs post 0 h, zero-plus (length bs))
-  where
-    zero-plus : (n : ℕ) → 0 + n ≡ n
-    zero-plus n = omega arith
+    rw (scalar-cut, cut-of, within, first-byte text at e, one-on text at e, quoted-run, quoted-all bs post 0 h, zero-add (length bs))

@@ -13,9 +13,9 @@ use Rattle.machine.specs.declared.Parsed.the-variants.{Tokens, Refused}
 use Rattle.machine.specs.Finish.{Outcome, outcome}
 use Rattle.parse.specs.Parse.{parse-of}
 use Rattle.writer.specs.Alike.{alike, found-alike, comes-back}
-use Rattle.writer.specs.Write.{text-of, formed}
-use Rattle.way_back.specs.Accepted.{Given, answer-of, Accepted-exactly, Length-exactly}
-use Rattle.way_back.proofs.Same.{both, first-of, second-of}
+use Rattle.writer.specs.Write.{text-of, write-of}
+use Rattle.way_back.specs.Accepted.{Accepted, answer-of, Answers-length, Accepted-exactly, Length-exactly}
+use Rattle.writer.proofs.Forms.{both, first-of, second-of}
 use Rattle.way_back.proofs.Rooms.{Laid, found, laid-anywhere}
 use Rattle.way_back.proofs.Answers.{given-accepts, settled}
 
@@ -48,16 +48,21 @@ module _ (text other : List ℕ) (ts : List Token) where
       let u : List Token = c .tokens in
       rw (c .laid .parsed len room, found len (length ts) u (c .laid .counted)) (both (eq-eqb (length ts) (length ts) refl) (c .same))
 
-module _ (text : List ℕ) (ts : List Token) (room scratch : ℕ) (g : Given text ts room scratch) where
-  pub accepted-exactly : formed ts ≡ true → Accepted-exactly text ts room scratch
-  accepted-exactly f len fits = (
-    λ a. comes-anywhere text (text-of text ts) ts (comes text (text-of text ts) ts scratch (settled text ts room scratch (_, ap answer-of a) .back)) len fits,
-    λ b. given-accepts text ts room scratch f g (comes-anywhere text (text-of text ts) ts (comes text (text-of text ts) ts len b) scratch (g .tape)),
-  )
+pub accepted-exactly : (text : List ℕ) (ts : List Token) (room scratch : ℕ) → Accepted-exactly text ts room scratch
+accepted-exactly text ts room scratch g f len fits = (
+  λ a. comes-anywhere text (text-of text ts) ts (comes text (text-of text ts) ts scratch (settled text ts room scratch (_, ap answer-of a) .back)) len fits,
+  λ b. given-accepts text ts room scratch f g (comes-anywhere text (text-of text ts) ts (comes text (text-of text ts) ts len b) scratch (g .tape)),
+)
 
-  pub length-exactly : Length-exactly text ts room scratch
-  length-exactly len fits = (
-    λ a. let s = settled text ts room scratch a in
-        (s .form, accepted-exactly (s .form) len fits .0 (given-accepts text ts room scratch (s .form) g (s .back))),
-    λ b. (_, ap answer-of (accepted-exactly (b .0) len fits .1 (b .1))),
-  )
+pub length-exactly : (text : List ℕ) (ts : List Token) (room scratch : ℕ) → Length-exactly text ts room scratch
+length-exactly text ts room scratch g len fits =
+    record {
+      exactly = (
+        λ a. (settled text ts room scratch a .form, accepted-exactly text ts room scratch g (settled text ts room scratch a .form) len fits .0 (whole a)),
+        λ b. (_, ap answer-of (accepted-exactly text ts room scratch g (b .0) len fits .1 (b .1))),
+      );
+      accepted = whole;
+    }
+  where
+    whole : Answers-length (write-of text ts room scratch true) → Accepted text ts room scratch
+    whole a = let s = settled text ts room scratch a in given-accepts text ts room scratch (s .form) (s .given) (s .back)

@@ -17,6 +17,7 @@ pub mod Exactly
 pub mod Promised
 pub mod Likeness
 pub mod Stable
+pub mod Tested
 pub mod Cases
 pub mod Samples
 pub mod Contracts

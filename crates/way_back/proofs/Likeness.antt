@@ -2,7 +2,7 @@
 -- Assumes nothing.
 use mathlib.Core.Path.{_≡_, refl, sym, _∙_, ap}
 use mathlib.Core.Bool.{Bool, true, false, _&&_}
-use mathlib.Core.List.{List, [], _++_}
+use mathlib.Core.List.{List, _++_}
 use Prim.Native.Nat.{ℕ, zero, suc, _+_, _-_, _<_}
 use native.Mathlib.Omega.{arith}
 use borrow.Author.Tests.{ltb-true, ltb-false}
@@ -35,6 +35,7 @@ use Rattle.writer.specs.Levels.{levels, most-levels}
 use Rattle.writer.specs.Alike.{alike}
 use Rattle.writer.specs.Write.{text-of, formed, too-deep}
 use Rattle.writer.proofs.Grown.{none-left, takes-leaf, takes-box}
+use Rattle.writer.proofs.Walks.{leaf-piece}
 use Rattle.way_back.proofs.Same.{Same, same, viewed, alike-length, alike-at}
 
 -- ---- pieces
@@ -101,14 +102,10 @@ module _ (text other : List ℕ) where
   unfolding piece-of
   piece-opened x kind end flag e = rw (piece-of, e)
 
-  piece-bare : (x : Token) → container-of x ≡ Nothing → piece-of x ≡ bare-piece (shape-of x)
-  unfolding piece-of
-  piece-bare x e = rw (piece-of, e)
-
   agree-bare : (x : Token) → scalar-named (x .code) ≡ Named.Nothing → (c : Container) → container-of x ≡ c
       → Agrees text other (piece-of x) (piece-of x)
   agree-bare x n (Opened kind end flag) e = rw (piece-opened x kind end flag e) (agree-opener kind end)
-  agree-bare x n Nothing e = rw (piece-bare x e) (agree-shape x n (shape-of x) refl)
+  agree-bare x n Nothing e = rw (leaf-piece x e) (agree-shape x n (shape-of x) refl)
 
   agree : (x y : Token) → Same text other x y → Agrees text other (piece-of x) (piece-of y)
   agree x y (same n e) = rw (← e) (agree-bare x n (container-of x) refl)

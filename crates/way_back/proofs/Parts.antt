@@ -20,14 +20,14 @@ use Rattle.sheet.specs.Sound.{Form, container, mixed-container, scalar, operato
 use Rattle.writer.specs.Pieces.{view-of}
 use Rattle.writer.specs.Forest.{Forest, no-more, leaf, box, stretch, forest-of}
 use Rattle.writer.specs.Ranges.{Range}
-use Rattle.way_back.specs.Plain.{plain-byte, bare-byte, Each, Plain}
+use Rattle.way_back.specs.Plain.{All-plain, All-bare, Plain}
 use Rattle.writer.proofs.Grown.{opens-not, sheet-range, by-token, stretch-none, stretch-leaf, stretch-box}
 
 -- a plain scalar that lies within the text
 pub data Plain-token (text : List ℕ) (x : Token) : Type 0 where
-  plain-unquoted : (a n : ℕ) → x ≡ scalar-of Unquoted a n → a + n ≤ length text → 0 < n → Each plain-byte (view-of text a n)
+  plain-unquoted : (a n : ℕ) → x ≡ scalar-of Unquoted a n → a + n ≤ length text → 0 < n → All-plain (view-of text a n)
       → Plain-token text x
-  plain-quoted : (a n : ℕ) → x ≡ scalar-of Quoted a n → a + n ≤ length text → Each bare-byte (view-of text a n) → Plain-token text x
+  plain-quoted : (a n : ℕ) → x ≡ scalar-of Quoted a n → a + n ≤ length text → All-bare (view-of text a n) → Plain-token text x
 
 -- a body that is not empty
 abbrev pub Not-empty : Forest → Type 0

@@ -10,9 +10,9 @@ use Rattle.tape.specs.declared.token.Token.{Token}
 use Rattle.tape.specs.Words.{capacity}
 use Rattle.parse.specs.Parse.{text-limit}
 use Rattle.writer.specs.Forest.{forest-of}
-use Rattle.writer.specs.Write.{text-of, formed, write-of}
+use Rattle.writer.specs.Write.{text-of, formed}
 use Rattle.way_back.specs.Plain.{Plain}
-use Rattle.way_back.specs.Accepted.{Given, Accepted, Reads-back, answer-of, Promised}
+use Rattle.way_back.specs.Accepted.{Reads-back, Plain-accepted, Plain-promised}
 use Rattle.way_back.proofs.Tree.{Tree, write-tree, flatten-tree}
 use Rattle.way_back.proofs.Same.{alike-length}
 use Rattle.way_back.proofs.Views.{spelled-tree, one-tree}
@@ -47,11 +47,12 @@ module _ (text : List ℕ) (ts : List Token) (p : Plain text ts) where
       let e : text-of text ts ≡ write-tree (tree-of text ts) = root-written text (forest-of ts) (p .in-turn) (plain-parts text ts p) in
       rw e (comes-anywhere text (write-tree (tree-of text ts)) ts (treed-comes text ts (tree-of text ts) (plain-treed text ts p) (rw e at fits)) len room)
 
-  module _ (room scratch : ℕ) where
-    -- so it is accepted
-    pub plain-accepted : Given text ts room scratch → Accepted text ts room scratch
-    plain-accepted g = given-accepts text ts room scratch plain-formed g (plain-reads-back (g .limit) scratch (g .tape))
+-- so it is accepted
+pub plain-accepted : (text : List ℕ) (ts : List Token) → Plain-accepted text ts
+plain-accepted text ts p room scratch g =
+    given-accepts text ts room scratch (plain-formed text ts p) g (plain-reads-back text ts p (g .limit) scratch (g .tape))
 
-    -- and with no more given it is never 45 or 46
-    pub plain-promised : Promised (answer-of (write-of text ts room scratch true))
-    plain-promised = promised text ts room scratch plain-formed (λ g. plain-reads-back (g .limit) scratch (g .tape))
+-- and with no more given it is never 45 or 46
+pub plain-promised : (text : List ℕ) (ts : List Token) → Plain-promised text ts
+plain-promised text ts p room scratch =
+    promised text ts room scratch (plain-formed text ts p) (λ g. plain-reads-back text ts p (g .limit) scratch (g .tape))

@@ -1,7 +1,7 @@
 -- What the test of two sheets being the same tokens tells, and when it holds.
 -- Assumes nothing.
 use mathlib.Core.Path.{_≡_, refl, sym, _∙_, ap}
-use mathlib.Core.Bool.{Bool, true, false, _&&_, false≢true}
+use mathlib.Core.Bool.{true, false≢true}
 use mathlib.Core.List.{List, [], _∷_, _++_}
 use Prim.Native.Nat.{ℕ, zero, suc}
 use borrow.Author.Tests.{eqb-true, eq-eqb}
@@ -16,18 +16,7 @@ use Rattle.tape.proofs.Makers.{code-names}
 use Rattle.tape.proofs.Shapes.{named-code}
 use Rattle.writer.specs.Pieces.{view-of}
 use Rattle.writer.specs.Alike.{same-bytes, same-view, same-words, same-token, alike}
-
--- ---- two tests at once
-pub both : {a b : Bool} → a ≡ true → b ≡ true → (a && b) ≡ true
-both p q = rw p q
-
-pub first-of : (a b : Bool) → (a && b) ≡ true → a ≡ true
-first-of true b h = refl
-first-of false b h = h
-
-pub second-of : (a b : Bool) → (a && b) ≡ true → b ≡ true
-second-of true b h = h
-second-of false b h = absurd (false≢true h)
+use Rattle.writer.proofs.Forms.{both, first-of, second-of}
 
 -- ---- bytes
 pub bytes-same : (bs : List ℕ) → same-bytes bs bs ≡ true
@@ -47,7 +36,7 @@ same-bytes-are (b ∷ bs) (c ∷ cs) h =
 
 -- ---- tokens
 -- a token by its words
-as-made : (x : Token) {c a b : ℕ} → x .code ≡ c → x .a ≡ a → x .b ≡ b → x ≡ record { code = c; a = a; b = b }
+pub as-made : (x : Token) {c a b : ℕ} → x .code ≡ c → x .a ≡ a → x .b ≡ b → x ≡ record { code = c; a = a; b = b }
 as-made x e f g = rw (← e, ← f, ← g)
 
 -- two tokens that are the same: one that is no scalar, as it is, or a scalar, by what it views

@@ -18,8 +18,9 @@ use Rattle.tape.specs.declared.token.Token.{Token}
 use Rattle.tape.specs.declared.token.ContainerKind.{ContainerKind}
 use Rattle.tape.specs.declared.token.ContainerKind.the-variants.{Array, Object}
 use Rattle.tape.specs.declared.token.ScalarKind.the-variants.{Unquoted, Quoted}
-use Rattle.tape.specs.Token.{nth, container-of, scalar-named, scalar-of, opener-of, end-of}
-use Rattle.tape.specs.Words.{tokens-in, words-of, padded}
+use Rattle.tape.specs.Token.{array-code, object-code, mixed-container-code, parameter-code, undefined-parameter-code, operator-code}
+use Rattle.tape.specs.Token.{header-code, quoted-escape-code, nth, container-of, scalar-named, scalar-of, opener-of, end-of}
+use Rattle.tape.specs.Words.{words-for, tokens-in, words-of, padded}
 use Rattle.tape.specs.Tape.{token-at, replace, add, lay}
 use Rattle.machine.specs.declared.Parsed.the-variants.{Tokens}
 use Rattle.machine.specs.Bytes.{key-byte, open-byte, follows-key}
@@ -38,8 +39,8 @@ use Rattle.promises.proofs.Demand3.{parse-sound}
 use Rattle.sheet.specs.Sound.{Sheet}
 use Rattle.writer.specs.Pieces.{view-of}
 use Rattle.writer.specs.Forest.{forest-in, stretch, forest-of}
-use Rattle.way_back.specs.Plain.{plain-byte, bare-byte, Each, Plain}
-use Rattle.way_back.proofs.Same.{first-of, second-of}
+use Rattle.way_back.specs.Plain.{plain-byte, bare-byte, All-plain, All-bare, Plain}
+use Rattle.writer.proofs.Forms.{first-of, second-of}
 
 abbrev text : List ℕ
 text = bytes "a={b=\"c\"}"
@@ -48,7 +49,7 @@ abbrev tokens : List Token
 tokens = scalar-of Unquoted 0 1 ∷ opener-of Object 4 false ∷ scalar-of Unquoted 3 1 ∷ scalar-of Quoted 6 1 ∷ end-of 1 ∷ []
 
 -- it is what parse leaves
-parsed : parse-of text 15 ≡ outcome (Tokens 5 false) (words-of tokens)
+parsed : parse-of text (words-for 5) ≡ outcome (Tokens 5 false) (words-of tokens)
 unfolding bytes is-boundary is-blank blanks-from comment-from skip-ws stop-from run-of run-end-of quoted-from skipped-from quoted-run
     opens-variable cut-of scalar-cut sighted container-of scalar-named words-of padded token-at replace add lay key-byte open-byte
     follows-key has-bom start lay-then open-then close-at close key-end text-end scalar-then key-close key-turn separator-then
@@ -57,7 +58,7 @@ parsed = refl
 
 sound : Sheet (length text) tokens
 unfolding tokens-in words-of
-sound = parse-sound text 15 5 false (words-of tokens) parsed .tokens
+sound = parse-sound text (words-for 5) 5 false (words-of tokens) parsed .tokens
 
 -- a code that no token has
 lacks : ℕ → List Token → Bool
@@ -84,7 +85,7 @@ by-place code h zero x e c f g = f refl e
 by-place code h (suc zero) x e c f g = g refl e
 by-place code h (suc (suc i)) x e c f g = absurd (lacking code (drop 2 tokens) h i (words-same e .0 ∙ c))
 
-plain-view : (i offset size : ℕ) → nth tokens i ≡ scalar-of Unquoted offset size → Each plain-byte (view-of text offset size)
+plain-view : (i offset size : ℕ) → nth tokens i ≡ scalar-of Unquoted offset size → All-plain (view-of text offset size)
 unfolding bytes plain-byte
 plain-view zero offset size e = rw (← words-same e .1, ← words-same e .2) (refl, tt)
 plain-view (suc zero) offset size e = absurd (omega (arith, words-same e))
@@ -93,7 +94,7 @@ plain-view (suc (suc (suc zero))) offset size e = absurd (omega (arith, words-sa
 plain-view (suc (suc (suc (suc zero)))) offset size e = absurd (omega (arith, words-same e))
 plain-view (suc (suc (suc (suc (suc i))))) offset size e = absurd (omega (arith, words-same e))
 
-bare-view : (i offset size : ℕ) → nth tokens i ≡ scalar-of Quoted offset size → Each bare-byte (view-of text offset size)
+bare-view : (i offset size : ℕ) → nth tokens i ≡ scalar-of Quoted offset size → All-bare (view-of text offset size)
 unfolding bytes bare-byte
 bare-view zero offset size e = absurd (omega (arith, words-same e))
 bare-view (suc zero) offset size e = absurd (omega (arith, words-same e))
@@ -104,23 +105,23 @@ bare-view (suc (suc (suc (suc (suc i))))) offset size e = absurd (omega (arith, 
 
 unflagged : (i end : ℕ) (kind : ContainerKind) → nth tokens i ≡ opener-of kind end true → ⊥
 unfolding lacks
-unflagged i end Array e = no-code 1 refl i _ e refl
-unflagged i end Object e = by-place 2 refl i _ e refl (λ z f. omega (arith, words-same f)) (λ z f. omega (arith, words-same f))
+unflagged i end Array e = no-code array-code refl i _ e refl
+unflagged i end Object e = by-place object-code refl i _ e refl (λ z f. omega (arith, words-same f)) (λ z f. omega (arith, words-same f))
 
 pub sample-plain : Plain text tokens
 unfolding lacks forest-in stretch forest-of container-of
 sample-plain = record {
   sound = sound;
   in-turn = (tt, tt);
-  no-operators = λ i number e. no-code 8 refl i _ e refl;
-  no-mixed-containers = λ i e. no-code 3 refl i _ e refl;
+  no-operators = λ i number e. no-code operator-code refl i _ e refl;
+  no-mixed-containers = λ i e. no-code mixed-container-code refl i _ e refl;
   no-flags = unflagged;
-  no-headers = λ i offset size e. no-code 10 refl i _ e refl;
-  no-parameters = λ i offset size e. no-code 6 refl i _ e refl;
-  no-undefined-parameters = λ i offset size e. no-code 7 refl i _ e refl;
-  no-escapes = λ i offset size e. no-code 11 refl i _ e refl;
+  no-headers = λ i offset size e. no-code header-code refl i _ e refl;
+  no-parameters = λ i offset size e. no-code parameter-code refl i _ e refl;
+  no-undefined-parameters = λ i offset size e. no-code undefined-parameter-code refl i _ e refl;
+  no-escapes = λ i offset size e. no-code quoted-escape-code refl i _ e refl;
   unquoted-bytes = plain-view;
   quoted-bytes = bare-view;
-  objects-filled = λ i flag e. by-place 2 refl i _ e refl (λ z f. omega (arith, words-same f)) (λ z f. omega (arith, z, words-same f));
-  first-entries-filled = λ i end kind flag first e f. no-code 1 refl i _ e refl;
+  objects-filled = λ i flag e. by-place object-code refl i _ e refl (λ z f. omega (arith, words-same f)) (λ z f. omega (arith, z, words-same f));
+  first-entries-filled = λ i end kind flag first e f. no-code array-code refl i _ e refl;
 }

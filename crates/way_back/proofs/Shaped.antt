@@ -14,7 +14,7 @@ use Rattle.tape.specs.declared.token.ScalarKind.the-variants.{Unquoted, Quoted}
 use Rattle.tape.specs.Token.{quoted-code, scalar-of, end-of}
 use Rattle.writer.specs.Pieces.{view-of}
 use Rattle.writer.specs.Forest.{Forest, no-more, leaf, box, forest-of}
-use Rattle.way_back.specs.Plain.{plain-byte, Each, In-turn, Plain}
+use Rattle.way_back.specs.Plain.{All-plain, In-turn, Plain}
 use Rattle.way_back.proofs.Tree.{Word, unquoted, quoted, Entry, scalar, empty, array, object, Entries, no-entries, more, Pairs, no-pairs, pair}
 use Rattle.way_back.proofs.Tree.{Tree, nothing, pairs, enclosed, Plain-word, Filled, Plain-entry, Plain-entries, Plain-pairs, Plain-tree}
 use Rattle.way_back.proofs.Spells.{Spells-word, Spells, Spells-entries, Spells-pairs, Spells-tree}
@@ -28,7 +28,7 @@ word-of src x = elim (eqb (x .code) quoted-code) [ true ↦ quoted (view-of src 
 view-length : (src : List ℕ) (a n : ℕ) → a + n ≤ length src → length (view-of src a n) ≡ n
 view-length src a n h = rw (length-take, length-drop) (omega arith)
 
-some-plain : (l : List ℕ) → 0 < length l → Each plain-byte l → Plain-word (unquoted l)
+some-plain : (l : List ℕ) → 0 < length l → All-plain l → Plain-word (unquoted l)
 some-plain [] h e = absurd (omega arith)
 some-plain (b ∷ bs) h e = e
 

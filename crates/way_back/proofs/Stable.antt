@@ -10,15 +10,12 @@ use lib.ListN.{length, take}
 use lib.Seq.{take-append-seam}
 use Rattle.tape.specs.declared.token.Token.{Token}
 use Rattle.tape.specs.Words.{padded, capacity, words-for, tokens-in}
-use Rattle.machine.specs.declared.Parsed.the-variants.{Tokens}
-use Rattle.machine.specs.Finish.{outcome}
-use Rattle.parse.specs.Parse.{parse-of}
 use Rattle.promises.proofs.Demand3.{parse-sound}
 use Rattle.writer.specs.Alike.{alike}
-use Rattle.writer.specs.Write.{accept, zeros, text-of, write-of}
-use Rattle.way_back.specs.Accepted.{Given, Reads-back, answer-of}
-use Rattle.way_back.specs.Stable.{Stable}
-use Rattle.way_back.proofs.Same.{alike-length, alike-self}
+use Rattle.writer.specs.Write.{accept, zeros, text-of}
+use Rattle.way_back.specs.Accepted.{Given, Accepted-as, Reads-back, answer-of}
+use Rattle.way_back.specs.Stable.{Parses-again, Writes-again}
+use Rattle.way_back.proofs.Same.{alike-self}
 use Rattle.way_back.proofs.Rooms.{Laid, found, laid-anywhere}
 use Rattle.way_back.proofs.Answers.{given-accepts, Settled, settled}
 use Rattle.way_back.proofs.Exactly.{Comes, comes, comes-anywhere}
@@ -43,52 +40,58 @@ laid-once text n m bom mark us vs a b =
     let w : padded len us ≡ padded len vs = cc in
     sym (found len n us (a .counted)) ∙ ap (λ (ws : List ℕ). tokens-in ws n) w ∙ ap (tokens-in (padded len vs)) c ∙ found len m vs (b .counted)
 
-module _ (text : List ℕ) (ts : List Token) (room scratch : ℕ) (bytes : List ℕ) (a : write-of text ts room scratch true ≡ accept room scratch bytes)
-    (len n : ℕ) (bom : Bool) (words : List ℕ) (e : parse-of bytes len ≡ outcome (Tokens n bom) words) where
-  abbrev us : List Token
-  us = tokens-in words n
-
+module _ (text : List ℕ) (ts : List Token) (room scratch : ℕ) (bytes : List ℕ) (a : Accepted-as text ts room scratch bytes) where
   was : Settled text ts room scratch
   was = settled text ts room scratch (length bytes, ap answer-of a)
 
   -- the bytes are the sheet's text
-  pub accepted-text : bytes ≡ text-of text ts
+  accepted-text : bytes ≡ text-of text ts
   accepted-text = one-text room scratch bytes (text-of text ts) (sym a ∙ given-accepts text ts room scratch (was .form) (was .given) (was .back))
 
-  -- what is laid down for them is the sheet, offsets aside
-  laid : Laid bytes n bom us
-  laid = laid-anywhere bytes len n bom words e
+  -- and the sheet comes back from them
+  came : Comes text bytes ts
+  came = rw (← accepted-text) at (comes text (text-of text ts) ts scratch (was .back))
 
-  alike-again : alike text bytes ts us ≡ true
-  alike-again =
-      let c : Comes text bytes ts = rw (← accepted-text) at (comes text (text-of text ts) ts scratch (was .back)) in
-      let o : c .tokens ≡ us = laid-once bytes (length ts) n (c .bom) bom (c .tokens) us (c .laid) laid in
-      rw o at (c .same)
+pub parses-again : (text : List ℕ) (ts : List Token) (room scratch : ℕ) (bytes : List ℕ) → Parses-again text ts room scratch bytes
+parses-again text ts room scratch bytes a len fits =
+    let c = came text ts room scratch bytes a in
+    record {
+      bom = c .bom;
+      words = padded len (c .tokens);
+      told = c .laid .parsed len fits;
+      same = rw (found len (length ts) (c .tokens) (c .laid .counted)) (c .same);
+    }
 
-  pub stable : Stable bytes us room scratch
-  stable =
-      let same : text-of bytes us ≡ bytes = alike-text text bytes ts us alike-again ∙ sym accepted-text in
-      let form = alike-formed text bytes ts us alike-again ∙ was .form in
-      let depth = alike-deep text bytes ts us alike-again ∙ was .given .depth in
-      let size : length (text-of bytes us) ≡ length (text-of text ts) = ap length (alike-text text bytes ts us alike-again) in
-      let count : length ts ≡ length us = alike-length text bytes ts us alike-again in
-      let given : Given bytes us room scratch = record {
-        depth = depth;
-        limit = omega (arith, size, was .given .limit);
-        buffer = omega (arith, size, was .given .buffer);
-        tape = omega (arith, count, was .given .tape);
-      } in
-      let itself : Comes bytes bytes us = record {
-        bom = bom;
-        tokens = us;
-        laid = rw (laid .counted) laid;
-        same = alike-self bytes us;
-      } in
-      let back : Reads-back bytes us scratch = rw same (comes-anywhere bytes bytes us itself scratch (given .tape)) in
-      record {
-        sound = parse-sound bytes len n bom words e .tokens;
-        form = form;
-        depth = depth;
-        text = same;
-        again = rw same at (given-accepts bytes us room scratch form given back);
-      }
+pub stable : (text : List ℕ) (ts : List Token) (room scratch : ℕ) (bytes : List ℕ) → Writes-again text ts room scratch bytes
+stable text ts room scratch bytes a len count bom words e =
+    let us : List Token = tokens-in words count in
+    let w = was text ts room scratch bytes a in
+    let c = came text ts room scratch bytes a in
+    let laid : Laid bytes count bom us = laid-anywhere bytes len count bom words e in
+    let one : c .tokens ≡ us = laid-once bytes (length ts) count (c .bom) bom (c .tokens) us (c .laid) laid in
+    let alike-again : alike text bytes ts us ≡ true = rw one at (c .same) in
+    let same : text-of bytes us ≡ bytes = alike-text text bytes ts us alike-again ∙ sym (accepted-text text ts room scratch bytes a) in
+    let form = alike-formed text bytes ts us alike-again ∙ w .form in
+    let depth = alike-deep text bytes ts us alike-again ∙ w .given .depth in
+    let size : length (text-of bytes us) ≡ length (text-of text ts) = ap length (alike-text text bytes ts us alike-again) in
+    let itself : Comes bytes bytes us = record {
+      bom = bom;
+      tokens = us;
+      laid = rw (laid .counted) laid;
+      same = alike-self bytes us;
+    } in
+    record {
+      sound = parse-sound bytes len count bom words e;
+      form = form;
+      depth = depth;
+      text = same;
+      again = λ more other buffer tape.
+          let given : Given bytes us more other = record {
+            depth = depth;
+            limit = omega (arith, size, w .given .limit);
+            buffer = omega (arith, ap length same, buffer);
+            tape = omega (arith, laid .counted, tape);
+          } in
+          let back : Reads-back bytes us other = rw same (comes-anywhere bytes bytes us itself other (given .tape)) in
+          rw same at (given-accepts bytes us more other form given back);
+    }

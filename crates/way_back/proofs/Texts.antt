@@ -16,11 +16,11 @@ use Rattle.writer.specs.Pieces.{view-of, quote-if, piece-of, own-bytes}
 use Rattle.writer.specs.Dues.{after-scalar, due-after}
 use Rattle.writer.specs.Text.{lead, piece-text, braced, body-text, sheet-text}
 use Rattle.writer.specs.Form.{takes, has-form}
+use Rattle.writer.proofs.Forms.{both}
 use Rattle.way_back.specs.Plain.{In-turn}
 use Rattle.way_back.proofs.Tree.{Entries, no-entries, more, Pairs, no-pairs, pair, write-word, write, write-entries, write-pairs, write-tree}
 use Rattle.way_back.proofs.Parts.{Plain-token, plain-unquoted, plain-quoted, Not-empty, Parts}
 use Rattle.way_back.proofs.Shaped.{word-of, array-of, object-of, root-of, to-entries, to-pairs}
-use Rattle.way_back.proofs.Same.{both}
 
 -- further entries and pairs with what stands before the first
 abbrev entries-after : List ℕ → Entries → List ℕ

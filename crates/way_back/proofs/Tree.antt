@@ -10,7 +10,7 @@ use Rattle.tape.specs.declared.token.ContainerKind.{ContainerKind}
 use Rattle.tape.specs.declared.token.ContainerKind.the-variants.{Array, Object}
 use Rattle.tape.specs.declared.token.ScalarKind.the-variants.{Unquoted, Quoted}
 use Rattle.tape.specs.Token.{scalar-of}
-use Rattle.way_back.specs.Plain.{plain-byte, bare-byte, Each}
+use Rattle.way_back.specs.Plain.{All-plain, All-bare}
 use Rattle.writer.proofs.Grown.{boxed}
 
 -- a scalar's bytes, by how they are written
@@ -112,8 +112,8 @@ flatten-tree (pairs k e ps) =
 -- is the tree's own form
 abbrev pub Plain-word : Word → Type 0
 Plain-word (unquoted []) = ⊥
-Plain-word (unquoted (b ∷ bs)) = Each plain-byte (b ∷ bs)
-Plain-word (quoted bytes) = Each bare-byte bytes
+Plain-word (unquoted (b ∷ bs)) = All-plain (b ∷ bs)
+Plain-word (quoted bytes) = All-bare bytes
 
 abbrev pub Filled : Entry → Type 0
 Filled (scalar w) = Unit {0}

@@ -93,9 +93,9 @@ pub begun : {P : ℕ → Type 0} (text : List ℕ) (at : ℕ) (bytes post : List
 begun text at bytes post e f = e ∙ ap (λ (l : List ℕ). l ++ post) (f .is)
 
 -- where an entry is due, and the state after it
-pub data Due : State → State → Type 0 where
-  in-object : Due ObjectValue Key
-  in-array : Due ArrayValue ArrayValue
+pub data Awaits : State → State → Type 0 where
+  in-object : Awaits ObjectValue Key
+  in-array : Awaits ArrayValue ArrayValue
 
 -- an opener that has no kind yet
 abbrev pub fresh : Token
@@ -147,7 +147,7 @@ module _ (text : List ℕ) where
       rw (state-turn, separator-turn, first-byte text at e, second-byte text at e, equals-sighted b n)
 
   -- an entry that is a scalar
-  pub value-word : (s₀ s : State) → Due s₀ s → (w : Word) (q at : ℕ) (post : List ℕ) (p : ℕ) (ts : List Token) → Plain-word w
+  pub value-word : (s₀ s : State) → Awaits s₀ s → (w : Word) (q at : ℕ) (post : List ℕ) (p : ℕ) (ts : List Token) → Plain-word w
       → skip-ws text q ≡ At at → drop at text ≡ write-word w ++ post → ends post ≡ true
       → turn text (on ts) (machine q s₀ p (length ts)) ≡ now (at + length (write-word w)) s p (ts ++ (token-of w at ∷ []))
   unfolding state-turn object-value-turn array-value-turn
@@ -164,18 +164,18 @@ module _ (text : List ℕ) where
       (word-then k at post ArrayValue ArrayValue p ts h e n)
 
   -- an entry that is a container
-  pub value-brace : (s₀ s : State) → Due s₀ s → (q at : ℕ) (post : List ℕ) (p : ℕ) (ts : List Token) → skip-ws text q ≡ At at
+  pub value-brace : (s₀ s : State) → Awaits s₀ s → (q at : ℕ) (post : List ℕ) (p : ℕ) (ts : List Token) → skip-ws text q ≡ At at
       → drop at text ≡ brace-open ∷ post
-      → turn text (on ts) (machine q s₀ p (length ts)) ≡ now (at + 1) ParseOpen p (ts ++ (opener-of Array 0 false ∷ []))
+      → turn text (on ts) (machine q s₀ p (length ts)) ≡ now (at + 1) ParseOpen p (ts ++ (fresh ∷ []))
   unfolding state-turn object-value-turn array-value-turn open-then value-byte
   value-brace s₀ s in-object q at post p ts f e =
       turn-at q at ObjectValue p (length ts) (on ts) f ∙
       rw (state-turn, object-value-turn, first-byte text at e)
-      (lay-now (opener-of Array 0 false) (at + 1) ParseOpen ts at ObjectValue p)
+      (lay-now fresh (at + 1) ParseOpen ts at ObjectValue p)
   value-brace s₀ s in-array q at post p ts f e =
       turn-at q at ArrayValue p (length ts) (on ts) f ∙
       rw (state-turn, array-value-turn, first-byte text at e)
-      (lay-now (opener-of Array 0 false) (at + 1) ParseOpen ts at ArrayValue p)
+      (lay-now fresh (at + 1) ParseOpen ts at ArrayValue p)
 
   -- leaving a container
   pub closed : (kind : ContainerKind) (x : Token) (at : ℕ) (s₀ s : State) (p : ℕ) (ts us : List Token) → Held ts p s
@@ -193,7 +193,7 @@ module _ (text : List ℕ) where
       (omega (arith, length-append ts (y ∷ (us ++ (end-of (length ts) ∷ []))), length-append us (end-of (length ts) ∷ [])))
       (ap (λ (l : List Token). l ++ (end-of (length ts) ∷ [])) (set-append-seam ts x us y) ∙ append-assoc ts (y ∷ us) (end-of (length ts) ∷ [])))
 
-  -- nothing but what is held is open where a container stands behind another token
+  -- where a container is held there are tokens
   inner : (p : ℕ) (ts : List Token) → p < length ts → eqb (length ts) 0 ≡ false
   inner p ts h = ne-eqb (length ts) 0 (λ e. omega arith)
 

@@ -17,7 +17,7 @@ use Rattle.tape.specs.Words.{padded, capacity}
 use Rattle.machine.specs.declared.State.the-variants.{Key}
 use Rattle.machine.specs.declared.Machine.{Machine}
 use Rattle.machine.specs.declared.Parsed.the-variants.{Tokens}
-use Rattle.machine.specs.Start.{has-bom, start}
+use Rattle.machine.specs.Start.{bom-first, has-bom, start}
 use Rattle.parse.specs.After.{After, next, done}
 use Rattle.parse.specs.Containers.{text-end, key-end}
 use Rattle.machine.specs.Finish.{outcome}
@@ -86,7 +86,7 @@ no-bom : (t : Tree) → Plain-tree t → has-bom (write-tree t) ≡ false
 unfolding has-bom
 no-bom nothing pl = refl
 no-bom (pairs (unquoted []) e ps) pl = absurd (pl .0)
-no-bom (pairs (unquoted (b ∷ bs)) e ps) pl = rw (has-bom, spared (λ x. eqb x 0xef) b refl (pl .0 .0))
+no-bom (pairs (unquoted (b ∷ bs)) e ps) pl = rw (has-bom, spared (λ x. eqb x bom-first) b refl (pl .0 .0))
 no-bom (pairs (quoted bs) e ps) pl = refl
 
 -- and so the parse, given room
