@@ -20,3 +20,4 @@ pub mod Stable
 pub mod Cases
 pub mod Samples
 pub mod Contracts
+pub mod Room

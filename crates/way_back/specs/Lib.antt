@@ -3,3 +3,4 @@ pub mod Accepted
 pub mod Stable
 pub mod Cases
 pub mod Contracts
+pub mod Room
