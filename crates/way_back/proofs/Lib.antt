@@ -21,3 +21,4 @@ pub mod Cases
 pub mod Samples
 pub mod Contracts
 pub mod Room
+pub mod Unread

@@ -88,14 +88,14 @@ piece-short text first Mixed = omega arith
 piece-short text first (Opener kind end) = omega arith
 piece-short text first Other = omega arith
 
--- a token by its link: a brace with what stands before it, a closing one, or a piece
+-- a token by its link: an opening brace with what stands before it, a closing one, or a piece
 token-short : (text : List ℕ) (first : Bool) (x : Token) (l : Link) → token-size text first x l ≤ viewed-by (piece-of x) + most-added
 unfolding token-size
 token-short text first x (ToEnd end) = omega (arith, lead-short first)
 token-short text first x (ToOpener opener) = omega arith
 token-short text first x Link.Nothing = piece-short text first (piece-of x)
 
--- those that a token views, by its shape
+-- the bytes that a token views, by its shape
 abbrev view-size : Shape.Shape → ℕ
 view-size (Shape.the-variants.Scalar kind offset size) = size
 view-size (Shape.the-variants.Opener end) = 0

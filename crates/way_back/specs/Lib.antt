@@ -4,3 +4,4 @@ pub mod Stable
 pub mod Cases
 pub mod Contracts
 pub mod Room
+pub mod Unread
