@@ -21,3 +21,5 @@ pub mod Tested
 pub mod Cases
 pub mod Samples
 pub mod Contracts
+pub mod Room
+pub mod Unread

@@ -3,3 +3,5 @@ pub mod Accepted
 pub mod Stable
 pub mod Cases
 pub mod Contracts
+pub mod Room
+pub mod Unread
