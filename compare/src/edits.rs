@@ -108,8 +108,7 @@ pub fn any(rng: &mut Rng) -> Sheet {
 fn save(rng: &mut Rng) -> Sheet {
     loop {
         let sheet = if rng.chance(50) { sheets::parsed(rng) } else { good(rng) };
-        let mut codes = sheet.words.iter().step_by(WORDS);
-        let parameter = codes.any(|code| [PARAMETER, UNDEFINED_PARAMETER].contains(code));
+        let parameter = sheet.words.iter().step_by(WORDS).any(|&code| is_parameter(code));
         if sheet.count > 0 && !parameter || rng.chance(10) {
             return sheet;
         }

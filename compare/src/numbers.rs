@@ -83,6 +83,11 @@ pub fn is_quoted(code: u32) -> bool {
     QUOTED_CODES.contains(&code)
 }
 
+/// The codes of the two kinds of parameters.
+pub fn is_parameter(code: u32) -> bool {
+    code == PARAMETER || code == UNDEFINED_PARAMETER
+}
+
 /// The codes of the scalars that request W5 writes out as a key or as an entry by itself.
 pub fn is_written(code: u32) -> bool {
     code == UNQUOTED || is_quoted(code)
