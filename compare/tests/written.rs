@@ -2,6 +2,7 @@
 //! written, and what the comparison leaves out.
 
 use compare::generate::Generator;
+use compare::model::{self, Refusal};
 use compare::numbers::*;
 use compare::record::{Question, Record, ToWrite};
 use compare::rng::Rng;
@@ -163,6 +164,60 @@ fn saves_come_back_but_for_known_shapes() {
     }
     println!("{parsed} saves without parameters, {lost} of them do not come back");
     assert!(parsed > 100_000 && lost > 2_000, "{lost} of {parsed}");
+}
+
+/// A line of host/cases.txt as printf's %b reads it, as far as it is used there.
+fn text_of_case(line: &[u8]) -> Vec<u8> {
+    let (mut text, mut rest) = (Vec::new(), line);
+    while let [first, behind @ ..] = rest {
+        let (byte, left) = match (first, behind) {
+            (b'\\', [b'0', octal @ ..]) => {
+                let digits = octal.iter().take(3).take_while(|b| (b'0'..=b'7').contains(b)).count();
+                let byte = octal[..digits].iter().fold(0, |byte, digit| 8 * byte + (digit - b'0'));
+                (byte, &octal[digits..])
+            }
+            (b'\\', [b'n', left @ ..]) => (b'\n', left),
+            (b'\\', [b'r', left @ ..]) => (b'\r', left),
+            (b'\\', [b't', left @ ..]) => (b'\t', left),
+            (b'\\', [b'\\', left @ ..]) => (b'\\', left),
+            _ => (*first, behind),
+        };
+        text.push(byte);
+        rest = left;
+    }
+    text
+}
+
+/// What is written of a text, or the refusal with its place, by the model; and by the writer beside the Rust,
+/// where the Rust tells how it reads back.
+fn written_of(text: &[u8]) -> Vec<u8> {
+    let mut words = vec![0; room_for(text.len())];
+    let count = match model::parse(text, &mut words, model::cut).answer {
+        Err(Refusal(number, place)) => return format!("refused {number} {place}").into_bytes(),
+        Ok((count, _)) => count as u32,
+    };
+    let sheet = Sheet { text: text.to_vec(), words, count };
+    let asked = with_room(&sheet);
+    let written = model_writer::write(&asked, None);
+    if written.as_ref().is_ok_and(|written| domain::inside(written)) {
+        assert_eq!(writer::write(&asked), written);
+    }
+    written.unwrap_or_else(|number| format!("refused {number} 0").into_bytes())
+}
+
+/// The texts that `host/test` holds the command to are what the request's own words give.
+#[test]
+fn the_texts_of_the_host_tests() {
+    let line = |line: &'static [u8]| line.strip_suffix(b"\n").unwrap_or(line);
+    let lines = |file: &'static [u8]| file.split_inclusive(|&b| b == b'\n').map(line);
+    let cases = lines(include_bytes!("../../host/cases.txt"));
+    let written: Vec<&[u8]> = lines(include_bytes!("../../host/written.out")).collect();
+    assert_eq!(cases.clone().count(), written.len());
+    for (case, line) in cases.zip(written) {
+        let told = written_of(&text_of_case(case)).into_iter().filter(|&byte| byte != b'\n');
+        let told: Vec<u8> = told.map(|byte| if byte == 0 { b'~' } else { byte }).collect();
+        assert_eq!(told, line, "{:?}", String::from_utf8_lossy(case));
+    }
 }
 
 /// No record asks for more than a program must be able to lend.
