@@ -116,12 +116,12 @@ const TIGHT: [(&[u8], u16); 39] = [
     (b"a={b c=d {[[x] y]}}", 8),
 ];
 
-/// A text of one token more than a record is lent room for, and one of two tokens, with the most room and with
-/// capacities over it, which are taken for the most.
+/// A text of one token more than a record is lent room for, with the most room and with capacities over it,
+/// which are taken for the most; and a short text with these.
 fn rooms() -> Vec<Record> {
     let one_over = [b"a=b ".repeat(usize::from(MOST_TOKENS) / 2).as_slice(), b"a"].concat();
     let over = [MOST_TOKENS + 1, u16::MAX];
-    let texts = [one_over.clone(), b"a=b".to_vec()];
+    let texts = [one_over.clone(), TEXTS[0].to_vec()];
     let larger = texts.iter().flat_map(|text| over.map(|room| Record::text(text.clone(), room)));
     std::iter::once(Record::text(one_over, MOST_TOKENS)).chain(larger).collect()
 }
