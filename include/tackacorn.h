@@ -239,8 +239,8 @@ uint32_t tackacorn_view(const uint8_t *text, size_t text_length, const uint32_t 
  *    was: "GER={ fighter=19" becomes "GER={fighter=19}".
  *  - Nothing is written but the tokens. A BOM, comments, and blanks and line ends between tokens are gone, no
  *    LF ends the text, and a program that wants them must write them itself. So is the line "HOI4txt" of the
- *    file where you wrote spaces over it before you parsed. Where you did not, it is a key, nothing is
- *    refused, and what is written begins with "HOI4txt GER = {".
+ *    file where you kept it from the parser. Where you did not, it is a key, nothing need be refused, and it
+ *    is written as one: "HOI4txt GER = {fighter=19}".
  *  - The text reads the same for this parser. A key or value in which a '!' stands, as "a!", is written as
  *    it is, and "a!=b" is the key "a!" here, but may be "a" and the operator "!=" to the Rust and to the
  *    game. Look for '!', 0x0b and 0x0c in unquoted scalars that come from a stranger.

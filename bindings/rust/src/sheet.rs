@@ -158,10 +158,10 @@ pub fn write_into(
 /// # Before you hand the text to the game
 ///
 /// Some saves parse and cannot be written: see [`WriteError`]. No BOM and no comment is written; a first line
-/// like `HOI4txt` is, as a key, unless spaces were written over it before the parse. A save that was cut short
-/// is written with its last object closed. A name with a `!` in it is written as it is, and jomini may read
-/// `a!=b` as an operator, where this crate has the key `a!`. An edited sheet is held against itself, not
-/// against what was meant: `tackacorn.h` has what an edit must keep, under 'Before you edit a sheet'.
+/// like `HOI4txt` is, as a key, unless it was kept from the parser. A save that was cut short is written with
+/// its last object closed. A name with a `!` in it is written as it is, and jomini may read `a!=b` as an
+/// operator, where this crate has the key `a!`. An edited sheet is held against itself, not against what was
+/// meant: `tackacorn.h` has what an edit must keep, under 'Before you edit a sheet'.
 ///
 /// ```
 /// use tackacorn::sheet;
