@@ -128,7 +128,8 @@ static enum found find(const struct sheet *sheet, uint32_t from, uint32_t end, c
     return i == end ? found : UNCLEAR;
 }
 
-/* Looks for the value of a key in an object, if the object has this id. It is unclear where that is no object. */
+/* Looks for the value of a key in an object, if the object has this id. It is unclear where that is no object, or has
+ * the id and not the key: another of this id may have it. */
 static enum found find_with_id(const struct sheet *sheet, uint32_t object, const char *id, const char *key,
                                uint32_t *value) {
     uint32_t end, flag, its_id;
@@ -139,7 +140,10 @@ static enum found find_with_id(const struct sheet *sheet, uint32_t object, const
     if (found != ONE) {
         return found;
     }
-    return is(sheet, its_id, id) ? find(sheet, object + 1, end, key, value) : NOTHING;
+    if (!is(sheet, its_id, id)) {
+        return NOTHING;
+    }
+    return find(sheet, object + 1, end, key, value) == ONE ? ONE : UNCLEAR;
 }
 
 /* Looks for the value of a key in the top-level object of this name and id. It is unclear where there are two. */
@@ -277,7 +281,7 @@ static int edit(const struct sheet *save, char **words, const uint8_t *head, siz
         return refuse("what to change stands twice, or an order or a leader has another form");
     }
     if (amount == NOTHING || name == NOTHING) {
-        return refuse("no such order with an amount, or no such leader with a name");
+        return refuse("no such order, or no such leader");
     }
     return change(save, edits, head, head_length);
 }
