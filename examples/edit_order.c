@@ -4,7 +4,8 @@
  *   ./edit_order ORDER AMOUNT LEADER NAME < save.txt > edited.txt
  *
  * An order is a top-level 'order={ id=ORDER amount=.. .. }', a leader a 'leader={ id=LEADER name=".." .. }'. Where
- * anything is not as it should be, nothing is written, and the status is not 0. */
+ * anything is not as it should be, nothing is written, and the status is not 0: a sheet that was edited in the wrong
+ * place is as sound as any, so the library cannot tell. */
 #include <stdbool.h>
 #include <stdio.h>
 #include <stdlib.h>
@@ -32,7 +33,7 @@ static int refuse(const char *why) {
     return 1;
 }
 
-/* Reads at most one byte over the limit, so that a text that is too long is refused as such. */
+/* Reads at most one byte over the limit, which tells a file that is too long. */
 static bool read_all(struct sheet *save) {
     save->text = malloc((size_t)TACKACORN_TEXT_LIMIT + 1);
     save->length = save->text == NULL ? 0 : fread(save->text, 1, (size_t)TACKACORN_TEXT_LIMIT + 1, stdin);
@@ -96,36 +97,67 @@ static uint32_t value_of(const struct sheet *sheet, uint32_t key) {
     return token(sheet, key + 1, &a, &b) == TACKACORN_OPERATOR ? key + 2 : key + 1;
 }
 
-/* Whether a key stands there: none does at a MixedContainer, behind which there are no pairs to walk. */
+/* Whether a key stands there: none does at the end, nor at a MixedContainer, behind which entries and pairs may stand
+ * in any order. */
 static bool is_key(const struct sheet *sheet, uint32_t index, uint32_t end) {
     size_t size;
     return index < end && scalar(sheet, index, &size) != NULL;
 }
 
-/* The index of the value of a key among the pairs from a token up to another; 0 where it is not there, since token 0
- * is no value. */
-static uint32_t find(const struct sheet *sheet, uint32_t from, uint32_t end, const char *key) {
-    for (uint32_t i = from; is_key(sheet, i, end); i = behind(sheet, value_of(sheet, i))) {
-        if (is(sheet, i, key)) {
-            return value_of(sheet, i);
-        }
-    }
-    return 0;
+/* Whether a token is a value that can be changed: no container, no Header, no operator. */
+static bool is_plain(const struct sheet *sheet, uint32_t index) {
+    uint32_t a, b;
+    const uint32_t code = token(sheet, index, &a, &b);
+    return code == TACKACORN_UNQUOTED || code == TACKACORN_QUOTED || code == TACKACORN_QUOTED_ESCAPE;
 }
 
-/* The index of the value of a key in the top-level object of this name and id; 0 where it is not there. */
-static uint32_t find_in(const struct sheet *sheet, const char *name, const char *id, const char *key) {
-    uint32_t end, flag;
-    for (uint32_t i = 0; is_key(sheet, i, sheet->count); i = behind(sheet, value_of(sheet, i))) {
-        const uint32_t value = value_of(sheet, i);
-        if (is(sheet, i, name) && token(sheet, value, &end, &flag) == TACKACORN_OBJECT) {
-            const uint32_t its_id = find(sheet, value + 1, end, "id");
-            if (its_id != 0 && is(sheet, its_id, id)) {
-                return find(sheet, value + 1, end, key);
-            }
+/* What was found of something: nothing, one, or what must not be taken for one. */
+enum found { NOTHING, ONE, UNCLEAR };
+
+/* Looks among the pairs from a token up to another for the value of a key. It is unclear where the key stands twice,
+ * where no plain value stands right behind it, or where not all are pairs. */
+static enum found find(const struct sheet *sheet, uint32_t from, uint32_t end, const char *key, uint32_t *value) {
+    enum found found = NOTHING;
+    uint32_t i = from;
+    for (; is_key(sheet, i, end); i = behind(sheet, value_of(sheet, i))) {
+        if (is(sheet, i, key)) {
+            found = found == NOTHING && is_plain(sheet, i + 1) ? ONE : UNCLEAR;
+            *value = i + 1;
         }
     }
-    return 0;
+    return i == end ? found : UNCLEAR;
+}
+
+/* Looks for the value of a key in an object, if the object has this id. It is unclear where that is no object, or has
+ * the id and not the key: another of this id may have it. */
+static enum found find_with_id(const struct sheet *sheet, uint32_t object, const char *id, const char *key,
+                               uint32_t *value) {
+    uint32_t end, flag, its_id;
+    if (token(sheet, object, &end, &flag) != TACKACORN_OBJECT) {
+        return UNCLEAR;
+    }
+    const enum found found = find(sheet, object + 1, end, "id", &its_id);
+    if (found != ONE) {
+        return found;
+    }
+    if (!is(sheet, its_id, id)) {
+        return NOTHING;
+    }
+    return find(sheet, object + 1, end, key, value) == ONE ? ONE : UNCLEAR;
+}
+
+/* Looks for the value of a key in the top-level object of this name and id. It is unclear where there are two. */
+static enum found find_in(const struct sheet *sheet, const char *name, const char *id, const char *key,
+                          uint32_t *value) {
+    enum found found = NOTHING;
+    uint32_t i = 0;
+    for (; is_key(sheet, i, sheet->count); i = behind(sheet, value_of(sheet, i))) {
+        const enum found here = is(sheet, i, name) ? find_with_id(sheet, i + 1, id, key, value) : NOTHING;
+        if (here != NOTHING) {
+            found = found == NOTHING ? here : UNCLEAR;
+        }
+    }
+    return i == sheet->count ? found : UNCLEAR;
 }
 
 /* The code of a scalar with other bytes: in quotes a backslash has a code of its own. */
@@ -179,15 +211,29 @@ static bool edited(struct sheet *to, const struct sheet *from, const struct edit
     return to->text != NULL && to->words != NULL;
 }
 
-/* Parses a save. */
-static uint32_t parse(struct sheet *save) {
+/* Parses a save, or says why not. */
+static bool parse(struct sheet *save) {
     uint32_t bom;
     size_t place;
     save->word_count = TACKACORN_WORDS_FOR(save->length); /* enough for any text; a word a byte is for most */
     save->words = malloc(save->word_count * sizeof *save->words);
-    return save->words == NULL ? TACKACORN_FULL
-                               : tackacorn_parse(save->text, save->length, save->words, save->word_count,
-                                                 &save->count, &bom, &place);
+    if (save->words == NULL) {
+        refuse("no memory for the tape");
+        return false;
+    }
+    const uint32_t refusal =
+        tackacorn_parse(save->text, save->length, save->words, save->word_count, &save->count, &bom, &place);
+    if (refusal != TACKACORN_OK) {
+        refuse(tackacorn_refusal_text(refusal));
+    }
+    return refusal == TACKACORN_OK;
+}
+
+/* Writes a text behind what stood before the save. */
+static int print(const uint8_t *head, size_t head_length, const uint8_t *text, size_t length) {
+    const bool whole = fwrite(head, 1, head_length, stdout) == head_length
+                       && fwrite(text, 1, length, stdout) == length && fflush(stdout) == 0;
+    return whole ? 0 : refuse("standard output cannot be written");
 }
 
 /* Writes a sheet, behind what stood before the save, or says why not. Both buffers are enough for any sheet. */
@@ -195,37 +241,27 @@ static int write_sheet(const struct sheet *sheet, const uint8_t *head, size_t he
     const size_t room = TACKACORN_BYTES_FOR(sheet->length, sheet->count);
     uint8_t *out = malloc(room + 1);
     uint32_t *scratch = malloc((sheet->word_count + 1) * sizeof *scratch);
-    size_t written = 0;
-    uint32_t refusal = TACKACORN_NO_ROOM;
-    if (out != NULL && scratch != NULL) {
-        refusal = tackacorn_write(sheet->text, sheet->length, sheet->words, sheet->word_count, sheet->count, out, room,
-                                  scratch, sheet->word_count, &written);
-    }
-    bool whole = refusal == TACKACORN_OK;
-    if (whole) {
-        whole = fwrite(head, 1, head_length, stdout) == head_length && fwrite(out, 1, written, stdout) == written
-                && fflush(stdout) == 0;
+    int status;
+    if (out == NULL || scratch == NULL) {
+        status = refuse("no memory for the text to write");
+    } else {
+        size_t written;
+        const uint32_t refusal = tackacorn_write(sheet->text, sheet->length, sheet->words, sheet->word_count,
+                                                 sheet->count, out, room, scratch, sheet->word_count, &written);
+        status = refusal == TACKACORN_OK ? print(head, head_length, out, written)
+                                         : refuse(tackacorn_refusal_text(refusal));
     }
     free(scratch);
     free(out);
-    return refusal != TACKACORN_OK ? refuse(tackacorn_refusal_text(refusal))
-           : whole                 ? 0
-                                   : refuse("standard output cannot be written");
+    return status;
 }
 
-/* Edits a save that parsed, asks whether the sheet is still sound, and writes it. */
-static int edit(const struct sheet *save, char **words, const uint8_t *head, size_t head_length) {
-    const struct edit edits[] = {
-        {find_in(save, "order", words[0], "amount"), words[1]},
-        {find_in(save, "leader", words[2], "name"), words[3]},
-    };
-    if (edits[0].index == 0 || edits[1].index == 0) {
-        return refuse("no such order, or no such leader");
-    }
+/* Makes two changes in a save that parsed, asks whether the sheet is still sound, and writes it. */
+static int change(const struct sheet *save, const struct edit edits[2], const uint8_t *head, size_t head_length) {
     struct sheet changed;
     int status;
     if (!edited(&changed, save, edits, 2)) {
-        status = refuse("no memory");
+        status = refuse("no memory for the edited sheet");
     } else if (!tackacorn_check(changed.length, changed.words, changed.word_count, changed.count)) {
         status = refuse("the edited sheet is not sound: is a value empty?");
     } else {
@@ -236,20 +272,42 @@ static int edit(const struct sheet *save, char **words, const uint8_t *head, siz
     return status;
 }
 
+/* Finds what is to be changed in a save that parsed, and changes it, or says why not. */
+static int edit(const struct sheet *save, char **words, const uint8_t *head, size_t head_length) {
+    struct edit edits[] = {{0, words[1]}, {0, words[3]}};
+    const enum found amount = find_in(save, "order", words[0], "amount", &edits[0].index);
+    const enum found name = find_in(save, "leader", words[2], "name", &edits[1].index);
+    if (amount == UNCLEAR || name == UNCLEAR) {
+        return refuse("what to change stands twice, or an order or a leader has another form");
+    }
+    if (amount == NOTHING || name == NOTHING) {
+        return refuse("no such order, or no such leader");
+    }
+    return change(save, edits, head, head_length);
+}
+
+/* Edits a save that was read, whose first bytes may be no part of it. */
+static int edit_file(const struct sheet *file, char **words) {
+    const size_t head_length = before(file->text, file->length);
+    struct sheet save = {.text = file->text + head_length, .length = file->length - head_length};
+    const int status = parse(&save) ? edit(&save, words, file->text, head_length) : 1;
+    free(save.words);
+    return status;
+}
+
 int main(int argc, char **argv) {
     struct sheet file = {0};
+    int status;
     if (argc != 5) {
         return refuse("ORDER AMOUNT LEADER NAME are wanted");
     }
     if (!read_all(&file)) {
-        return refuse("no memory, or standard input cannot be read");
+        status = refuse("no memory, or standard input cannot be read");
+    } else if (file.length > TACKACORN_TEXT_LIMIT) { /* and the end of it was not read */
+        status = refuse(tackacorn_refusal_text(TACKACORN_TOO_LONG));
+    } else {
+        status = edit_file(&file, argv + 1);
     }
-    const size_t head_length = before(file.text, file.length);
-    struct sheet save = {.text = file.text + head_length, .length = file.length - head_length};
-    const uint32_t refusal = parse(&save);
-    const int status = refusal == TACKACORN_OK ? edit(&save, argv + 1, file.text, head_length)
-                                               : refuse(tackacorn_refusal_text(refusal));
-    free(save.words);
     free(file.text);
     return status;
 }

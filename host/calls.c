@@ -187,9 +187,22 @@ static void unwritten(void) {
     expect("an Equal behind a key", write_words(&lent, "k v", equal, 3, 4, ROOM) == TACKACORN_NO_ROOM
                                            && refuses(TACKACORN_READS_OTHERWISE, write_words(&lent, "k v", equal, 3, MOST, ROOM), &lent));
     expect("pairs behind a mixed part", refuses(TACKACORN_READS_OTHERWISE, write_text(&lent, "a b{}c=d"), &lent));
-    expect("a boundary byte", refuses(TACKACORN_READS_OTHERWISE, write_text(&lent, "a= ="), &lent));
+    expect("an '=' behind '='", refuses(TACKACORN_READS_OTHERWISE, write_text(&lent, "a= ="), &lent)
+                                    && refuses(TACKACORN_READS_OTHERWISE, write_text(&lent, "a= ={b}"), &lent));
     expect("a header without content", refuses(TACKACORN_READS_OTHERWISE, write_text(&lent, "a=b{{}}"), &lent));
     expect("a key with a blank", refuses(TACKACORN_READS_OTHERWISE, write_words(&lent, "k v w", blank, 2, MOST, ROOM), &lent));
+}
+
+/* What the header says of edits, and of a first line that was not blanked: what is written and what is refused. */
+static void edits(void) {
+    struct lent lent;
+    const uint32_t slipped[ROOM] = {4, 0, 1, 4, 4, 1, 4, 8, 1, 4, 10, 1}, no_pairs[ROOM] = {4, 0, 1, 2, 2, 0, 9, 1, 0};
+    const uint32_t no_entries[ROOM] = {4, 0, 1, 1, 2, 0, 9, 1, 0}, flagged[ROOM] = {4, 0, 1, 1, 3, 1, 4, 2, 1, 9, 1, 0};
+    expect("pairs that slip", write_words(&lent, "a=1 b=2 c=3", slipped, 4, MOST, ROOM) == TACKACORN_OK && left(&lent, "a=b c=3"));
+    expect("an object left empty", refuses(TACKACORN_READS_OTHERWISE, write_words(&lent, "a", no_pairs, 3, MOST, ROOM), &lent));
+    expect("an array left empty", write_words(&lent, "a", no_entries, 3, MOST, ROOM) == TACKACORN_OK && left(&lent, "a={}"));
+    expect("a flag without a MixedContainer", refuses(TACKACORN_READS_OTHERWISE, write_words(&lent, "a b", flagged, 4, MOST, ROOM), &lent));
+    expect("a first line that is a key", write_text(&lent, "HOI4txt\nGER={f=19}") == TACKACORN_OK && left(&lent, "HOI4txt GER = {f=19}"));
 }
 
 enum { OVER = TACKACORN_LEVEL_LIMIT + 1, DEEP_BYTES = 2 * OVER + 3, DEEP_WORDS = (2 * OVER + 2) * TACKACORN_WORDS_PER_TOKEN };
@@ -239,6 +252,7 @@ int main(void) {
     refused();
     written();
     unwritten();
+    edits();
     depth();
     words();
     if (!wrong) {

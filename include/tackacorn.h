@@ -41,7 +41,8 @@
  *
  * Nothing is kept and nothing is allocated: all memory is the caller's, before, during and after a call.
  * A call takes less than 2 KB of stack, but for tackacorn_write, which goes down into the containers, to
- * 64 levels, and takes less than 64 KB. The library is for x86-64 Linux, and needs nothing but memset.
+ * TACKACORN_LEVEL_LIMIT levels, and takes less than 64 KB. The library is for x86-64 Linux, and needs nothing
+ * but memset.
  *
  * Refusals are numbers, 0 for none, and every number that a call writes is written on a refusal too.
  */
@@ -206,9 +207,10 @@ uint32_t tackacorn_view(const uint8_t *text, size_t text_length, const uint32_t 
  *   OTHER_FORM        a token is a Parameter or an UndefinedParameter; or at the top level or in an object,
  *                     before its first MixedContainer, a key is no Unquoted, Quoted or QuotedEscape, or no
  *                     entry follows a key and at most one operator
- *   TOO_DEEP          containers stand in each other more than 64 deep, an empty one counted
+ *   TOO_DEEP          containers stand in each other more than TACKACORN_LEVEL_LIMIT deep, an empty one
+ *                     counted
  *   WRITTEN_TOO_LONG  the text written would have more than TACKACORN_TEXT_LIMIT bytes
- *   NO_ROOM           out_length is under the text, or scratch_length / 3 is under count
+ *   NO_ROOM           out_length is under the text, or scratch_length / TACKACORN_WORDS_PER_TOKEN under count
  *   READS_OTHERWISE   the text written would be refused by tackacorn_parse, or parse to something else
  *
  * What is written: at the top level and in an object each key, then '=', or where an operator stands there
@@ -219,26 +221,39 @@ uint32_t tackacorn_view(const uint8_t *text, size_t text_length, const uint32_t 
  * GER={name="Luftwaffe" amount > 3 depot={3 12 reserve = yes}}.
  *
  * For out TACKACORN_BYTES_FOR(text_length, count) bytes are always enough, for the scratch
- * TACKACORN_WORDS_PER_TOKEN * count words: then NO_ROOM does not come. text, words, out, scratch and written
- * must not overlap.
+ * TACKACORN_WORDS_PER_TOKEN * count words: then NO_ROOM does not come. out, scratch and written overlap
+ * nothing.
  *
  * BEFORE YOU HAND THE TEXT TO THE GAME
  *
  *  - Some saves parse and cannot be written back: those with parameters (OTHER_FORM), deep ones (TOO_DEEP),
- *    and by READS_OTHERWISE those with pairs behind a mixed part of the same object or of the top level
- *    ("a b{}c=d"), most with a scalar that is one boundary byte ("a= ="), those where a container lost its
- *    only content behind a Header ("a=b{{}}") or at the begin of an array ("a={{{}}}"), and those whose first
- *    key begins with a second BOM. Never refused by READS_OTHERWISE is a plain sheet: key and entry in turn,
- *    no operator, MixedContainer, flag, Header or QuotedEscape, unquoted bytes only letters, digits, '_', '.'
- *    and '-', quoted bytes any but quote and backslash, no empty object, no array that begins with an empty
- *    container.
+ *    those whose text would pass the limit, as that of many quoted entries side by side (WRITTEN_TOO_LONG),
+ *    and by READS_OTHERWISE those with a value or a Header that is the one byte '=' behind '=' ("a= =",
+ *    "a= ={b}"); those with a pair of '=' and no container for its value, where pairs begin anew behind a
+ *    container of a mixed part ("a b{}c=d"); those where a container lost its only content behind a Header
+ *    ("a=b{{}}") or at the begin of an array ("a={{{}}}"); and those whose first key begins with a second BOM.
+ *    Never refused by READS_OTHERWISE is a plain sheet: key and entry in turn, no operator, MixedContainer,
+ *    flag, Header or QuotedEscape, unquoted bytes only ASCII letters, digits, '_', '.' and '-', quoted bytes
+ *    any but quote and backslash, no empty object, no array that begins with an empty container.
  *  - A save that was cut short is written with its last object closed, and nothing shows any more that it
  *    was: "GER={ fighter=19" becomes "GER={fighter=19}".
- *  - Nothing is written but the tokens. A BOM, comments, blanks, line ends and the line "HOI4txt" of the file
- *    are gone, no LF ends the text, and a program that wants them must write them itself.
+ *  - Nothing is written but the tokens. A BOM, comments, and blanks and line ends between tokens are gone, no
+ *    LF ends the text, and a program that wants them must write them itself. So is the line "HOI4txt" of the
+ *    file where you kept it from the parser. Where you did not, it is a key, nothing need be refused, and it
+ *    is written as one: "HOI4txt GER = {fighter=19}".
  *  - The text reads the same for this parser. A key or value in which a '!' stands, as "a!", is written as
  *    it is, and "a!=b" is the key "a!" here, but may be "a" and the operator "!=" to the Rust and to the
  *    game. Look for '!', 0x0b and 0x0c in unquoted scalars that come from a stranger.
+ *
+ * BEFORE YOU EDIT A SHEET
+ *
+ *  - The text is held against the sheet, not against what you meant. A pair that loses its key or its entry
+ *    takes the next token for it, and nothing is refused: "a=1 b=2 c=3" without its tokens 1 and 3 is written
+ *    as "a=b c=3". Take out key, operator and entry together.
+ *  - A token that is taken out or put in moves all that stand behind it, and every link to one of them, the a
+ *    of an opener or an End, must follow.
+ *  - An object that is left empty must become an Array, which "{}" reads as, and a container whose
+ *    MixedContainer goes must lose its flag; else the answer is READS_OTHERWISE.
  *  - A view must lie in the text, behind the view before it. For a new value, copy the views into a text of
  *    their own, one behind the other with a byte between them, and let the tokens name their new places. A
  *    quoted one with a backslash in it is code 11, and code 5 without. examples/edit_order.c does this. */

@@ -116,6 +116,16 @@ const TIGHT: [(&[u8], u16); 39] = [
     (b"a={b c=d {[[x] y]}}", 8),
 ];
 
+/// A text of one token more than a record is lent room for, with the most room and with capacities over it,
+/// which are taken for the most; and a short text with these.
+fn rooms() -> Vec<Record> {
+    let one_over = [b"a=b ".repeat(usize::from(MOST_TOKENS) / 2).as_slice(), b"a"].concat();
+    let over = [MOST_TOKENS + 1, u16::MAX];
+    let texts = [one_over.clone(), TEXTS[0].to_vec()];
+    let larger = texts.iter().flat_map(|text| over.map(|room| Record::text(text.clone(), room)));
+    std::iter::once(Record::text(one_over, MOST_TOKENS)).chain(larger).collect()
+}
+
 const SCALARS: [&str; 26] = [
     "10",
     "yes",
@@ -205,6 +215,7 @@ pub fn records() -> Vec<Record> {
     records.extend(TEXTS.map(|text| Record::text(text.to_vec(), MOST_TOKENS)));
     records.extend(escapes().into_iter().map(|text| Record::text(text, MOST_TOKENS)));
     records.extend(TIGHT.map(|(text, capacity)| Record::text(text.to_vec(), capacity)));
+    records.extend(rooms());
     records.extend(SCALARS.map(|scalar| Record::scalar(scalar.as_bytes().to_vec())));
     for (length, tokens) in SHEETS {
         let words: Vec<u32> = tokens.iter().flat_map(|&(code, a, b)| token(code, a, b)).collect();

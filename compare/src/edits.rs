@@ -108,8 +108,7 @@ pub fn any(rng: &mut Rng) -> Sheet {
 fn save(rng: &mut Rng) -> Sheet {
     loop {
         let sheet = if rng.chance(50) { sheets::parsed(rng) } else { good(rng) };
-        let mut codes = sheet.words.iter().step_by(WORDS);
-        let parameter = codes.any(|code| [PARAMETER, UNDEFINED_PARAMETER].contains(code));
+        let parameter = sheet.words.iter().step_by(WORDS).any(|&code| is_parameter(code));
         if sheet.count > 0 && !parameter || rng.chance(10) {
             return sheet;
         }
@@ -135,26 +134,37 @@ fn laid(rng: &mut Rng, root: &[Node]) -> Sheet {
 
 // ---- Edits of the words ----
 
-/// One token becomes another of its form, in its place: a flag, a container's or a scalar's kind, an
-/// operator, a view one byte longer, shorter or further.
+/// One token becomes another of its form, in its place. A MixedContainer and an End have but one.
 fn twist(rng: &mut Rng, sheet: &mut Sheet) {
-    if sheet.count == 0 {
+    let has_others = |&token: &usize| ![MIXED_CONTAINER, END].contains(&sheet.words[token]);
+    let tokens: Vec<usize> =
+        (0..sheet.count as usize).map(|i| WORDS * i).filter(has_others).collect();
+    if tokens.is_empty() {
         return;
     }
-    let token = WORDS * rng.below(sheet.count as usize);
-    let (code, a, b) = (sheet.words[token], sheet.words[token + 1], sheet.words[token + 2]);
+    let at = *rng.pick(&tokens);
+    let token = &mut sheet.words[at..at + WORDS];
+    let before = token.to_vec();
+    while token == before {
+        twist_token(rng, token);
+    }
+}
+
+/// Another flag, kind of container or scalar, operator, or a view one byte longer, shorter or further; by
+/// chance the same.
+fn twist_token(rng: &mut Rng, token: &mut [u32]) {
+    let (code, a, b) = (token[0], token[1], token[2]);
     let (word, value) = match (code, rng.below(3)) {
         (ARRAY | OBJECT, 0) => (0, ARRAY + OBJECT - code),
         (ARRAY | OBJECT, _) => (2, 1 - b.min(1)),
         (OPERATOR, _) => (1, operator(rng)),
-        (code, 0) if is_scalar(code) => (2, b + 1),
-        (code, 1) if is_scalar(code) => (2, b.saturating_sub(1)),
-        (code, _) if is_scalar(code) => (0, scalar_code(rng)),
-        _ => (1, a),
+        (_, 0) => (2, b + 1),
+        (_, 1) => (2, b.saturating_sub(1)),
+        _ => (0, scalar_code(rng)),
     };
-    sheet.words[token + word] = value;
+    token[word] = value;
     if is_scalar(code) && word == 2 && rng.chance(30) {
-        sheet.words[token + 1] = if value > b { a.saturating_sub(1) } else { a + 1 };
+        token[1] = if value > b { a.saturating_sub(1) } else { a + 1 };
     }
 }
 
@@ -179,14 +189,19 @@ fn edited(rng: &mut Rng) -> Sheet {
             break sheet;
         }
     };
-    let mut root = tree::of_sheet(&sheet.text, &sheet.words, sheet.count);
-    for _ in 0..1 + usize::from(rng.chance(15)) {
+    let before = tree::of_sheet(&sheet.text, &sheet.words, sheet.count);
+    let mut root = before.clone();
+    while root == before {
         edit(rng, &mut root);
+        if rng.chance(15) {
+            edit(rng, &mut root);
+        }
     }
     laid(rng, &root)
 }
 
-/// A node or a pair taken out, one put in that stands elsewhere or is new, two exchanged, or one changed.
+/// A node or a pair taken out, a node put in that stands elsewhere or is new, one moved elsewhere, two
+/// exchanged, or one changed; by chance nothing.
 fn edit(rng: &mut Rng, root: &mut Vec<Node>) {
     let elsewhere = any_body(rng, root).clone();
     let body = any_body(rng, root);
@@ -195,7 +210,7 @@ fn edit(rng: &mut Rng, root: &mut Vec<Node>) {
         body.push(wild_node(rng, 1));
         return;
     }
-    match rng.below(8) {
+    match rng.below(9) {
         0 => drop(body.remove(at)),
         1 => drop(body.drain(at..body.len().min(at + 2))),
         2 if !elsewhere.is_empty() => body.insert(at, rng.pick(&elsewhere).clone()),
@@ -203,6 +218,11 @@ fn edit(rng: &mut Rng, root: &mut Vec<Node>) {
         4 => {
             let other = rng.below(body.len());
             body.swap(at, other);
+        }
+        5 => {
+            let node = body.remove(at);
+            let body = any_body(rng, root);
+            body.insert(rng.below(body.len() + 1), node);
         }
         _ => change_node(rng, &mut body[at]),
     }
@@ -432,4 +452,21 @@ fn large(rng: &mut Rng) -> Sheet {
         }
     }
     tree::laid(&root, b"")
+}
+
+#[cfg(test)]
+mod tests {
+    use super::*;
+
+    #[test]
+    fn a_twist_changes_the_sheet() {
+        let mut rng = Rng::new(19);
+        for _ in 0..5_000 {
+            let before = save(&mut rng);
+            let mut sheet = before.clone();
+            twist(&mut rng, &mut sheet);
+            let text = String::from_utf8_lossy(&before.text);
+            assert_eq!(sheet.words == before.words, before.count == 0, "{text:?}");
+        }
+    }
 }

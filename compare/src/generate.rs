@@ -26,8 +26,16 @@ pub struct LeftOut {
     pub sheets: usize,
 }
 
-/// At the head every second case is one of the short ones, later every fourth.
+/// How many cases the head of a run has.
 const HEAD: usize = 16_000;
+
+/// Whether the next case, which is counted, is one of the short ones: at the head every second, later every
+/// fourth.
+fn short_is_due(made: &mut usize) -> bool {
+    let every = if *made < HEAD { 2 } else { 4 };
+    *made += 1;
+    made.is_multiple_of(every)
+}
 
 /// How many of a hundred cases are sheets to write out.
 const WRITES: usize = 34;
@@ -44,9 +52,7 @@ impl Writes {
     /// A sheet to write out. One whose text lies outside the domain is left out: it is read back by our
     /// thirteen bytes, and the Rust does not tell how.
     fn record(&mut self, left_out: &mut usize) -> Record {
-        let every = if self.made < HEAD { 2 } else { 4 };
-        self.made += 1;
-        let mut short = self.made.is_multiple_of(every);
+        let mut short = short_is_due(&mut self.made);
         loop {
             let small = if short { edits::short(self.short) } else { None };
             self.short += usize::from(small.is_some());
@@ -133,19 +139,22 @@ impl Generator {
         }
     }
 
-    /// A text with room for just what it needs, for one token less, or for anything else.
+    /// A text with room for just what it needs, for one token less, or for anything else; seldom with a
+    /// capacity that is taken for a smaller one.
     fn with_room(&mut self, text: Vec<u8>) -> Record {
         let need = oracle::parse(&text).need();
         let most = usize::from(MOST_TOKENS);
-        let capacity = match self.rng.weighted(&[44, 18, 15, 14, 3, 6]) {
+        let capacity = match self.rng.weighted(&[40, 2, 2, 18, 15, 14, 3, 6]) {
             0 => most,
-            1 => need,
-            2 => need.saturating_sub(1),
-            3 => self.rng.below(need + 1),
-            4 => 0,
+            1 => most + 1,
+            2 => usize::from(u16::MAX),
+            3 => need,
+            4 => need.saturating_sub(1),
+            5 => self.rng.below(need + 1),
+            6 => 0,
             _ => self.rng.between(0, most),
         };
-        Record::text(text, capacity.min(most) as u16)
+        Record::text(text, capacity.min(usize::from(u16::MAX)) as u16)
     }
 }
 
@@ -159,9 +168,7 @@ impl Iterator for Generator {
         if self.writes.rng.chance(WRITES) {
             return Some(self.writes.record(&mut self.left_out.sheets));
         }
-        let every = if self.made < HEAD { 2 } else { 4 };
-        self.made += 1;
-        if self.made.is_multiple_of(every)
+        if short_is_due(&mut self.made)
             && let Some(record) = self.short()
         {
             return Some(record);
@@ -179,7 +186,7 @@ impl Iterator for Generator {
 /// comes behind.
 pub fn bad(rng: &mut Rng) -> Vec<u8> {
     let good = Record::text(texts::any(rng), 100);
-    let mut bytes = match rng.below(10) {
+    let mut bytes = match rng.below(9) {
         // cut short: these end the input
         0 => {
             let mut bytes = good.bytes();
@@ -192,19 +199,14 @@ pub fn bad(rng: &mut Rng) -> Vec<u8> {
             return bytes;
         }
         2 => Record { kind: *rng.pick(b"AUtsv\0\n"), ..good.clone() }.bytes(),
-        3 => Record {
-            capacity: rng.between(usize::from(MOST_TOKENS) + 1, 65_535) as u16,
-            ..good.clone()
-        }
-        .bytes(),
-        4 => Record { body: vec![b' '; rng.between(LONGEST + 1, 65_535)], ..good.clone() }.bytes(),
-        5 => {
+        3 => Record { body: vec![b' '; rng.between(LONGEST + 1, 65_535)], ..good.clone() }.bytes(),
+        4 => {
             let length = *rng.pick(&[0, 1, 7, 9, 10, 11, 13, 21]);
             Record { kind: b'C', capacity: 0, body: vec![0; length] }.bytes()
         }
-        6 => Record { kind: b'V', capacity: 0, body: vec![0; rng.below(10)] }.bytes(),
-        7 => Record { kind: b'W', capacity: 0, body: vec![0; rng.below(8)] }.bytes(),
-        8 => {
+        5 => Record { kind: b'V', capacity: 0, body: vec![0; rng.below(10)] }.bytes(),
+        6 => Record { kind: b'W', capacity: 0, body: vec![0; rng.below(8)] }.bytes(),
+        7 => {
             let mut record = Record::write(9, 9, 1, &token(UNQUOTED, 0, 1), b"");
             record.body.pop();
             record.bytes()

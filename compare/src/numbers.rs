@@ -18,7 +18,7 @@ pub const fn token(code: u32, a: u32, b: u32) -> [u32; WORDS] {
 /// The most bytes that the dump reads, and that a record holds.
 pub const LONGEST: usize = 32_768;
 
-/// The dump's room in tokens, and the most that a record asks for.
+/// The dump's room in tokens, and the most that a record is lent: a capacity over it is taken for it.
 pub const MOST_TOKENS: u16 = 5_000;
 
 /// The most bytes of room that a record lends for a text that is written, and the most words of scratch.
@@ -81,6 +81,11 @@ pub fn is_scalar(code: u32) -> bool {
 
 pub fn is_quoted(code: u32) -> bool {
     QUOTED_CODES.contains(&code)
+}
+
+/// The codes of the two kinds of parameters.
+pub fn is_parameter(code: u32) -> bool {
+    code == PARAMETER || code == UNDEFINED_PARAMETER
 }
 
 /// The codes of the scalars that request W5 writes out as a key or as an entry by itself.

@@ -83,42 +83,49 @@ impl Record {
             return None;
         }
         match self.kind {
-            b'T' if self.capacity > MOST_TOKENS => None,
-            b'T' => Some(Question::Text { text: body, capacity: usize::from(self.capacity) }),
+            b'T' => {
+                let capacity = usize::from(self.capacity.min(MOST_TOKENS));
+                Some(Question::Text { text: body, capacity })
+            }
             b'S' => Some(Question::Scalar { bytes: body }),
-            b'C' => {
-                let (head, rest) = body.split_first_chunk::<8>()?;
-                let head = words(head);
-                let even = rest.len() % 4 == 0;
-                even.then(|| Question::Check {
-                    length: head[0],
-                    count: head[1],
-                    words: words(rest),
-                })
-            }
-            b'V' => {
-                let (head, rest) = body.split_first_chunk::<10>()?;
-                let bytes = 4 * usize::from(u16::from_be_bytes([head[8], head[9]]));
-                let (sheet, text) = rest.split_at_checked(bytes)?;
-                let head = words(&head[..8]);
-                Some(Question::View { index: head[0], count: head[1], words: words(sheet), text })
-            }
-            b'W' => {
-                let (head, rest) = body.split_first_chunk::<8>()?;
-                let &[s0, s1, c0, c1, c2, c3, w0, w1] = head;
-                let bytes = 4 * usize::from(u16::from_be_bytes([w0, w1]));
-                let (sheet, text) = rest.split_at_checked(bytes)?;
-                Some(Question::Write(ToWrite {
-                    room: usize::from(self.capacity),
-                    scratch: usize::from(u16::from_be_bytes([s0, s1])),
-                    count: u32::from_be_bytes([c0, c1, c2, c3]),
-                    words: words(sheet),
-                    text,
-                }))
-            }
+            b'C' => asked_check(body),
+            b'V' => asked_view(body),
+            b'W' => asked_write(self.capacity, body),
             _ => None,
         }
     }
+}
+
+/// A sheet to check: a text length, a count, and words to the end.
+fn asked_check(body: &[u8]) -> Option<Question<'_>> {
+    let (head, rest) = body.split_first_chunk::<8>()?;
+    let head = words(head);
+    let even = rest.len() % 4 == 0;
+    even.then(|| Question::Check { length: head[0], count: head[1], words: words(rest) })
+}
+
+/// A view: an index, a count, how many words, the words, and the text to the end.
+fn asked_view(body: &[u8]) -> Option<Question<'_>> {
+    let (head, rest) = body.split_first_chunk::<10>()?;
+    let bytes = 4 * usize::from(u16::from_be_bytes([head[8], head[9]]));
+    let (sheet, text) = rest.split_at_checked(bytes)?;
+    let head = words(&head[..8]);
+    Some(Question::View { index: head[0], count: head[1], words: words(sheet), text })
+}
+
+/// A sheet to write out: the scratch, a count, how many words, the words, and the text to the end.
+fn asked_write(room: u16, body: &[u8]) -> Option<Question<'_>> {
+    let (head, rest) = body.split_first_chunk::<8>()?;
+    let &[s0, s1, c0, c1, c2, c3, w0, w1] = head;
+    let bytes = 4 * usize::from(u16::from_be_bytes([w0, w1]));
+    let (sheet, text) = rest.split_at_checked(bytes)?;
+    Some(Question::Write(ToWrite {
+        room: usize::from(room),
+        scratch: usize::from(u16::from_be_bytes([s0, s1])),
+        count: u32::from_be_bytes([c0, c1, c2, c3]),
+        words: words(sheet),
+        text,
+    }))
 }
 
 /// The next record: nothing at the input's end, an error where it is cut short.
@@ -221,7 +228,7 @@ mod tests {
     #[test]
     fn good_records_are_answered_to_the_end() {
         let good = [
-            Record::text(vec![b' '; LONGEST], MOST_TOKENS),
+            Record::text(vec![b' '; LONGEST], u16::MAX),
             Record::scalar(Vec::new()),
             Record::check(0, 0, &[]),
             Record::view(0, 0, &[1], b""),
@@ -231,6 +238,15 @@ mod tests {
         let input: Vec<u8> = good.iter().flat_map(Record::bytes).collect();
         assert_eq!(served(&input), "answer\n".repeat(good.len()));
         assert_eq!(served(&input[..input.len() - 1]), "answer\n".repeat(5) + "bad record\n");
+    }
+
+    #[test]
+    fn a_larger_capacity_is_taken_for_the_most() {
+        for (capacity, lent) in [(4_999, 4_999), (5_000, 5_000), (5_001, 5_000), (65_535, 5_000)] {
+            let record = Record::text(Vec::new(), capacity);
+            let asked = record.question().expect("a good record");
+            assert!(matches!(asked, Question::Text { capacity, .. } if capacity == lent));
+        }
     }
 
     #[test]
@@ -244,7 +260,6 @@ mod tests {
             body(b'C', 9),
             body(b'V', 9),
             body(b'W', 7),
-            Record::text(Vec::new(), MOST_TOKENS + 1),
             Record { body: vec![0, 0, 0, 0, 0, 0, 0, 0, 0, 1, 0, 0, 0], ..body(b'V', 0) },
             Record { body: vec![0, 0, 0, 0, 0, 0, 0, 1, 0, 0, 0], ..body(b'W', 0) },
         ] {

@@ -90,7 +90,7 @@ fn expected() -> Vec<Feature> {
     all.extend(["empty", "bytes", "plain"].map(|text| ("written", text.to_string())));
     all.extend(writer::CAUSES.map(|cause| ("not written for", format!("{cause:?}"))));
     all.extend(AT_ONCE.map(|(first, then)| ("two refusals", format!("{first} and {then}"))));
-    let written = NAMES.iter().filter(|(code, _)| ![PARAMETER, UNDEFINED_PARAMETER].contains(code));
+    let written = NAMES.iter().filter(|(code, _)| !is_parameter(*code));
     all.extend(written.map(|(_, name)| ("written tokens", name.to_string())));
     all.extend((LESS_THAN..=EXISTS).map(|kind| ("written operators", kind.to_string())));
     for rooms in ["bytes", "words"] {

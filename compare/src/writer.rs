@@ -130,16 +130,16 @@ pub fn text_of(text: &[u8], words: &[u32], count: u32) -> Option<Vec<u8>> {
 
 /// A body's keys with their entries, and then its entries alone: in root and objects the first
 /// MixedContainer parts them, an array has no keys.
-fn parts(body: &[Node], keyed: bool) -> (&[Node], &[Node]) {
+pub fn parts(body: &[Node], keyed: bool) -> (&[Node], &[Node]) {
     let mixed = || body.iter().position(|node| *node == Node::Mixed).unwrap_or(body.len());
     body.split_at(if keyed { mixed() } else { 0 })
 }
 
 /// A key, its operator if it has one, and its entry.
-type Pair<'n> = (&'n Node, Option<u32>, &'n [Node]);
+pub type Pair<'n> = (&'n Node, Option<u32>, &'n [Node]);
 
 /// The pairs of a body's first part, or why it has others.
-fn pairs(mut part: &[Node]) -> Result<Vec<Pair<'_>>, Cause> {
+pub fn pairs(mut part: &[Node]) -> Result<Vec<Pair<'_>>, Cause> {
     let mut pairs = Vec::new();
     while let [key, rest @ ..] = part {
         if !matches!(key, Node::Scalar(code, _) if is_written(*code)) {
@@ -169,8 +169,7 @@ fn entry_nodes(part: &[Node]) -> Option<usize> {
 
 /// Why the body is not of the form, at whatever depth: a parameter, or a part that is not pairs.
 fn form_fault(body: &[Node], keyed: bool) -> Option<Cause> {
-    let parameter = |code| code == PARAMETER || code == UNDEFINED_PARAMETER;
-    if body.iter().any(|node| matches!(node, Node::Scalar(code, _) if parameter(*code))) {
+    if body.iter().any(|node| matches!(node, Node::Scalar(code, _) if is_parameter(*code))) {
         return Some(Cause::Parameter);
     }
     pairs(parts(body, keyed).0)

@@ -21,7 +21,7 @@ static void print_common(void) {
            "the save and is passed over. Lines, columns and offsets are the file's: lines and columns\n"
            "count from 1, a column is a byte, and a BOM has none. Options come before the file, and\n"
            "'--' ends them:\n"
-           "  --raw      leave the first line to the parser\n"
+           "  --raw      leave the first line to the parser, which takes it for a key\n"
            "  --numbers  print a refusal as 'refused NUMBER PLACE' on standard output, not in words\n\n"
            "A refusal is one line of standard error: FILE:LINE:COLUMN: refusal NUMBER: WORDS, and of\n"
            "write, where the save parses, FILE: refusal NUMBER: WORDS\n\n"

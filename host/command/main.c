@@ -7,6 +7,8 @@
 
 #define OPTIONS "[--numbers] [--raw]"
 #define ANY_NUMBER ((size_t)-1)
+#define QUOTE(macro) #macro
+#define WORDS_OF(macro) QUOTE(macro)
 
 const struct subcommand subcommands[] = {
     {"look", OPTIONS " [FILE]", "print the tokens of a save",
@@ -31,12 +33,16 @@ const struct subcommand subcommands[] = {
      2, ANY_NUMBER, get},
     {"write", OPTIONS " [FILE]", "write a save's tokens as save text again",
      "Prints the text and nothing more: keys, '=' or an operator, values and braces, one space between\n"
-     "them and no line ends, not at the end either. Comments, blanks, a BOM and a first line like\n"
-     "HOI4txt are gone: a game that wants that line must get it from you. The text parses to the same\n"
-     "tokens, or it is not written: refusal 45, as for pairs behind a mixed part ('a b{}c=d'), a value\n"
-     "that is one sign ('a= =') and a container that lost its only content ('a=b{{}}', 'a={{{}}}').\n"
-     "Parameters are refusal 46, and containers over 64 deep 42. A save that was cut short is written\n"
-     "as if it were whole.\n",
+     "them and no line ends of its own, not at the end either. Comments, blanks, a BOM and a first line\n"
+     "like HOI4txt are gone: a game that wants that line must get it from you. The text parses to the\n"
+     "same tokens, or it is not written. Look at the status: without --numbers nothing is printed on a\n"
+     "refusal, and an empty file is a sound save. Never write onto the file that is read.\n\n"
+     "Refusal 45, would read differently: a value or a header that is the one byte '=' behind '='\n"
+     "('a= =', 'a= ={b}'); a pair with '=' and no container for its value, where pairs begin anew\n"
+     "behind a container of a mixed part ('a b{}c=d'); a container that lost its only content behind a\n"
+     "header or at the begin of an array ('a=b{{}}', 'a={{{}}}'); a second BOM. Parameters are 46,\n"
+     "containers over " WORDS_OF(TACKACORN_LEVEL_LIMIT) " deep 42, and 43 is a text that would pass the limit, as that of many quoted\n"
+     "entries side by side. A save that was cut short is written as if it were whole.\n",
      0, 1, write_back},
     {"help", "[SUBCOMMAND]", "print this, or more about a subcommand", "", 0, 1, help},
 };

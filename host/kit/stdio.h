@@ -10,6 +10,7 @@ int ferror(FILE *file);
 int fflush(FILE *file);
 int fputs(const char *words, FILE *file);
 int putc(int byte, FILE *file);
+int putchar(int byte);
 int puts(const char *words);
 int printf(const char *form, ...);
 int fprintf(FILE *file, const char *form, ...);

@@ -188,8 +188,9 @@ pub enum WriteError {
     /// A buffer that was lent is under the text, or a scratch under the tokens. Memory of the crate's own
     /// is always enough.
     NoRoom = 44,
-    /// The text to write would be refused, or read as something else: pairs behind a mixed part of the
-    /// same object, a scalar with bytes that end it, a quote in a quoted one, and so on.
+    /// The text to write would be refused, or read as something else. Of what was parsed these are told in
+    /// `tackacorn.h`; of what was edited it is a scalar with bytes that end it, a quote in a quoted one, an
+    /// object left empty, and so on.
     ReadsOtherwise = 45,
 }
 

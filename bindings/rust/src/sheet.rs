@@ -152,13 +152,16 @@ pub fn write_into(
 ///
 /// At the top level and in an object each key is followed by `=`, or by an operator with a space on either
 /// side, and by its entry; one space stands between pairs and between the entries of an array, and no line
-/// end anywhere. The text parses to the same tokens, with the same bytes in each scalar, or it is refused.
+/// end but those in scalars. The text parses to the same tokens, with the same bytes in each scalar, or it is
+/// refused.
 ///
 /// # Before you hand the text to the game
 ///
-/// Some saves parse and cannot be written: see [`WriteError`]. No BOM, comment or first line like `HOI4txt`
-/// is written. A save that was cut short is written with its last object closed. A name with a `!` in it
-/// is written as it is, and jomini may read `a!=b` as an operator, where this crate has the key `a!`.
+/// Some saves parse and cannot be written: see [`WriteError`]. No BOM and no comment is written; a first line
+/// like `HOI4txt` is, as a key, unless it was kept from the parser. A save that was cut short is written with
+/// its last object closed. A name with a `!` in it is written as it is, and jomini may read `a!=b` as an
+/// operator, where this crate has the key `a!`. An edited sheet is held against itself, not against what was
+/// meant: `tackacorn.h` has what an edit must keep, under 'Before you edit a sheet'.
 ///
 /// ```
 /// use tackacorn::sheet;

@@ -169,7 +169,12 @@ fn same_write(asked: ToWrite<'_>) {
     let (mut out, mut tape) = (vec![255u8; room], vec![u32::MAX; scratch]);
     let ours = sheet::write_into(text, &words, count as usize, &mut out, &mut tape);
     let size = ours.unwrap_or(0);
-    assert_eq!(ours.map(|size| out[..size].to_vec()).map_err(WriteError::number), theirs, "{:?}", shown(text));
+    assert_eq!(
+        ours.map(|size| out[..size].to_vec()).map_err(WriteError::number),
+        theirs,
+        "{:?}",
+        shown(text)
+    );
     assert!(out[size..].iter().all(|&byte| byte == 0) && tape.iter().all(|&word| word == 0));
 }
 
@@ -178,7 +183,8 @@ fn same_write(asked: ToWrite<'_>) {
 #[test]
 fn the_records_of_the_comparison() {
     let (seed, cases) = (number("SEED", 2026), number("CASES", 500_000));
-    let (mut parses, mut written, mut scalars, mut sheets, mut views, mut writes) = (0, 0, 0, 0, 0, 0);
+    let (mut parses, mut written, mut scalars, mut sheets, mut views, mut writes) =
+        (0, 0, 0, 0, 0, 0);
     for record in Generator::new(seed).take(cases as usize) {
         match record.question().expect("a good record") {
             Question::Text { text, capacity } => {
