@@ -18,7 +18,7 @@ use Rattle.writer.specs.declared.Written.{Written}
 use Rattle.writer.specs.declared.Written.the-variants.{Text, Refused}
 use Rattle.writer.specs.Refusals.{number}
 use Rattle.writer.specs.Alike.{comes-back}
-use Rattle.writer.specs.Write.{Left, refuse, text-of, formed, too-deep, no-room, weigh-text, weigh-sound, weigh, read-back, write-of}
+use Rattle.writer.specs.Write.{Left, refuse, text-of, formed, too-deep, no-room, first-of, weigh, read-back, write-of}
 use Rattle.way_back.specs.Accepted.{Given, Accepted, Reads-back, answer-of, Answers-length, Promised}
 
 -- neither of two
@@ -35,32 +35,32 @@ module _ (text : List ℕ) (ts : List Token) (room scratch : ℕ) where
 
   -- 46, 42, 43, 44, in that order
   other-form : formed ts ≡ false → answered ≡ refuse room scratch OtherForm
-  unfolding write-of weigh weigh-sound
-  other-form e = rw (weigh-sound, e)
+  unfolding write-of weigh first-of
+  other-form e = rw e
 
   module _ (f : formed ts ≡ true) where
     deep : too-deep ts ≡ true → answered ≡ refuse room scratch TooDeep
-    unfolding write-of weigh weigh-sound
-    deep e = rw (weigh-sound, f, e)
+    unfolding write-of weigh first-of
+    deep e = rw (f, e)
 
     long : too-deep ts ≡ false → ltb text-limit (length (text-of text ts)) ≡ true → answered ≡ refuse room scratch TooLong
-    unfolding write-of weigh weigh-sound weigh-text
-    long d e = rw (weigh-sound, f, d, weigh-text, e)
+    unfolding write-of weigh first-of
+    long d e = rw (f, d, e)
 
     full : too-deep ts ≡ false → ltb text-limit (length (text-of text ts)) ≡ false → no-room room scratch ts (text-of text ts) ≡ true
         → answered ≡ refuse room scratch NoRoom
-    unfolding write-of weigh weigh-sound weigh-text
-    full d l e = rw (weigh-sound, f, d, weigh-text, l, e)
+    unfolding write-of weigh first-of
+    full d l e = rw (f, d, l, e)
 
     -- and else it is read back
     module _ (g : Given text ts room scratch) where
       fits : answered ≡ read-back text ts room scratch (text-of text ts)
-      unfolding write-of weigh weigh-sound weigh-text
+      unfolding write-of weigh first-of
       fits =
           let l = le-ltb text-limit (length (text-of text ts)) (g .limit) in
           let b = le-ltb room (length (text-of text ts)) (g .buffer) in
           let t = le-ltb (capacity scratch) (length ts) (g .tape) in
-          rw (weigh-sound, f, g .depth, weigh-text, l, b, t)
+          rw (f, g .depth, l, b, t)
 
       pub given-accepts : Reads-back text ts scratch → Accepted text ts room scratch
       unfolding read-back
@@ -110,7 +110,7 @@ module _ (text : List ℕ) (ts : List Token) (room scratch : ℕ) where
 
   -- and to a sound sheet alone
   not-sound : write-of text ts room scratch false ≡ refuse room scratch NotSound
-  unfolding write-of weigh
+  unfolding write-of weigh first-of
   not-sound = refl
 
   pub length-sound : (yes : Bool) → Answers-length (write-of text ts room scratch yes) → yes ≡ true

@@ -44,7 +44,7 @@ use Rattle.writer.specs.Scans.{token-size, first-behind, text-size}
 use Rattle.writer.specs.Ranges.{Whole}
 use Rattle.writer.specs.Refusals.{number}
 use Rattle.writer.specs.Alike.{comes-back}
-use Rattle.writer.specs.Write.{text-of, formed, too-deep, weigh-text, weigh-sound, weigh, read-back, write-of}
+use Rattle.writer.specs.Write.{text-of, formed, too-deep, first-of, weigh, read-back, write-of}
 use Rattle.writer.proofs.Sizes.{lead-same, lead-short, quoted-size, view-short}
 use Rattle.writer.proofs.Scanned.{tokens-on, size-told, size-none}
 use Rattle.way_back.specs.Accepted.{answer-of}
@@ -191,25 +191,25 @@ length-apart size e = let z : _≡_ {A = ℕ} 0 1 = cc in omega arith
 module _ (text : List ℕ) (ts : List Token) (room scratch : ℕ) where
   -- a sheet that is not sound is refused by 41
   unsound-apart : answer-of (write-of text ts room scratch false) ≡ Refused NoRoom → ⊥
-  unfolding write-of weigh
+  unfolding write-of weigh first-of
   unsound-apart e = apart NotSound (omega arith) e
 
   -- and a sound one for which there is room, by its form, its depth, its length or what it reads back as
   sound-apart : length (text-of text ts) ≤ room → length ts ≤ capacity scratch
       → answer-of (write-of text ts room scratch true) ≡ Refused NoRoom → ⊥
-  unfolding write-of weigh weigh-sound weigh-text read-back
+  unfolding write-of weigh first-of read-back
   sound-apart fits tape e =
       let b = le-ltb room (length (text-of text ts)) fits in
       let t = le-ltb (capacity scratch) (length ts) tape in
       by-bool (formed ts)
       (λ f. by-bool (too-deep ts)
-      (λ d. apart TooDeep (omega arith) (rw (weigh-sound, f, d) at e))
+      (λ d. apart TooDeep (omega arith) (rw (f, d) at e))
       (λ d. by-bool (ltb text-limit (length (text-of text ts)))
-      (λ l. apart TooLong (omega arith) (rw (weigh-sound, f, d, weigh-text, l) at e))
+      (λ l. apart TooLong (omega arith) (rw (f, d, l) at e))
       (λ l. by-bool (comes-back text (text-of text ts) ts (parse-of (text-of text ts) scratch))
-      (λ c. length-apart _ (rw (weigh-sound, f, d, weigh-text, l, b, t, read-back, c) at e))
-      (λ c. apart ReadsOtherwise (omega arith) (rw (weigh-sound, f, d, weigh-text, l, b, t, read-back, c) at e)))))
-      (λ f. apart OtherForm (omega arith) (rw (weigh-sound, f) at e))
+      (λ c. length-apart _ (rw (f, d, l, b, t, read-back, c) at e))
+      (λ c. apart ReadsOtherwise (omega arith) (rw (f, d, l, b, t, read-back, c) at e)))))
+      (λ f. apart OtherForm (omega arith) (rw f at e))
 
 pub write-finds-room : Write-finds-room
 write-finds-room κs args r xs post fits tape e =
