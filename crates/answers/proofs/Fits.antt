@@ -10,7 +10,7 @@ use Rattle.sheet.specs.Decided.{Decided}
 use Rattle.sheet.specs.Views.{viewed}
 use Rattle.writer.specs.Write as sheet
 use Rattle.tape.specs.Words.{words-for}
-use Rattle.put.specs.Append.{Wrote, wrote, append}
+use Rattle.put.specs.Append.{Wrote, wrote, place-of, append}
 use Rattle.report.specs.Dump.{dump-of}
 use Rattle.report.specs.Readings.{readings-of}
 use Rattle.report.specs.Room.{most-input, most-tokens, Held}
@@ -20,10 +20,6 @@ use Rattle.report.proofs.Lengths.{readings-short, verdict-short, view-short, wr
 use Rattle.answers.specs.declared.Answer.{Answer}
 use Rattle.answers.specs.declared.Answer.the-variants.{Put}
 use Rattle.answers.specs.Whole.{most-answer, Answers, dump, readings, verdict, view, written, All, Left, Whole}
-
--- the place after what was put
-abbrev place-of : Wrote → ℕ
-place-of (wrote next left) = next
 
 -- what was put, and the buffer of a text that was written back
 abbrev put-of : sheets.Reported → Wrote

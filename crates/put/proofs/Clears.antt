@@ -7,10 +7,7 @@ use native.Mathlib.Numerals.{add-one}
 use native.Mathlib.Omega.{arith}
 use lib.ListN.{length, take, set, replicate}
 use lib.Seq.{take-all, take-suc-set, append-snoc}
-
--- a list with zeros from a place on
-abbrev pub zeroed : List ℕ → ℕ → List ℕ
-zeroed bytes at = take at bytes ++ replicate (length bytes - at) 0
+use Rattle.put.specs.Append.{zeroed}
 
 -- one byte is zeroed, and then those behind it
 pub zero-on : (bytes : List ℕ) (i n : ℕ) → i < length bytes → n ≡ length bytes

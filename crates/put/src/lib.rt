@@ -1,10 +1,9 @@
 // Bytes put into a lent buffer one after another, as far as it has room. Every call answers the place after what it put.
 ghost use mathlib.Core.Path.{_≡_};
-ghost use mathlib.Core.List.{[], _∷_, _++_};
-ghost use Prim.Native.Nat.{_-_};
-ghost use lib.ListN.{length, take, drop, replicate};
+ghost use mathlib.Core.List.{[], _∷_};
+ghost use lib.ListN.{length, take, drop};
 ghost use denote.Ref.{ptr};
-ghost use Rattle.put.specs.Append.{wrote, append};
+ghost use Rattle.put.specs.Append.{wrote, append, zeroed};
 ghost use Rattle.put.specs.Parts.{part-place};
 
 // Puts one byte.
@@ -55,7 +54,7 @@ pub fn part(bytes: &[u8], offset: usize, size: usize) -> &[u8]
 
 // Zeroes every byte from a place on.
 pub fn clear_from(out: &mut [u8], at: usize)
-    ensures { λ r. ⌜ now (out .exit) ≡ take at (now (out .entry)) ++ replicate (length (now (out .entry)) - at) 0 ⌝ }
+    ensures { λ r. ⌜ now (out .exit) ≡ zeroed (now (out .entry)) at ⌝ }
 {
     let mut i = at;
     while i < out.len() {

@@ -18,7 +18,7 @@ use Rattle.writer.specs.declared.Written.{Written}
 use Rattle.writer.specs.declared.Written.the-variants.{Text, Refused}
 use Rattle.writer.specs.Refusals.{number}
 use Rattle.writer.specs.Alike.{comes-back}
-use Rattle.writer.specs.Write.{Left, refuse, text-of, formed, too-deep, no-room, first-of, weigh, read-back, write-of}
+use Rattle.writer.specs.Write.{Left, refuse, text-of, formed, too-deep, no-room, first-there, weigh, read-back, write-of}
 use Rattle.way_back.specs.Accepted.{Given, Accepted, Reads-back, answer-of, Answers-length, Promised}
 
 -- neither of two
@@ -35,27 +35,27 @@ module _ (text : List ℕ) (ts : List Token) (room scratch : ℕ) where
 
   -- 46, 42, 43, 44, in that order
   other-form : formed ts ≡ false → answered ≡ refuse room scratch OtherForm
-  unfolding write-of weigh first-of
+  unfolding write-of weigh first-there
   other-form e = rw e
 
   module _ (f : formed ts ≡ true) where
     deep : too-deep ts ≡ true → answered ≡ refuse room scratch TooDeep
-    unfolding write-of weigh first-of
+    unfolding write-of weigh first-there
     deep e = rw (f, e)
 
     long : too-deep ts ≡ false → ltb text-limit (length (text-of text ts)) ≡ true → answered ≡ refuse room scratch TooLong
-    unfolding write-of weigh first-of
+    unfolding write-of weigh first-there
     long d e = rw (f, d, e)
 
     full : too-deep ts ≡ false → ltb text-limit (length (text-of text ts)) ≡ false → no-room room scratch ts (text-of text ts) ≡ true
         → answered ≡ refuse room scratch NoRoom
-    unfolding write-of weigh first-of
+    unfolding write-of weigh first-there
     full d l e = rw (f, d, l, e)
 
     -- and else it is read back
     module _ (g : Given text ts room scratch) where
       fits : answered ≡ read-back text ts room scratch (text-of text ts)
-      unfolding write-of weigh first-of
+      unfolding write-of weigh first-there
       fits =
           let l = le-ltb text-limit (length (text-of text ts)) (g .limit) in
           let b = le-ltb room (length (text-of text ts)) (g .buffer) in
@@ -110,7 +110,7 @@ module _ (text : List ℕ) (ts : List Token) (room scratch : ℕ) where
 
   -- and to a sound sheet alone
   not-sound : write-of text ts room scratch false ≡ refuse room scratch NotSound
-  unfolding write-of weigh first-of
+  unfolding write-of weigh first-there
   not-sound = refl
 
   pub length-sound : (yes : Bool) → Answers-length (write-of text ts room scratch yes) → yes ≡ true

@@ -26,7 +26,7 @@ use Rattle.sheet.proofs.Sheets.{one-answer, later-ignored}
 use Rattle.writer.specs.declared.Written.{Written}
 use Rattle.writer.specs.Pieces.{view-of}
 use Rattle.writer.specs.Alike.{same-view, same-token, alike, found-alike, comes-back}
-use Rattle.writer.specs.Write.{Left, left, text-of, formed, too-deep, no-room, first-of, weigh, read-back, write-of}
+use Rattle.writer.specs.Write.{Left, left, text-of, formed, too-deep, no-room, first-there, weigh, read-back, write-of}
 use Rattle.way_back.specs.Unread.{Same-views, Views-alone, Same-read, Same-left, Write-ignores}
 use Rattle.way_back.proofs.Same.{Same, same, viewed, alike-none, alike-one}
 use Rattle.way_back.proofs.Likeness.{alike-text}
@@ -90,7 +90,7 @@ module _ (text other : List ℕ) (ts : List Token) (v : Same-views text other ts
 
   -- so a sound sheet is answered alike, a test at a time
   same-sound : write-of text ts room scratch true ≡ write-of other ts room scratch true
-  unfolding write-of weigh first-of
+  unfolding write-of weigh first-there
   same-sound =
       by-bool (formed ts)
       (λ f. by-bool (too-deep ts)
@@ -104,7 +104,7 @@ module _ (text other : List ℕ) (ts : List Token) (v : Same-views text other ts
       (λ f. rw f)
 
 pub views-alone : Views-alone
-unfolding write-of weigh first-of
+unfolding write-of weigh first-there
 views-alone text other ts v room scratch true = same-sound text other ts v room scratch
 views-alone text other ts v room scratch false = refl
 

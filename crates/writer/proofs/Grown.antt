@@ -85,10 +85,11 @@ pub record Grown (ts : List Token) (i j : ℕ) (f : Forest) : Type 0 where
   pub stands : drop i ts ≡ flat f i ++ drop j ts
   pub size : j ≡ i + length (flat f i)
 
-module _ (ts : List Token) where
-  here : (i : ℕ) → i < length ts → drop i ts ≡ nth ts i ∷ drop (i + 1) ts
-  here i h = rw (add-one, drop-cons ts i no-token)
+-- the tokens from one on: itself, and those behind it
+pub tokens-on : (ts : List Token) (i : ℕ) → i < length ts → drop i ts ≡ nth ts i ∷ drop (i + 1) ts
+tokens-on ts i h = rw (add-one, drop-cons ts i no-token)
 
+module _ (ts : List Token) where
   -- inside a container, behind it, and behind a token that opens nothing
   module _ (i j e : ℕ) (b : Range ts i j) (h : i < j) (o : Opens (nth ts i) e) where
     pub inside : Range ts (i + 1) e
@@ -219,7 +220,7 @@ module _ (ts : List Token) where
   -- ---- and its tokens
   grow-leaf : (i j : ℕ) (f : Forest) → i < length ts → Grown ts (i + 1) j f → Grown ts i j (leaf (nth ts i) f)
   grow-leaf i j f h g = record {
-    stands = here i h ∙ ap (λ (l : List Token). nth ts i ∷ l) (g .stands);
+    stands = tokens-on ts i h ∙ ap (λ (l : List Token). nth ts i ∷ l) (g .stands);
     size = g .size ∙ omega arith;
   }
 
@@ -233,7 +234,7 @@ module _ (ts : List Token) where
       let rest : List Token = flat f′ (i + 2 + length body) in
       let same : flat f′ (e + 1) ≡ rest = ap (λ (m : ℕ). flat f′ m) next in
       record {
-        stands = here i h ∙ rw (o, g .stands, here e h′, c, r .stands, same, z) (simp append-assoc);
+        stands = tokens-on ts i h ∙ rw (o, g .stands, tokens-on ts e h′, c, r .stands, same, z) (simp append-assoc);
         size = r .size ∙ rw same (omega (arith, length-append (boxed kind flag i body) rest, length-append body (end-of i ∷ [])));
       }
 

@@ -2,10 +2,11 @@
 -- Assumes nothing.
 use mathlib.Core.Path.{_≡_, _∙_, ap}
 use mathlib.Core.Bool.{Bool}
-use mathlib.Core.List.{List, _++_}
-use Prim.Native.Nat.{ℕ, _-_}
+use mathlib.Core.List.{List}
+use Prim.Native.Nat.{ℕ}
 use native.Mathlib.Nat.{sub-zero}
-use lib.ListN.{length, take, replicate}
+use lib.ListN.{length}
+use Rattle.put.specs.Append.{zeroed}
 use Rattle.tape.specs.declared.token.Token.{Token}
 use Rattle.tape.specs.Words.{tokens-in, words-of, padded, cleared}
 use Rattle.machine.specs.declared.Parsed.{Parsed}
@@ -23,7 +24,7 @@ unfolding cleared padded tokens-in words-of
 tape-cleared ws e h = e ∙ ap zeros (sub-zero (length ws) ∙ h)
 
 -- and so is a buffer that is cleared from its first byte on
-pub buffer-cleared : (bytes : List ℕ) {out : List ℕ} {n : ℕ} → out ≡ take 0 bytes ++ replicate (length bytes - 0) 0 → length bytes ≡ n
+pub buffer-cleared : (bytes : List ℕ) {out : List ℕ} {n : ℕ} → out ≡ zeroed bytes 0 → length bytes ≡ n
     → out ≡ zeros n
 buffer-cleared bytes e h = e ∙ ap zeros (sub-zero (length bytes) ∙ h)
 

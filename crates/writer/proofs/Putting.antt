@@ -14,14 +14,13 @@ use Rattle.put.specs.Append.{wrote, append}
 use Rattle.put.proofs.Append.{chain, put-empty, put-on}
 use Rattle.tape.specs.declared.token.Token.{Token}
 use Rattle.tape.specs.declared.token.ContainerKind.{ContainerKind}
-use Rattle.tape.specs.Token.{nth}
 use Rattle.writer.proofs.pieces.Piece.{the-type}
 use Rattle.writer.specs.declared.dues.Due.{Due}
 use Rattle.writer.specs.declared.dues.Due.the-variants.{Entry}
 use Rattle.writer.specs.declared.pieces.Piece.{Piece}
 use Rattle.writer.specs.declared.pieces.Piece.the-variants.{Scalar, Heading, Sign, Mixed, Opener, Other}
 use Rattle.writer.specs.Forest.{Forest, stretch}
-use Rattle.writer.specs.Pieces.{is-mixed, piece-of}
+use Rattle.writer.specs.Pieces.{is-mixed}
 use Rattle.writer.specs.Dues.{due-after}
 use Rattle.writer.specs.Text.{still-first, braced, body-text}
 use Rattle.writer.specs.Ranges.{Range, behind, Inside, token-text}

@@ -5,19 +5,17 @@ use mathlib.Core.Bool.{Bool, true, false, _||_}
 use mathlib.Core.List.{List, [], _∷_, _++_}
 use Prim.Native.Nat.{ℕ, zero, suc, _+_, _-_, _≤_, _<_, max}
 use native.Mathlib.Nat.{add-zero, zero-add}
-use native.Mathlib.Numerals.{add-one}
 use native.Mathlib.Omega.{arith}
 use borrow.Author.Tests.{ltb-true, ltb-false, lt-ltb, le-ltb}
 use lib.Dec.{ltb}
 use lib.ListN.{length, drop, length-append, drop-of-length-le}
-use lib.Seq.{drop-cons}
 use Rattle.data.proofs.Cases.{by-bool}
 use Rattle.data.specs.Bytes.{brace-close}
 use Rattle.tape.specs.declared.token.Token.{Token}
 use Rattle.tape.specs.declared.token.Container.the-variants.{Nothing}
 use Rattle.tape.specs.declared.shape.Link.{Link}
 use Rattle.tape.specs.declared.shape.Link.the-variants as Link
-use Rattle.tape.specs.Token.{no-token, nth, container-of}
+use Rattle.tape.specs.Token.{nth, container-of}
 use Rattle.tape.specs.Words.{tokens-in, token-in}
 use Rattle.parse.specs.Parse.{text-limit}
 use Rattle.tape.specs.Shape.{link-of, linked, Opens}
@@ -38,7 +36,7 @@ use Rattle.writer.specs.Text.{lead, still-first, piece-text, braced, bod
 use Rattle.writer.specs.Scans.{sunk, sinks, token-size, first-behind, text-size, measured}
 use Rattle.writer.specs.Ranges.{Range, Whole}
 use Rattle.writer.specs.Write.{text-of, too-deep}
-use Rattle.writer.proofs.Grown.{by-token, opens-not, stretch-none, stretch-leaf, stretch-box}
+use Rattle.writer.proofs.Grown.{by-token, opens-not, tokens-on, stretch-none, stretch-leaf, stretch-box}
 use Rattle.writer.proofs.Sizes.{lead-same}
 use Rattle.writer.proofs.Forms.{whole-count, whole-range}
 
@@ -54,10 +52,6 @@ module _ (ts : List Token) (i j : ℕ) (b : Range ts i j) (h : i < j) where
       go (scalar a m v) = ap link-of (v .1) ∙ ap linked (scalar-shape (v .0) a m)
       go (operator k l m p) = ap link-of p ∙ ap linked (operator-shape k l m)
       go (closing o p) = absurd (omega (arith, b .sheet .opened i o p .0, b .opened i o (omega arith) h p))
-
--- the tokens from one on: itself, and those behind it
-pub tokens-on : (ts : List Token) (i : ℕ) → i < length ts → drop i ts ≡ nth ts i ∷ drop (i + 1) ts
-tokens-on ts i h = drop-cons ts i no-token h ∙ ap (λ (k : ℕ). nth ts i ∷ drop k ts) (sym (add-one i))
 
 -- ---- levels
 -- a token that is no link leaves the levels, an opener goes down where it may, and an End up

@@ -9,10 +9,10 @@ use native.Mathlib.Nat.{zero-add}
 use native.Mathlib.Omega.{arith}
 use borrow.Author.Tests.{not-false, ltb-false, lt-ltb, le-ltb}
 use lib.Dec.{ltb}
-use lib.ListN.{length, take, drop, replicate, length-append, length-drop}
+use lib.ListN.{length, take, drop, length-append, length-drop}
 use lib.Seq.{take-append-seam}
 use Rattle.data.proofs.Cases.{by-bool}
-use Rattle.put.specs.Append.{Wrote, wrote, append}
+use Rattle.put.specs.Append.{Wrote, wrote, place-of, append, zeroed}
 use Rattle.put.proofs.Append.{append-fits}
 use Rattle.tape.specs.declared.token.Token.{Token}
 use Rattle.tape.specs.Words.{capacity, tokens-in}
@@ -33,7 +33,7 @@ use Rattle.writer.specs.Alike.{comes-back}
 use Rattle.writer.specs.Scans.{measured}
 use Rattle.writer.specs.Ranges.{Whole}
 use Rattle.writer.specs.Write.{Left, left, zeros, text-of, formed, too-deep}
-use Rattle.writer.specs.Write.{Reason, if-so, first-of, weigh-text, weigh, read-back, settle, write-of}
+use Rattle.writer.specs.Write.{Reason, if-so, first-there, weigh-text, weigh, read-back, carry-out, write-of}
 use Rattle.writer.proofs.Forms.{whole-count}
 
 -- ---- a length that was measured
@@ -63,20 +63,20 @@ fits-not : {why : Refusal} → Refused why ≡ Fits → ⊥
 fits-not e = let z : _≡_ {A = ℕ} 0 1 = cc in omega arith
 
 module _ (why : Refusal) (rs : List Reason) {there : Bool} where
-  pub first-here : there ≡ true → first-of (if-so there why ∷ rs) ≡ Refused why
-  unfolding first-of
+  pub first-here : there ≡ true → first-there (if-so there why ∷ rs) ≡ Refused why
+  unfolding first-there
   first-here e = rw e
 
-  pub first-later : there ≡ false → first-of (if-so there why ∷ rs) ≡ first-of rs
-  unfolding first-of
+  pub first-later : there ≡ false → first-there (if-so there why ∷ rs) ≡ first-there rs
+  unfolding first-there
   first-later e = rw e
 
-pub first-none : first-of [] ≡ Fits
-unfolding first-of
+pub first-none : first-there [] ≡ Fits
+unfolding first-there
 first-none = refl
 
 -- where the text fits, none of them is there
-fits-later : (there : Bool) (why : Refusal) (rs : List Reason) → first-of (if-so there why ∷ rs) ≡ Fits → (there ≡ false) × (first-of rs ≡ Fits)
+fits-later : (there : Bool) (why : Refusal) (rs : List Reason) → first-there (if-so there why ∷ rs) ≡ Fits → (there ≡ false) × (first-there rs ≡ Fits)
 fits-later there why rs e =
     by-bool there
     (λ t. absurd (fits-not (sym (first-here why rs t) ∙ e)))
@@ -157,9 +157,6 @@ unfolding text-of forest-of
 whole-text {words} {count} w text = ap (λ (n : ℕ). body-text (stretch (tokens-in words count) 0 n) text true Key) (sym (whole-count w))
 
 -- ---- what is written where there is room
-abbrev place-of : Wrote → ℕ
-place-of (wrote at out) = at
-
 abbrev bytes-of : Wrote → List ℕ
 bytes-of (wrote at out) = out
 
@@ -171,7 +168,7 @@ module _ (out bytes : List ℕ) (fits : length bytes ≤ length out) {size : ℕ
   put-size = ap place-of whole
 
   -- the text, with zeros behind it
-  pub put-cleared : {c : List ℕ} → c ≡ take size o ++ replicate (length o - size) 0 → c ≡ bytes ++ zeros (length out - length bytes)
+  pub put-cleared : {c : List ℕ} → c ≡ zeroed o size → c ≡ bytes ++ zeros (length out - length bytes)
   put-cleared e =
       let rest : List ℕ = drop (length bytes) out in
       let laid : o ≡ bytes ++ rest = ap bytes-of whole in
@@ -180,7 +177,7 @@ module _ (out bytes : List ℕ) (fits : length bytes ≤ length out) {size : ℕ
       in
       e ∙ rw (put-size, laid, long, take-append-seam bytes rest)
 
-  pub put-front : {c f : List ℕ} → c ≡ take size o ++ replicate (length o - size) 0 → f ≡ take size c → f ≡ bytes
+  pub put-front : {c f : List ℕ} → c ≡ zeroed o size → f ≡ take size c → f ≡ bytes
   put-front e g = g ∙ rw (put-size, put-cleared e) (take-append-seam bytes (zeros (length out - length bytes)))
 
 -- and it reads back, or it does not
@@ -198,10 +195,10 @@ module _ (text : List ℕ) (ts : List Token) (room scratch : ℕ) (bytes : List 
 
 -- ---- the whole answer, from what was said before
 module _ {Holds : Type 0} (text : List ℕ) (ts : List Token) (room scratch : ℕ) {w : Weighed} (d : Decided Holds (weigh text ts room scratch) w) where
-  pub settled : {l : Left} {is : Weighed} → w ≡ is → l ≡ settle text ts room scratch is → Decided Holds (write-of text ts room scratch) l
+  pub settled : {l : Left} {is : Weighed} → w ≡ is → l ≡ carry-out text ts room scratch is → Decided Holds (write-of text ts room scratch) l
   unfolding write-of
   settled told e =
-      record { yes = d .yes; holds = d .holds; gives = e ∙ ap (settle text ts room scratch) (sym told ∙ d .gives) }
+      record { yes = d .yes; holds = d .holds; gives = e ∙ ap (carry-out text ts room scratch) (sym told ∙ d .gives) }
 
   pub settled-fits : w ≡ Fits → Holds × (length (text-of text ts) ≤ room)
   settled-fits told =

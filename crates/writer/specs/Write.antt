@@ -63,9 +63,9 @@ abbrev pub if-so : Bool → Refusal → Reason
 if-so there refusal = record { there = there; refusal = refusal }
 
 -- the first of some reasons that is there; where none is, the text fits
-unfoldable pub first-of : List Reason → Weighed
-first-of [] = Fits
-first-of (r ∷ rs) = elim (r .there) [ true ↦ Weighed.Refused (r .refusal) | false ↦ first-of rs ]
+unfoldable pub first-there : List Reason → Weighed
+first-there [] = Fits
+first-there (r ∷ rs) = elim (r .there) [ true ↦ Weighed.Refused (r .refusal) | false ↦ first-there rs ]
 
 -- 43 text over the limit of 01, 44 no room, in that order: by a buffer of so many bytes and a scratch of so many words
 abbrev pub text-reasons : ℕ → ℕ → List Token → List ℕ → List Reason
@@ -84,10 +84,10 @@ reasons text ts room scratch sound =
 
 -- what is said of a text that is to be written, and of any sheet
 unfoldable pub weigh-text : ℕ → ℕ → List Token → List ℕ → Weighed
-weigh-text room scratch ts bytes = first-of (text-reasons room scratch ts bytes)
+weigh-text room scratch ts bytes = first-there (text-reasons room scratch ts bytes)
 
 unfoldable pub weigh : List ℕ → List Token → ℕ → ℕ → Bool → Weighed
-weigh text ts room scratch sound = first-of (reasons text ts room scratch sound)
+weigh text ts room scratch sound = first-there (reasons text ts room scratch sound)
 
 -- ---- the whole
 -- 45 would read differently
@@ -98,10 +98,10 @@ read-back text ts room scratch bytes =
       | false ↦ refuse room scratch ReadsOtherwise
     ]
 
-abbrev pub settle : List ℕ → List Token → ℕ → ℕ → Weighed → Left
-settle text ts room scratch (Weighed.Refused r) = refuse room scratch r
-settle text ts room scratch Fits = read-back text ts room scratch (text-of text ts)
+abbrev pub carry-out : List ℕ → List Token → ℕ → ℕ → Weighed → Left
+carry-out text ts room scratch (Weighed.Refused r) = refuse room scratch r
+carry-out text ts room scratch Fits = read-back text ts room scratch (text-of text ts)
 
 -- the sheet of some tokens over a text, lent a buffer of so many bytes and a scratch of so many words, by whether it is sound
 unfoldable pub write-of : List ℕ → List Token → ℕ → ℕ → Bool → Left
-write-of text ts room scratch sound = settle text ts room scratch (weigh text ts room scratch sound)
+write-of text ts room scratch sound = carry-out text ts room scratch (weigh text ts room scratch sound)

@@ -2,9 +2,9 @@
 // follows a MixedContainer. The tokens that are left grow fewer at each call.
 use crate::dues::Due;
 use crate::dues::due_after;
-use crate::measure::still_first;
 use crate::pieces::Piece;
 use crate::pieces::piece_of;
+use crate::pieces::still_first;
 use crate::ranges::behind;
 use operator::Numbered;
 use put::part;

@@ -89,7 +89,7 @@ fn body_formed(words: &[u32], count: usize, from: usize, end: usize, first: Due)
     may_end(due)
 }
 
-// Whether the body from a place on is of the form, where a piece opens one.
+// Whether the direct tokens of the body that a piece opens are what is due in it, where it opens one.
 fn inside_formed(words: &[u32], count: usize, from: usize, piece: Piece) -> bool
     requires { ⌜ Inside (tokens-in (now words) count) from piece ⌝ }
     ensures { λ r. ⌜ r ≡ inside-form (tokens-in (now (words .entry)) count) from piece ⌝ }

@@ -11,7 +11,7 @@ ghost use Rattle.writer.specs.Scans.{sunk};
 ghost use Rattle.writer.specs.Ranges.{Whole};
 
 // Bodies nest to so many levels, the root not counted.
-pub const MOST_LEVELS: usize = 64;
+const MOST_LEVELS: usize = 64;
 
 // How many levels are open, or one more than may be.
 pub(crate) enum Sunk {

@@ -21,7 +21,7 @@ pub mod dues;
 // Whether a sheet is of the form that can be written.
 mod form;
 // How deep a sheet nests.
-pub mod levels;
+mod levels;
 // How long its text will be.
 mod measure;
 // What a token is to the writer.

@@ -1,6 +1,7 @@
 // How long a sheet's text will be, from one pass over its tokens and without writing it.
 use crate::pieces::Piece;
 use crate::pieces::piece_of;
+use crate::pieces::still_first;
 use operator::Numbered;
 use parse::TEXT_LIMIT;
 use tape::shape;
@@ -14,7 +15,7 @@ ghost use lib.ListN.{length};
 ghost use Rattle.tape.specs.Words.{greatest-word, tokens-in};
 ghost use Rattle.writer.specs.declared.dues.Due.the-variants.{Entry};
 ghost use Rattle.writer.specs.Pieces.{view-of, quote-if, sign-bytes};
-ghost use Rattle.writer.specs.Text.{lead, still-first, piece-text};
+ghost use Rattle.writer.specs.Text.{lead, piece-text};
 ghost use Rattle.writer.specs.Scans.{token-size, first-behind, measured};
 ghost use Rattle.writer.specs.Write.{text-of};
 ghost use Rattle.writer.specs.Ranges.{Whole};
@@ -78,27 +79,6 @@ fn piece_size(text: &[u8], first: bool, piece: Piece) -> usize
         Piece::Mixed => 0,
         Piece::Opener { kind: _, end: _ } => 0,
         Piece::Other => 0,
-    }
-}
-
-// Whether something is still the first of its body behind a piece.
-pub(crate) fn still_first(first: bool, piece: Piece) -> bool
-    ensures { λ r. ⌜ r ≡ still-first first piece ⌝ }
-{
-    match piece {
-        Piece::Scalar {
-            quoted: _,
-            offset: _,
-            length: _,
-        } => false,
-        Piece::Heading {
-            offset: _,
-            length: _,
-        } => false,
-        Piece::Sign { number: _ } => false,
-        Piece::Mixed => first,
-        Piece::Opener { kind: _, end: _ } => false,
-        Piece::Other => first,
     }
 }
 

@@ -6,6 +6,7 @@ use tape::token::ContainerKind;
 use tape::token::ScalarKind;
 use tape::token::Token;
 ghost use mathlib.Core.Path.{_≡_};
+ghost use Rattle.writer.specs.Text.{still-first};
 ghost use Rattle.writer.specs.Pieces.{scalar-piece, bare-piece, piece-of};
 
 // A scalar with or without quotes, a Header, an operator's sign, a MixedContainer, a container's opener, or what cannot be written.
@@ -85,5 +86,26 @@ pub(crate) fn piece_of(t: Token) -> Piece
             mixed: _,
         } => Piece::Opener { kind, end: link },
         Container::Nothing => bare_piece(shape::shape_of(t)),
+    }
+}
+
+// Whether something is still the first of its body behind a piece.
+pub(crate) fn still_first(first: bool, piece: Piece) -> bool
+    ensures { λ r. ⌜ r ≡ still-first first piece ⌝ }
+{
+    match piece {
+        Piece::Scalar {
+            quoted: _,
+            offset: _,
+            length: _,
+        } => false,
+        Piece::Heading {
+            offset: _,
+            length: _,
+        } => false,
+        Piece::Sign { number: _ } => false,
+        Piece::Mixed => first,
+        Piece::Opener { kind: _, end: _ } => false,
+        Piece::Other => first,
     }
 }

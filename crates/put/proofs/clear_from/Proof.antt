@@ -5,7 +5,8 @@ use mathlib.Core.Path.{_≡_, refl, _∙_}
 use native.Mathlib.Omega.{arith}
 use lib.ListN.{length, length-set}
 use borrow.Author.Needs.{needs}
-use Rattle.put.proofs.Clears.{zeroed, zero-on, zero-none}
+use Rattle.put.specs.Append.{zeroed}
+use Rattle.put.proofs.Clears.{zero-on, zero-none}
 use Rattle.put.proofs.clear_from.Statement.{statement}
 use Rattle.put.proofs.clear_from.Tie as tie
 

@@ -38,7 +38,7 @@ use Rattle.writer.proofs.bodies.is_mixed.Reads as is-mixed-reads
 use Rattle.writer.proofs.bodies.put_lead.Reads as put-lead-reads
 use Rattle.writer.proofs.bodies.put_piece.Reads as put-piece-reads
 use Rattle.writer.proofs.dues.due_after.Reads as due-after-reads
-use Rattle.writer.proofs.measure.still_first.Reads as still-first-reads
+use Rattle.writer.proofs.pieces.still_first.Reads as still-first-reads
 use Rattle.writer.proofs.pieces.piece_of.Reads as piece-of-reads
 use Rattle.writer.proofs.ranges.behind.Reads as behind-reads
 use Rattle.writer.proofs.bodies.+put_entries+put_pairs+put_token.{statement}
