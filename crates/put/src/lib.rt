@@ -24,7 +24,11 @@ pub fn put_bytes(out: &mut [u8], at: usize, bytes: &[u8]) -> usize
     let mut next = at;
     let mut i = 0;
     while i < bytes.len() {
-        next = put_byte(out, next, bytes[i]);
+        if out.len() <= next {
+            return next;
+        }
+        out[next] = bytes[i];
+        next += 1;
         i += 1;
     }
     next

@@ -43,15 +43,13 @@ pub fn token_of(words: &[u32], count: usize, i: usize) -> Token
     ensures { λ r. ⌜ r ≡ token-in (now (words .entry)) count i ⌝ }
 {
     if i < count {
-        if i < words.len() {
+        if i < words.len() / WORDS_PER_TOKEN {
             let at = i * WORDS_PER_TOKEN;
-            if at + LAST_WORD < words.len() {
-                return Token {
-                    code: words[at],
-                    a: words[at + A_WORD],
-                    b: words[at + B_WORD],
-                };
-            }
+            return Token {
+                code: words[at],
+                a: words[at + A_WORD],
+                b: words[at + B_WORD],
+            };
         }
     }
     Token {

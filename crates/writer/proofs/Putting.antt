@@ -22,8 +22,8 @@ use Rattle.writer.specs.declared.pieces.Piece.the-variants.{Scalar, Head
 use Rattle.writer.specs.Forest.{Forest, stretch}
 use Rattle.writer.specs.Pieces.{is-mixed}
 use Rattle.writer.specs.Dues.{due-after}
-use Rattle.writer.specs.Text.{still-first, braced, body-text}
-use Rattle.writer.specs.Ranges.{Range, behind, Inside, token-text}
+use Rattle.writer.specs.Text.{still-first, piece-text, braced, body-text}
+use Rattle.writer.specs.Ranges.{Range, behind, Inside, inside-text, token-text}
 use Rattle.writer.proofs.Grown.{stretch-none}
 use Rattle.writer.proofs.Walks.{Bare, scalar, heading, sign, mixed, other, Met, step-inside, step-range, step-ahead, step-text}
 
@@ -105,7 +105,7 @@ module _ {ts : List Token} {i j : ℕ} {p : Piece} (met : Met ts i j p) where
 
   pub mixed-text : (text : List ℕ) (first : Bool) (due : Due) {r : Bool} → r ≡ is-mixed p → r ≡ true
       → body-text (stretch ts i j) text first due ≡ body-text (stretch ts (i + 1) j) text first Entry
-  unfolding behind token-text due-after
+  unfolding behind token-text inside-text piece-text due-after
   mixed-text text first due e f =
       let m = mixed-is (sym e ∙ f) in
       step-text met (i + 1) (ap (λ (q : Piece). behind q (i + 1)) (sym m)) text first due (ap (still-first first) (sym m))
@@ -140,17 +140,19 @@ pub record Putting (ts : List Token) (text out₀ : List ℕ) (at from end : ℕ
 
 module _ {ts : List Token} {text out₀ : List ℕ} {at from end : ℕ} {whole out : List ℕ} {i next : ℕ} {first : Bool} {due : Due}
     (w : Putting ts text out₀ at from end whole out i next first due) where
-  -- one token is put
+  -- one token is put: itself, or what it opens
   pub put-step : {p : Piece} (met : Met ts i end p) (on : ℕ) → on ≡ behind p (i + 1) → {still : Bool} {after : Due}
-      → still ≡ still-first first p → after ≡ due-after due p → (r : ℕ) (o : List ℕ)
-      → wrote r o ≡ append out next (token-text text ts (i + 1) first due p) → length o ≡ length out
-      → Putting ts text out₀ at from end whole o on r still after
-  put-step {p} met on goes e f r o put kept =
+      → still ≡ still-first first p → after ≡ due-after due p → {q : ℕ} {a : List ℕ} (r : ℕ) (o : List ℕ)
+      → wrote q a ≡ append out next (piece-text text first due p) → wrote r o ≡ append a q (inside-text text ts (i + 1) first due p)
+      → length o ≡ length a → length a ≡ length out → Putting ts text out₀ at from end whole o on r still after
+  unfolding token-text
+  put-step {p} met on goes e f r o own inside kept lent =
+      let put = chain out next (piece-text text first due p) (inside-text text ts (i + 1) first due p) own inside in
       record {
         range = step-range met on goes;
         past = omega (arith, step-ahead met on goes .0, w .past);
         left = w .left ∙ put-on out next _ (token-text text ts (i + 1) first due p) _ (step-text met on goes text first due e f) put;
-        same = kept ∙ w .same;
+        same = kept ∙ lent ∙ w .same;
       }
 
   -- none is left

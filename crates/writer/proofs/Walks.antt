@@ -2,7 +2,7 @@
 -- Assumes nothing.
 use mathlib.Core.Path.{_≡_, refl, sym, _∙_, ap, subst}
 use mathlib.Core.Bool.{Bool, true, false, _&&_}
-use mathlib.Core.List.{List, _++_, append-assoc}
+use mathlib.Core.List.{List, [], _++_, append-assoc, append-nil}
 use Prim.Native.Nat.{ℕ, _+_, _≤_, _<_}
 use native.Mathlib.Omega.{arith}
 use Rattle.tape.specs.declared.token.Token.{Token}
@@ -23,7 +23,7 @@ use Rattle.writer.specs.Pieces.{scalar-piece, bare-piece, piece-of}
 use Rattle.writer.specs.Dues.{due-in, due-after}
 use Rattle.writer.specs.Form.{takes}
 use Rattle.writer.specs.Text.{lead, still-first, piece-text, braced, body-text}
-use Rattle.writer.specs.Ranges.{Range, behind, body-form, Inside, inside-form, token-text}
+use Rattle.writer.specs.Ranges.{Range, behind, body-form, Inside, inside-form, inside-text, token-text}
 use Rattle.writer.proofs.Grown.{by-token, stretch-leaf, stretch-box}
 
 -- ---- what a token is to the writer, by whether it opens something
@@ -86,14 +86,19 @@ bare-sound (sign number) ts from = refl
 bare-sound mixed ts from = refl
 bare-sound other ts from = refl
 
-pub bare-text : {p : Piece} → Bare p → (text : List ℕ) (ts : List Token) (from : ℕ) (first : Bool) (due : Due)
+pub bare-within : {p : Piece} → Bare p → (text : List ℕ) (ts : List Token) (from : ℕ) (first : Bool) (due : Due)
+    → inside-text text ts from first due p ≡ []
+unfolding inside-text
+bare-within (scalar quoted offset size) text ts from first due = refl
+bare-within (heading offset size) text ts from first due = refl
+bare-within (sign number) text ts from first due = refl
+bare-within mixed text ts from first due = refl
+bare-within other text ts from first due = refl
+
+bare-text : {p : Piece} → Bare p → (text : List ℕ) (ts : List Token) (from : ℕ) (first : Bool) (due : Due)
     → token-text text ts from first due p ≡ piece-text text first due p
-unfolding token-text piece-text
-bare-text (scalar quoted offset size) text ts from first due = refl
-bare-text (heading offset size) text ts from first due = refl
-bare-text (sign number) text ts from first due = refl
-bare-text mixed text ts from first due = refl
-bare-text other text ts from first due = refl
+unfolding token-text
+bare-text {p} b text ts from first due = rw (token-text, bare-within b text ts from first due) (append-nil (piece-text text first due p))
 
 -- ---- what stands at i of a part of a sheet
 module _ (ts : List Token) (i j : ℕ) (b : Range ts i j) (h : i < j) where
@@ -130,7 +135,7 @@ module _ (ts : List Token) (i j : ℕ) (b : Range ts i j) (h : i < j) where
   pub text-on : (text : List ℕ) (first : Bool) (due : Due)
       → body-text (stretch ts i j) text first due
       ≡ token-text text ts (i + 1) first due here ++ body-text (stretch ts on j) text (still-first first here) (due-after due here)
-  unfolding body-text behind token-text due-after
+  unfolding body-text behind token-text inside-text piece-text due-after
   text-on text first due =
       by-token ts i j b h
       (λ kind flag e o l m c inner rest.

@@ -76,7 +76,8 @@ unfolding first-there
 first-none = refl
 
 -- where the text fits, none of them is there
-fits-later : (there : Bool) (why : Refusal) (rs : List Reason) → first-there (if-so there why ∷ rs) ≡ Fits → (there ≡ false) × (first-there rs ≡ Fits)
+fits-later : (there : Bool) (why : Refusal) (rs : List Reason) → first-there (if-so there why ∷ rs) ≡ Fits
+    → (there ≡ false) × (first-there rs ≡ Fits)
 fits-later there why rs e =
     by-bool there
     (λ t. absurd (fits-not (sym (first-here why rs t) ∙ e)))

@@ -63,11 +63,15 @@ inside-form ts from Mixed = true
 inside-form ts from (Opener kind end) = body-form (stretch ts from end) (due-in kind)
 inside-form ts from Other = true
 
--- what is written for a token, and for a container with all that stands in it
+-- what is written for a container that a piece opens, with all that stands in it; where nothing opens, nothing
+unfoldable pub inside-text : List ℕ → List Token → ℕ → Bool → Due → Piece → List ℕ
+inside-text text ts from first due (Scalar quoted offset size) = []
+inside-text text ts from first due (Heading offset size) = []
+inside-text text ts from first due (Sign number) = []
+inside-text text ts from first due Mixed = []
+inside-text text ts from first due (Opener kind end) = lead first due false ++ braced (body-text (stretch ts from end) text true (due-in kind))
+inside-text text ts from first due Other = []
+
+-- what is written for a token: one of the two is empty
 unfoldable pub token-text : List ℕ → List Token → ℕ → Bool → Due → Piece → List ℕ
-token-text text ts from first due (Scalar quoted offset size) = piece-text text first due (Scalar quoted offset size)
-token-text text ts from first due (Heading offset size) = piece-text text first due (Heading offset size)
-token-text text ts from first due (Sign number) = piece-text text first due (Sign number)
-token-text text ts from first due Mixed = []
-token-text text ts from first due (Opener kind end) = lead first due false ++ braced (body-text (stretch ts from end) text true (due-in kind))
-token-text text ts from first due Other = []
+token-text text ts from first due p = piece-text text first due p ++ inside-text text ts from first due p

@@ -22,7 +22,7 @@ ghost use Rattle.writer.specs.declared.dues.Due.the-variants as due;
 ghost use Rattle.writer.specs.Forest.{stretch};
 ghost use Rattle.writer.specs.Pieces.{is-mixed, view-of, quote-if, sign-bytes};
 ghost use Rattle.writer.specs.Text.{lead, piece-text, body-text};
-ghost use Rattle.writer.specs.Ranges.{Range, Inside, token-text};
+ghost use Rattle.writer.specs.Ranges.{Range, Inside, inside-text};
 
 // Puts what stands before a token: nothing before the first of its body, `=` between a key and its entry where no operator stands, and
 // else a space.
@@ -123,8 +123,8 @@ fn is_mixed(piece: Piece) -> bool
     }
 }
 
-// Puts a token, or a container with all that stands in it, with what stands before it.
-fn put_token(
+// Puts a container that a piece opens, with what stands before it and all that stands in it.
+fn put_inside(
     out: &mut [u8],
     at: usize,
     text: &[u8],
@@ -137,10 +137,10 @@ fn put_token(
 ) -> usize
     requires { ⌜ Inside (tokens-in (now words) count) from piece ⌝ }
     ensures { λ r. ⌜ wrote r (now (out .exit)) ≡ append (now (out .entry)) at
-        (token-text (now (text .entry)) (tokens-in (now (words .entry)) count) from first due piece) ⌝ }
+        (inside-text (now (text .entry)) (tokens-in (now (words .entry)) count) from first due piece) ⌝ }
 {
     let Piece::Opener { kind, end } = piece else {
-        return put_piece(out, at, text, first, due, piece);
+        return at;
     };
     let before = put_lead(out, at, first, due, false);
     let open = put_byte(out, before, b'{');
@@ -176,9 +176,10 @@ fn put_entries(
     let mut first = alone;
     while i < end {
         let piece = piece_of(words::token_of(words, count, i));
-        next = put_token(
+        let own = put_piece(out, next, text, first, Due::Entry, piece);
+        next = put_inside(
             out,
-            next,
+            own,
             text,
             words,
             count,
@@ -216,7 +217,8 @@ pub(crate) fn put_pairs(
         if is_mixed(piece) {
             return put_entries(out, next, text, words, count, i + 1, end, first);
         }
-        next = put_token(out, next, text, words, count, i + 1, first, due, piece);
+        let own = put_piece(out, next, text, first, due, piece);
+        next = put_inside(out, own, text, words, count, i + 1, first, due, piece);
         first = still_first(first, piece);
         due = due_after(due, piece);
         i = behind(piece, i + 1);

@@ -1,8 +1,9 @@
 -- `put::put_bytes` meets its contract: at each turn what is left of the bytes, put from where the buffer is, gives what all of them give.
 -- Assumes nothing.
-use Rattle.put.proofs.Append.{left-on, left-none}
+use Rattle.put.proofs.Append.{left-on, left-none, put-one, put-none}
 use mathlib.Core.Path.{_≡_, sym, _∙_}
 use Prim.Native.Nat.{_≤_, _-_}
+use native.Mathlib.Omega.{arith}
 use borrow.Author.Needs.{needs}
 use lib.ListN.{length, drop}
 use Rattle.put.specs.Append.{append}
@@ -19,11 +20,20 @@ abbrev μ-loop : tie.MeasureT-loop
 loop-holds : tie.Need-loop-holds Inv-loop μ-loop
 loop-holds c = search needs
 
-shared-slice-read-put-byte : tie.Need-shared-slice-read-put-byte Inv-loop μ-loop
-shared-slice-read-put-byte c = search needs
+same-length : tie.Need-same-length Inv-loop μ-loop
+same-length c = search needs
 
-put-byte-requires : tie.Need-put-byte-requires Inv-loop μ-loop
-put-byte-requires c κs = search needs
+returns : tie.Need-returns Inv-loop μ-loop
+returns c = put-none _ _ _ (c .if1 .taken) ∙ c .before .before .loop .inv .2
+
+shared-slice-read-out : tie.Need-shared-slice-read-out Inv-loop μ-loop
+shared-slice-read-out c = search needs
+
+slice-write-out : tie.Need-slice-write-out Inv-loop μ-loop
+slice-write-out c = search needs
+
+add-next : tie.Need-add-next Inv-loop μ-loop
+add-next c = search needs
 
 add-i : tie.Need-add-i Inv-loop μ-loop
 add-i c = search needs
@@ -33,19 +43,18 @@ loop-less c = search needs
 
 loop-again : tie.Need-loop-again Inv-loop μ-loop
 loop-again c =
-    let at-put-byte = c .before .before in
-    let at-loop-test = at-put-byte .before .before .before in
-    let at-loop = at-loop-test .before in (
+    let room = c .before in
+    let at-loop = room .before .before in (
       search needs,
       search needs,
-      sym (left-on _ _ _ _ (at-loop-test .loop-test .taken) (at-put-byte .put-byte .ensures)) ∙ at-loop .loop .inv .2,
+      sym (left-on _ _ _ _ (room .before .loop-test .taken) (put-one _ _ _ (omega (arith, room .if1 .left)))) ∙ at-loop .loop .inv .2,
     )
 
-same-length : tie.Need-same-length Inv-loop μ-loop
-same-length c = search needs
+same-length-2 : tie.Need-same-length-2 Inv-loop μ-loop
+same-length-2 c = search needs
 
-returns : tie.Need-returns Inv-loop μ-loop
-returns c = left-none _ _ _ _ (c .loop-test .left) ∙ c .before .loop .inv .2
+returns-2 : tie.Need-returns-2 Inv-loop μ-loop
+returns-2 c = left-none _ _ _ _ (c .loop-test .left) ∙ c .before .loop .inv .2
 
 pub put-bytes-spec : {M : Type 1} → statement M
 put-bytes-spec =
@@ -54,10 +63,13 @@ put-bytes-spec =
     Inv-loop
     μ-loop
     loop-holds
-    shared-slice-read-put-byte
-    put-byte-requires
+    same-length
+    returns
+    shared-slice-read-out
+    slice-write-out
+    add-next
     add-i
     loop-less
     loop-again
-    same-length
-    returns)
+    same-length-2
+    returns-2)

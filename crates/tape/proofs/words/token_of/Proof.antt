@@ -11,64 +11,55 @@ use Rattle.tape.proofs.words.token_of.Tie as tie
 mul-at : tie.Need-mul-at
 mul-at c = search needs
 
-add-if3 : tie.Need-add-if3
-add-if3 c = search needs
+mul-t9 : tie.Need-mul-t9
+mul-t9 c = search needs
 
-mul-t11 : tie.Need-mul-t11
-mul-t11 c = search needs
+shared-slice-read-t11 : tie.Need-shared-slice-read-t11
+shared-slice-read-t11 c = search needs
 
-shared-slice-read-t13 : tie.Need-shared-slice-read-t13
-shared-slice-read-t13 c = search needs
+add-t12 : tie.Need-add-t12
+add-t12 c = search needs
 
-add-t14 : tie.Need-add-t14
-add-t14 c = search needs
+mul-t13 : tie.Need-mul-t13
+mul-t13 c = search needs
 
-mul-t15 : tie.Need-mul-t15
-mul-t15 c = search needs
+shared-slice-read-t15 : tie.Need-shared-slice-read-t15
+shared-slice-read-t15 c = search needs
 
-shared-slice-read-t17 : tie.Need-shared-slice-read-t17
-shared-slice-read-t17 c = search needs
+add-t16 : tie.Need-add-t16
+add-t16 c = search needs
 
-add-t18 : tie.Need-add-t18
-add-t18 c = search needs
+mul-t17 : tie.Need-mul-t17
+mul-t17 c = search needs
 
-mul-t19 : tie.Need-mul-t19
-mul-t19 c = search needs
-
-shared-slice-read-t21 : tie.Need-shared-slice-read-t21
-shared-slice-read-t21 c = search needs
+shared-slice-read-t19 : tie.Need-shared-slice-read-t19
+shared-slice-read-t19 c = search needs
 
 returns : tie.Need-returns
 unfolding token-in
-returns c = sym (tokens-at _ _ _ (c .before .before .before .before .before .if1 .taken) (c .before .before .before .if3 .taken))
+returns c = sym (tokens-at _ _ _ (c .before .before .before .before .if1 .taken) (omega arith))
 
 returns-2 : tie.Need-returns-2
 unfolding token-in
-returns-2 c = sym (tokens-none _ _ _ (c .if3 .left))
+returns-2 c = sym (tokens-none _ _ _ (omega arith))
 
 returns-3 : tie.Need-returns-3
 unfolding token-in
-returns-3 c = sym (tokens-none _ _ (c .before .before .args .i) (omega arith))
-
-returns-4 : tie.Need-returns-4
-unfolding token-in
-returns-4 c = sym (tokens-past _ _ _ (c .if1 .left))
+returns-3 c = sym (tokens-past _ _ _ (c .if1 .left))
 
 pub token-of-spec : {M : Type 1} → statement M
 token-of-spec =
     tie.close
     (tie.spec
     mul-at
-    add-if3
-    mul-t11
-    shared-slice-read-t13
-    add-t14
-    mul-t15
-    shared-slice-read-t17
-    add-t18
-    mul-t19
-    shared-slice-read-t21
+    mul-t9
+    shared-slice-read-t11
+    add-t12
+    mul-t13
+    shared-slice-read-t15
+    add-t16
+    mul-t17
+    shared-slice-read-t19
     returns
     returns-2
-    returns-3
-    returns-4)
+    returns-3)

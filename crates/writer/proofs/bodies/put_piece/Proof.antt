@@ -1,13 +1,9 @@
--- `writer::bodies::put_piece` meets its contract: what stands before it and its own bytes, by its piece.
+-- `writer::bodies::put_piece` meets its contract: what stands before it and its own bytes, by what it is.
 -- Assumes nothing.
 use borrow.Author.Needs.{needs}
-use mathlib.Core.Bool.{true, false}
-use Rattle.writer.specs.declared.pieces.Piece.{Piece}
-use Rattle.put.specs.Append.{append}
-use Rattle.put.proofs.Append.{chain, put-empty}
-use Rattle.writer.specs.Pieces.{own-bytes}
-use Rattle.writer.specs.Text.{lead, piece-text}
-use Rattle.writer.proofs.Told.{as-told}
+use mathlib.Core.Path.{refl}
+use Rattle.writer.specs.Text.{piece-text}
+use Rattle.writer.proofs.Puts.{put-scalar, put-heading, put-number, put-nothing}
 use Rattle.writer.proofs.bodies.put_piece.Statement.{statement}
 use Rattle.writer.proofs.bodies.put_piece.Tie as tie
 
@@ -51,58 +47,37 @@ same-length : tie.Need-same-length
 same-length c = search needs
 
 returns : tie.Need-returns
-unfolding piece-text own-bytes
 returns c =
-    let args = c .before .before .before .before .before .before .before .before .before .before .before .before .before .args in
-    as-told (λ (p : Piece). append (args .out .now) (args .at) (piece-text (args .text .now) (args .first) (args .due) p))
-    (chain _ _ (lead (args .first) (args .due) false) _ (c .before .before .before .before .before .before .put-lead .ensures)
-    (c .before .before .put-scalar .ensures))
-    (c .before .before .before .before .before .before .before .before .before .piece .given .1)
+    let lead = c .before .before .before .before .before .before in
+    put-scalar _ _ _ _ _ (lead .before .before .before .piece .given .1) (lead .put-lead .ensures) (c .before .before .put-scalar .ensures)
 
 same-length-2 : tie.Need-same-length-2
 same-length-2 c = search needs
 
 returns-2 : tie.Need-returns-2
-unfolding piece-text own-bytes
 returns-2 c =
-    let args = c .before .before .before .before .before .before .before .before .before .before .before .before .before .args in
-    as-told (λ (p : Piece). append (args .out .now) (args .at) (piece-text (args .text .now) (args .first) (args .due) p))
-    (chain _ _ (lead (args .first) (args .due) false) _ (c .before .before .before .before .before .before .put-lead2 .ensures)
-    (c .before .before .put-scalar2 .ensures))
-    (c .before .before .before .before .before .before .before .before .before .piece2 .given .1)
+    let lead = c .before .before .before .before .before .before in
+    put-heading _ _ _ _ _ (lead .before .before .before .piece2 .given .1) (lead .put-lead2 .ensures) (c .before .before .put-scalar2 .ensures)
 
 same-length-3 : tie.Need-same-length-3
 same-length-3 c = search needs
 
 returns-3 : tie.Need-returns-3
-unfolding piece-text own-bytes
 returns-3 c =
-    let args = c .before .before .before .before .before .before .before .before .before .before .before .before .before .args in
-    as-told (λ (p : Piece). append (args .out .now) (args .at) (piece-text (args .text .now) (args .first) (args .due) p))
-    (chain _ _ (lead (args .first) (args .due) true) _ (c .before .before .before .before .before .before .put-lead3 .ensures)
-    (c .before .before .put-sign .ensures))
-    (c .before .before .before .before .before .before .before .before .before .piece3 .given .1)
+    let lead = c .before .before .before .before .before .before in
+    put-number _ _ _ _ _ (lead .before .before .before .piece3 .given .1) (lead .put-lead3 .ensures) (c .before .before .put-sign .ensures)
 
 returns-4 : tie.Need-returns-4
-unfolding piece-text own-bytes
-returns-4 c =
-    let args = c .before .before .before .before .args in
-    as-told (λ (p : Piece). append (args .out .now) (args .at) (piece-text (args .text .now) (args .first) (args .due) p))
-    (put-empty _ _) (c .enum-told .given .1)
+unfolding piece-text
+returns-4 c = put-nothing _ _ _ _ _ (c .enum-told .given .1) refl
 
 returns-5 : tie.Need-returns-5
-unfolding piece-text own-bytes
-returns-5 c =
-    let args = c .before .before .before .before .args in
-    as-told (λ (p : Piece). append (args .out .now) (args .at) (piece-text (args .text .now) (args .first) (args .due) p))
-    (put-empty _ _) (c .enum-told2 .given .1)
+unfolding piece-text
+returns-5 c = put-nothing _ _ _ _ _ (c .enum-told2 .given .1) refl
 
 returns-6 : tie.Need-returns-6
-unfolding piece-text own-bytes
-returns-6 c =
-    let args = c .before .before .before .before .args in
-    as-told (λ (p : Piece). append (args .out .now) (args .at) (piece-text (args .text .now) (args .first) (args .due) p))
-    (put-empty _ _) (c .enum-told3 .given .1)
+unfolding piece-text
+returns-6 c = put-nothing _ _ _ _ _ (c .enum-told3 .given .1) refl
 
 pub put-piece-spec : {M : Type 1} → statement M
 put-piece-spec =

@@ -1,4 +1,4 @@
--- The proof of the cycle of calls {put_entries, put_pairs, put_token}. The invariant: what is left of a body makes all of its text. The
+-- The proof of the cycle of calls {put_entries, put_inside, put_pairs}. The invariant: what is left of a body makes all of its text. The
 -- measure is twice the tokens that are left, and for a token that opens a container one more than for what stands in it.
 -- Assumes nothing.
 use borrow.Author.Needs.{needs}
@@ -8,16 +8,16 @@ use mathlib.Core.List.{List}
 use Prim.Native.Nat.{_-_}
 use native.Mathlib.Omega.{arith}
 use Rattle.put.specs.Append.{append}
-use Rattle.put.proofs.Append.{same-bytes}
+use Rattle.put.proofs.Append.{same-bytes, put-empty}
 use Rattle.tape.specs.declared.token.Token.{Token}
 use Rattle.tape.specs.Words.{tokens-in}
 use Rattle.writer.specs.declared.dues.Due.the-variants.{Entry, Key}
 use Rattle.writer.specs.declared.pieces.Piece.{Piece}
 use Rattle.writer.specs.Forest.{stretch}
 use Rattle.writer.specs.Text.{body-text}
-use Rattle.writer.specs.Ranges.{token-text}
+use Rattle.writer.specs.Ranges.{inside-text}
 use Rattle.writer.proofs.Told.{as-told}
-use Rattle.writer.proofs.Walks.{bare-text, read-piece, Met, step-inside, step-ahead}
+use Rattle.writer.proofs.Walks.{bare-within, read-piece, Met, step-inside, step-ahead}
 use Rattle.writer.proofs.Putting.{not-opener, left-in, span, enters, enters-range, opened-as, step-span, mixed-range, entry-stays, put-braced}
 use Rattle.writer.proofs.Putting.{Putting, put-start, put-step, put-rest, put-done}
 use Prim.Native.Nat.{ℕ, _<_}
@@ -25,13 +25,13 @@ use borrow.Fn.Kinds.{In}
 use borrow.Fn.PlainCycle.{Measures, is, falls, and}
 use Rattle.writer.proofs.bodies.put_entries.Reads as put-entries
 use Rattle.writer.proofs.bodies.put_entries.Kinds as entries-kinds
-use Rattle.writer.proofs.bodies.+put_entries+put_pairs+put_token.Lts-put_entries as entries
+use Rattle.writer.proofs.bodies.+put_entries+put_inside+put_pairs.Lts-put_entries as entries
 use Rattle.writer.proofs.bodies.put_pairs.Reads as put-pairs
 use Rattle.writer.proofs.bodies.put_pairs.Kinds as pairs-kinds
-use Rattle.writer.proofs.bodies.+put_entries+put_pairs+put_token.Lts-put_pairs as pairs
-use Rattle.writer.proofs.bodies.put_token.Reads as put-token
-use Rattle.writer.proofs.bodies.put_token.Kinds as token-kinds
-use Rattle.writer.proofs.bodies.+put_entries+put_pairs+put_token.Lts-put_token as token
+use Rattle.writer.proofs.bodies.+put_entries+put_inside+put_pairs.Lts-put_pairs as pairs
+use Rattle.writer.proofs.bodies.put_inside.Reads as put-inside
+use Rattle.writer.proofs.bodies.put_inside.Kinds as inside-kinds
+use Rattle.writer.proofs.bodies.+put_entries+put_inside+put_pairs.Lts-put_inside as inside
 use Rattle.put.proofs.put_byte.Reads as put-byte-reads
 use Rattle.tape.proofs.words.token_of.Reads as token-of-reads
 use Rattle.writer.proofs.bodies.is_mixed.Reads as is-mixed-reads
@@ -41,8 +41,8 @@ use Rattle.writer.proofs.dues.due_after.Reads as due-after-reads
 use Rattle.writer.proofs.pieces.still_first.Reads as still-first-reads
 use Rattle.writer.proofs.pieces.piece_of.Reads as piece-of-reads
 use Rattle.writer.proofs.ranges.behind.Reads as behind-reads
-use Rattle.writer.proofs.bodies.+put_entries+put_pairs+put_token.{statement}
-use Rattle.writer.proofs.bodies.+put_entries+put_pairs+put_token.Tie.{close}
+use Rattle.writer.proofs.bodies.+put_entries+put_inside+put_pairs.{statement}
+use Rattle.writer.proofs.bodies.+put_entries+put_inside+put_pairs.Tie.{close}
 
 abbrev μ-put-entries : Measures 3 entries-kinds.ps ℕ
 μ-put-entries κs a = left-in (a .1 .1 .1 .1 .1 .0) (a .1 .1 .1 .1 .1 .1 .0)
@@ -50,8 +50,8 @@ abbrev μ-put-entries : Measures 3 entries-kinds.ps ℕ
 abbrev μ-put-pairs : Measures 3 pairs-kinds.ps ℕ
 μ-put-pairs κs a = left-in (a .1 .1 .1 .1 .1 .0) (a .1 .1 .1 .1 .1 .1 .0)
 
-abbrev μ-put-token : Measures 3 token-kinds.ps ℕ
-μ-put-token κs a = span (a .1 .1 .1 .1 .1 .1 .1 .1 .0) (a .1 .1 .1 .1 .1 .0)
+abbrev μ-put-inside : Measures 3 inside-kinds.ps ℕ
+μ-put-inside κs a = span (a .1 .1 .1 .1 .1 .1 .1 .1 .0) (a .1 .1 .1 .1 .1 .0)
 
 abbrev entries-at : ℕ → In 3 entries-kinds.ps
 entries-at t =
@@ -68,12 +68,12 @@ abbrev pairs-below : ℕ → In 3 pairs-kinds.ps
 pairs-below t =
     and 3 pairs-kinds.ps (falls 3 pairs-kinds.ps _<_ μ-put-pairs t) put-pairs.Pre
 
-abbrev token-at : ℕ → In 3 token-kinds.ps
-token-at t = and 3 token-kinds.ps (is 3 token-kinds.ps μ-put-token t) put-token.Pre
+abbrev inside-at : ℕ → In 3 inside-kinds.ps
+inside-at t = and 3 inside-kinds.ps (is 3 inside-kinds.ps μ-put-inside t) put-inside.Pre
 
-abbrev token-below : ℕ → In 3 token-kinds.ps
-token-below t =
-    and 3 token-kinds.ps (falls 3 token-kinds.ps _<_ μ-put-token t) put-token.Pre
+abbrev inside-below : ℕ → In 3 inside-kinds.ps
+inside-below t =
+    and 3 inside-kinds.ps (falls 3 inside-kinds.ps _<_ μ-put-inside t) put-inside.Pre
 
 -- what `put_entries` asks of its callees and learns from them, at the measure t
 abbrev entries-claims : ℕ → entries.Claims
@@ -82,8 +82,10 @@ entries-claims t = (
   token-of-reads.Learnt,
   piece-of-reads.Asked,
   piece-of-reads.Learnt,
-  token-below t,
-  put-token.Post,
+  put-piece-reads.Asked,
+  put-piece-reads.Learnt,
+  inside-below t,
+  put-inside.Post,
   still-first-reads.Asked,
   still-first-reads.Learnt,
   behind-reads.Asked,
@@ -121,12 +123,15 @@ entries-token-of-requires t c κs = search needs
 entries-piece-of-requires : (t : ℕ) → entries.Need-piece-of-requires (entries-claims t) (entries-at t) put-entries.Post entries-Inv-loop entries-μ-loop
 entries-piece-of-requires t c κs = search needs
 
-entries-add-put-token : (t : ℕ) → entries.Need-add-put-token (entries-claims t) (entries-at t) put-entries.Post entries-Inv-loop entries-μ-loop
-entries-add-put-token t c = omega arith
+entries-put-piece-requires : (t : ℕ) → entries.Need-put-piece-requires (entries-claims t) (entries-at t) put-entries.Post entries-Inv-loop entries-μ-loop
+entries-put-piece-requires t c κs = search needs
 
-entries-token-requires : (t : ℕ) → entries.Need-put-token-requires (entries-claims t) (entries-at t) put-entries.Post entries-Inv-loop entries-μ-loop
-entries-token-requires t c =
-    let read = c .before in
+entries-add-put-inside : (t : ℕ) → entries.Need-add-put-inside (entries-claims t) (entries-at t) put-entries.Post entries-Inv-loop entries-μ-loop
+entries-add-put-inside t c = omega arith
+
+entries-inside-requires : (t : ℕ) → entries.Need-put-inside-requires (entries-claims t) (entries-at t) put-entries.Post entries-Inv-loop entries-μ-loop
+entries-inside-requires t c =
+    let read = c .before .before .before .before .before in
     let at-loop = read .before .before .before in
     let start = at-loop .before .before .before .before in
     let met = entries-met t read in
@@ -144,15 +149,17 @@ entries-behind-requires t c κs = search needs
 
 entries-loop-less : (t : ℕ) → entries.Need-loop-less (entries-claims t) (entries-at t) put-entries.Post entries-Inv-loop entries-μ-loop
 entries-loop-less t c =
-    let on = step-ahead (entries-met t (c .before .before .before .before .before .before)) _ (c .behind .ensures) in
+    let own = c .before .before .before .before .before .before .before .before in
+    let on = step-ahead (entries-met t (own .before .before)) _ (c .behind .ensures) in
     omega (arith, on .0)
 
 entries-loop-again : (t : ℕ) → entries.Need-loop-again (entries-claims t) (entries-at t) put-entries.Post entries-Inv-loop entries-μ-loop
 entries-loop-again t c =
     let put = c .before .before .before .before in
-    let read = put .before .before in
-    put-step (read .before .before .before .loop .inv) (entries-met t read) _ (c .behind .ensures) (c .before .still-first .ensures) (entry-stays _)
-    _ _ (put .put-token .ensures) (put .put-token .kept .0)
+    let own = put .before .before .before .before in
+    let read = own .before .before in
+    put-step (read .before .before .before .loop .inv) (entries-met t read) _ (c .behind .ensures) (c .before .still-first .ensures) (entry-stays _) _ _
+    (own .put-piece .ensures) (put .put-inside .ensures) (put .put-inside .kept .0) (own .put-piece .kept .0)
 
 entries-same-length : (t : ℕ) → entries.Need-same-length (entries-claims t) (entries-at t) put-entries.Post entries-Inv-loop entries-μ-loop
 entries-same-length t c = c .before .loop .inv .same
@@ -171,8 +178,10 @@ pairs-claims t = (
   is-mixed-reads.Learnt,
   entries-below t,
   put-entries.Post,
-  token-below t,
-  put-token.Post,
+  put-piece-reads.Asked,
+  put-piece-reads.Learnt,
+  inside-below t,
+  put-inside.Post,
   still-first-reads.Asked,
   still-first-reads.Learnt,
   due-after-reads.Asked,
@@ -241,12 +250,15 @@ pairs-returns t c =
     put-rest (read .before .before .before .loop .inv) (pairs-met t read) (mixed .before .is-mixed .ensures) (mixed .if1 .taken)
     (c .before .before .put-entries .ensures)
 
-pairs-add-put-token : (t : ℕ) → pairs.Need-add-put-token (pairs-claims t) (pairs-at t) put-pairs.Post pairs-Inv-loop pairs-μ-loop
-pairs-add-put-token t c = omega arith
+pairs-put-piece-requires : (t : ℕ) → pairs.Need-put-piece-requires (pairs-claims t) (pairs-at t) put-pairs.Post pairs-Inv-loop pairs-μ-loop
+pairs-put-piece-requires t c κs = search needs
 
-pairs-token-requires : (t : ℕ) → pairs.Need-put-token-requires (pairs-claims t) (pairs-at t) put-pairs.Post pairs-Inv-loop pairs-μ-loop
-pairs-token-requires t c =
-    let read = c .before .before .before in
+pairs-add-put-inside : (t : ℕ) → pairs.Need-add-put-inside (pairs-claims t) (pairs-at t) put-pairs.Post pairs-Inv-loop pairs-μ-loop
+pairs-add-put-inside t c = omega arith
+
+pairs-inside-requires : (t : ℕ) → pairs.Need-put-inside-requires (pairs-claims t) (pairs-at t) put-pairs.Post pairs-Inv-loop pairs-μ-loop
+pairs-inside-requires t c =
+    let read = c .before .before .before .before .before .before .before in
     let at-loop = read .before .before .before in
     let start = at-loop .before .before .before .before in
     let met = pairs-met t read in
@@ -266,15 +278,17 @@ pairs-behind-requires t c κs = search needs
 
 pairs-loop-less : (t : ℕ) → pairs.Need-loop-less (pairs-claims t) (pairs-at t) put-pairs.Post pairs-Inv-loop pairs-μ-loop
 pairs-loop-less t c =
-    let on = step-ahead (pairs-met t (c .before .before .before .before .before .before .before .before .before)) _ (c .behind .ensures) in
+    let own = c .before .before .before .before .before .before .before .before .before in
+    let on = step-ahead (pairs-met t (own .before .before .before .before)) _ (c .behind .ensures) in
     omega (arith, on .0)
 
 pairs-loop-again : (t : ℕ) → pairs.Need-loop-again (pairs-claims t) (pairs-at t) put-pairs.Post pairs-Inv-loop pairs-μ-loop
 pairs-loop-again t c =
     let put = c .before .before .before .before .before in
-    let read = put .before .before .before .before in
+    let own = put .before .before .before .before in
+    let read = own .before .before .before .before in
     put-step (read .before .before .before .loop .inv) (pairs-met t read) _ (c .behind .ensures) (c .before .before .still-first .ensures)
-    (c .before .due-after .ensures) _ _ (put .put-token .ensures) (put .put-token .kept .0)
+    (c .before .due-after .ensures) _ _ (own .put-piece .ensures) (put .put-inside .ensures) (put .put-inside .kept .0) (own .put-piece .kept .0)
 
 pairs-same-length-2 : (t : ℕ) → pairs.Need-same-length-2 (pairs-claims t) (pairs-at t) put-pairs.Post pairs-Inv-loop pairs-μ-loop
 pairs-same-length-2 t c = c .before .loop .inv .same
@@ -282,11 +296,9 @@ pairs-same-length-2 t c = c .before .loop .inv .same
 pairs-returns-2 : (t : ℕ) → pairs.Need-returns-2 (pairs-claims t) (pairs-at t) put-pairs.Post pairs-Inv-loop pairs-μ-loop
 pairs-returns-2 t c = put-done (c .before .loop .inv) (c .loop-test .left)
 
--- what `put_token` asks of its callees and learns from them, at the measure t
-abbrev token-claims : ℕ → token.Claims
-token-claims t = (
-  put-piece-reads.Asked,
-  put-piece-reads.Learnt,
+-- what `put_inside` asks of its callees and learns from them, at the measure t
+abbrev inside-claims : ℕ → inside.Claims
+inside-claims t = (
   put-lead-reads.Asked,
   put-lead-reads.Learnt,
   put-byte-reads.Asked,
@@ -297,36 +309,34 @@ token-claims t = (
   put-pairs.Post,
 )
 
-token-enum-known-piece : (t : ℕ) → token.Need-enum-known-piece (token-claims t) (token-at t) put-token.Post
-token-enum-known-piece t c = search needs
+inside-enum-known-piece : (t : ℕ) → inside.Need-enum-known-piece (inside-claims t) (inside-at t) put-inside.Post
+inside-enum-known-piece t c = search needs
 
-token-put-piece-requires : (t : ℕ) → token.Need-put-piece-requires (token-claims t) (token-at t) put-token.Post
-token-put-piece-requires t c κs = search needs
+inside-same-length : (t : ℕ) → inside.Need-same-length (inside-claims t) (inside-at t) put-inside.Post
+inside-same-length t c = search needs
 
-token-same-length : (t : ℕ) → token.Need-same-length (token-claims t) (token-at t) put-token.Post
-token-same-length t c = search needs
-
-token-returns : (t : ℕ) → token.Need-returns (token-claims t) (token-at t) put-token.Post
-token-returns t c =
-    let args = c .before .before .before .before .before .before .before .before .args in
+inside-returns : (t : ℕ) → inside.Need-returns (inside-claims t) (inside-at t) put-inside.Post
+inside-returns t c =
+    let args = c .before .before .before .before .args in
     let ts : List Token = tokens-in (args .words .now) (args .count) in
-    same-bytes (args .out .now) (args .at) _ _ (c .before .before .put-piece .ensures)
-    (sym (bare-text (not-opener (args .piece) (c .before .before .before .before .match .keys2)) (args .text .now) ts (args .from) (args .first) (args .due)))
+    let bare = not-opener (args .piece) (c .match .keys2) in
+    same-bytes (args .out .now) (args .at) _ _ (put-empty _ _)
+    (sym (bare-within bare (args .text .now) ts (args .from) (args .first) (args .due)))
 
-token-put-lead-requires : (t : ℕ) → token.Need-put-lead-requires (token-claims t) (token-at t) put-token.Post
-token-put-lead-requires t c κs = search needs
+inside-put-lead-requires : (t : ℕ) → inside.Need-put-lead-requires (inside-claims t) (inside-at t) put-inside.Post
+inside-put-lead-requires t c κs = search needs
 
-token-put-byte-requires : (t : ℕ) → token.Need-put-byte-requires (token-claims t) (token-at t) put-token.Post
-token-put-byte-requires t c κs = search needs
+inside-put-byte-requires : (t : ℕ) → inside.Need-put-byte-requires (inside-claims t) (inside-at t) put-inside.Post
+inside-put-byte-requires t c κs = search needs
 
-token-enum-told : (t : ℕ) → token.Need-enum-told (token-claims t) (token-at t) put-token.Post
-token-enum-told t c = search needs
+inside-enum-told : (t : ℕ) → inside.Need-enum-told (inside-claims t) (inside-at t) put-inside.Post
+inside-enum-told t c = search needs
 
-token-cast-put-entries : (t : ℕ) → token.Need-cast-put-entries (token-claims t) (token-at t) put-token.Post
-token-cast-put-entries t c = search needs
+inside-cast-put-entries : (t : ℕ) → inside.Need-cast-put-entries (inside-claims t) (inside-at t) put-inside.Post
+inside-cast-put-entries t c = search needs
 
-token-entries-requires : (t : ℕ) → token.Need-put-entries-requires (token-claims t) (token-at t) put-token.Post
-token-entries-requires t c =
+inside-entries-requires : (t : ℕ) → inside.Need-put-entries-requires (inside-claims t) (inside-at t) put-inside.Post
+inside-entries-requires t c =
     let known = c .before .before .before .before .before .before .before .before .before .before .before .before in
     let start = known .before .before .before .before .before in
     let args = start .args in
@@ -334,17 +344,17 @@ token-entries-requires t c =
     let opened = known .piece .given .1 in
     λ κs. (enters (args .piece) (args .from) opened (start .pre .0), enters-range ts (args .piece) (args .from) opened (start .pre .1))
 
-token-put-byte-requires-2 : (t : ℕ) → token.Need-put-byte-requires-2 (token-claims t) (token-at t) put-token.Post
-token-put-byte-requires-2 t c κs = search needs
+inside-put-byte-requires-2 : (t : ℕ) → inside.Need-put-byte-requires-2 (inside-claims t) (inside-at t) put-inside.Post
+inside-put-byte-requires-2 t c κs = search needs
 
-token-enum-told-2 : (t : ℕ) → token.Need-enum-told-2 (token-claims t) (token-at t) put-token.Post
-token-enum-told-2 t c = search needs
+inside-enum-told-2 : (t : ℕ) → inside.Need-enum-told-2 (inside-claims t) (inside-at t) put-inside.Post
+inside-enum-told-2 t c = search needs
 
-token-cast-put-pairs : (t : ℕ) → token.Need-cast-put-pairs (token-claims t) (token-at t) put-token.Post
-token-cast-put-pairs t c = search needs
+inside-cast-put-pairs : (t : ℕ) → inside.Need-cast-put-pairs (inside-claims t) (inside-at t) put-inside.Post
+inside-cast-put-pairs t c = search needs
 
-token-pairs-requires : (t : ℕ) → token.Need-put-pairs-requires (token-claims t) (token-at t) put-token.Post
-token-pairs-requires t c =
+inside-pairs-requires : (t : ℕ) → inside.Need-put-pairs-requires (inside-claims t) (inside-at t) put-inside.Post
+inside-pairs-requires t c =
     let known = c .before .before .before .before .before .before .before .before .before .before .before .before in
     let start = known .before .before .before .before .before in
     let args = start .args in
@@ -352,15 +362,15 @@ token-pairs-requires t c =
     let opened = known .piece .given .1 in
     λ κs. (enters (args .piece) (args .from) opened (start .pre .0), enters-range ts (args .piece) (args .from) opened (start .pre .1))
 
-token-put-byte-requires-3 : (t : ℕ) → token.Need-put-byte-requires-3 (token-claims t) (token-at t) put-token.Post
-token-put-byte-requires-3 t c κs = search needs
+inside-put-byte-requires-3 : (t : ℕ) → inside.Need-put-byte-requires-3 (inside-claims t) (inside-at t) put-inside.Post
+inside-put-byte-requires-3 t c κs = search needs
 
-token-same-length-2 : (t : ℕ) → token.Need-same-length-2 (token-claims t) (token-at t) put-token.Post
-token-same-length-2 t c = search needs
+inside-same-length-2 : (t : ℕ) → inside.Need-same-length-2 (inside-claims t) (inside-at t) put-inside.Post
+inside-same-length-2 t c = search needs
 
-token-returns-2 : (t : ℕ) → token.Need-returns-2 (token-claims t) (token-at t) put-token.Post
-unfolding token-text
-token-returns-2 t c =
+inside-returns-2 : (t : ℕ) → inside.Need-returns-2 (inside-claims t) (inside-at t) put-inside.Post
+unfolding inside-text
+inside-returns-2 t c =
     let brace = c .before .before .before .before .before .before .before .before .before .before .before .before in
     let args = brace .before .before .before .before .before .before .before .before .before .before .before .before .args in
     let ts : List Token = tokens-in (args .words .now) (args .count) in
@@ -368,17 +378,14 @@ token-returns-2 t c =
     opened-as (brace .before .before .before .before .before .before .before .piece .given .1)
     (c .before .before .before .before .before .before .before .before .enum-told .given .1)
     in
-    as-told (λ (p : Piece). append (args .out .now) (args .at) (token-text (args .text .now) ts (args .from) (args .first) (args .due) p))
+    as-told (λ (p : Piece). append (args .out .now) (args .at) (inside-text (args .text .now) ts (args .from) (args .first) (args .due) p))
     (put-braced (args .out .now) (args .at) _ _ (brace .before .before .before .before .put-lead .ensures) (brace .put-byte .ensures)
     (c .before .before .before .before .before .before .put-entries .ensures) (c .before .before .put-byte2 .ensures))
     opened
 
-token-same-length-3 : (t : ℕ) → token.Need-same-length-3 (token-claims t) (token-at t) put-token.Post
-token-same-length-3 t c = search needs
-
-token-returns-3 : (t : ℕ) → token.Need-returns-3 (token-claims t) (token-at t) put-token.Post
-unfolding token-text
-token-returns-3 t c =
+inside-returns-3 : (t : ℕ) → inside.Need-returns-3 (inside-claims t) (inside-at t) put-inside.Post
+unfolding inside-text
+inside-returns-3 t c =
     let brace = c .before .before .before .before .before .before .before .before .before .before .before .before in
     let args = brace .before .before .before .before .before .before .before .before .before .before .before .before .args in
     let ts : List Token = tokens-in (args .words .now) (args .count) in
@@ -386,14 +393,14 @@ token-returns-3 t c =
     opened-as (brace .before .before .before .before .before .before .before .piece .given .1)
     (c .before .before .before .before .before .before .before .before .enum-told2 .given .1)
     in
-    as-told (λ (p : Piece). append (args .out .now) (args .at) (token-text (args .text .now) ts (args .from) (args .first) (args .due) p))
+    as-told (λ (p : Piece). append (args .out .now) (args .at) (inside-text (args .text .now) ts (args .from) (args .first) (args .due) p))
     (put-braced (args .out .now) (args .at) _ _ (brace .before .before .before .before .put-lead .ensures) (brace .put-byte .ensures)
     (c .before .before .before .before .before .before .put-pairs .ensures) (c .before .before .put-byte3 .ensures))
     opened
 
-pub +put-entries+put-pairs+put-token-spec : {M : Type 1} → statement M
-+put-entries+put-pairs+put-token-spec =
-    close μ-put-entries μ-put-pairs μ-put-token (λ t. entries.spec (entries-claims t)
+pub +put-entries+put-inside+put-pairs-spec : {M : Type 1} → statement M
++put-entries+put-inside+put-pairs-spec =
+    close μ-put-entries μ-put-inside μ-put-pairs (λ t. entries.spec (entries-claims t)
     (entries-at t)
     put-entries.Post
     entries-Inv-loop
@@ -401,8 +408,9 @@ pub +put-entries+put-pairs+put-token-spec : {M : Type 1} → statement M
     (entries-loop-holds t)
     (entries-token-of-requires t)
     (entries-piece-of-requires t)
-    (entries-add-put-token t)
-    (entries-token-requires t)
+    (entries-put-piece-requires t)
+    (entries-add-put-inside t)
+    (entries-inside-requires t)
     (entries-still-first-requires t)
     (entries-add-behind t)
     (entries-behind-requires t)
@@ -410,7 +418,26 @@ pub +put-entries+put-pairs+put-token-spec : {M : Type 1} → statement M
     (entries-loop-again t)
     (entries-same-length t)
     (entries-returns t))
-    (λ t. pairs.spec (pairs-claims t)
+    (λ t. inside.spec (inside-claims t)
+    (inside-at t)
+    put-inside.Post
+    (inside-enum-known-piece t)
+    (inside-returns t)
+    (inside-put-lead-requires t)
+    (inside-put-byte-requires t)
+    (inside-enum-told t)
+    (inside-cast-put-entries t)
+    (inside-entries-requires t)
+    (inside-put-byte-requires-2 t)
+    (inside-enum-told-2 t)
+    (inside-cast-put-pairs t)
+    (inside-pairs-requires t)
+    (inside-put-byte-requires-3 t)
+    (inside-same-length t)
+    (inside-returns-2 t)
+    (inside-same-length-2 t)
+    (inside-returns-3 t))
+    λ t. pairs.spec (pairs-claims t)
     (pairs-at t)
     put-pairs.Post
     pairs-Inv-loop
@@ -423,8 +450,9 @@ pub +put-entries+put-pairs+put-token-spec : {M : Type 1} → statement M
     (pairs-entries-requires t)
     (pairs-same-length t)
     (pairs-returns t)
-    (pairs-add-put-token t)
-    (pairs-token-requires t)
+    (pairs-put-piece-requires t)
+    (pairs-add-put-inside t)
+    (pairs-inside-requires t)
     (pairs-still-first-requires t)
     (pairs-due-after-requires t)
     (pairs-add-behind t)
@@ -432,25 +460,4 @@ pub +put-entries+put-pairs+put-token-spec : {M : Type 1} → statement M
     (pairs-loop-less t)
     (pairs-loop-again t)
     (pairs-same-length-2 t)
-    (pairs-returns-2 t))
-    λ t. token.spec (token-claims t)
-    (token-at t)
-    put-token.Post
-    (token-enum-known-piece t)
-    (token-put-piece-requires t)
-    (token-same-length t)
-    (token-returns t)
-    (token-put-lead-requires t)
-    (token-put-byte-requires t)
-    (token-enum-told t)
-    (token-cast-put-entries t)
-    (token-entries-requires t)
-    (token-put-byte-requires-2 t)
-    (token-enum-told-2 t)
-    (token-cast-put-pairs t)
-    (token-pairs-requires t)
-    (token-put-byte-requires-3 t)
-    (token-same-length-2 t)
-    (token-returns-2 t)
-    (token-same-length-3 t)
-    (token-returns-3 t)
+    (pairs-returns-2 t)
