@@ -1,7 +1,7 @@
 -- What is answered, a test at a time.
 -- Assumes nothing.
 use mathlib.Core.Path.{_≡_, refl, sym, _∙_, ap}
-use mathlib.Core.Bool.{Bool, true, false, _||_}
+use mathlib.Core.Bool.{Bool, true, false}
 use mathlib.Core.List.{List}
 use Prim.Native.Nat.{ℕ, _≤_, _<_}
 use native.Mathlib.Omega.{arith}
@@ -19,12 +19,8 @@ use Rattle.writer.specs.declared.Written.the-variants.{Text, Refused}
 use Rattle.writer.specs.Refusals.{number}
 use Rattle.writer.specs.Alike.{comes-back}
 use Rattle.writer.specs.Write.{Left, refuse, text-of, formed, too-deep, no-room, first-there, weigh, read-back, write-of}
+use Rattle.writer.proofs.Weighing.{neither}
 use Rattle.way_back.specs.Accepted.{Given, Accepted, Reads-back, answer-of, Answers-length, Promised}
-
--- neither of two
-neither : (a b : Bool) → (a || b) ≡ false → (a ≡ false) × (b ≡ false)
-neither true b h = let z : _≡_ {A = ℕ} 0 1 = cc in absurd (omega arith)
-neither false b h = (refl, h)
 
 length-apart : {P : Type 0} (answer : Written) (size : ℕ) (r : Refusal) → answer ≡ Text size → answer ≡ Refused r → P
 length-apart answer size r e f = let z : _≡_ {A = ℕ} 0 1 = cc in absurd (omega arith)
