@@ -1,7 +1,9 @@
 // Bytes put into a lent buffer one after another, as far as it has room. Every call answers the place after what it put.
 ghost use mathlib.Core.Path.{_≡_};
 ghost use mathlib.Core.List.{[], _∷_};
+ghost use Prim.Native.Nat.{_+_, _-_, _≤_};
 ghost use lib.ListN.{length, take, drop};
+ghost use lib.Seq.{sets};
 ghost use denote.Ref.{ptr};
 ghost use Rattle.put.specs.Append.{wrote, append, zeroed};
 ghost use Rattle.put.specs.Parts.{part-place};
@@ -17,8 +19,8 @@ pub fn put_byte(out: &mut [u8], at: usize, b: u8) -> usize
     at
 }
 
-// Puts all of some bytes.
-pub fn put_bytes(out: &mut [u8], at: usize, bytes: &[u8]) -> usize
+// Puts some bytes one at a time, which ends where the buffer does.
+fn put_each(out: &mut [u8], at: usize, bytes: &[u8]) -> usize
     ensures { λ r. ⌜ wrote r (now (out .exit)) ≡ append (now (out .entry)) at (now (bytes .entry)) ⌝ }
 {
     let mut next = at;
@@ -32,6 +34,56 @@ pub fn put_bytes(out: &mut [u8], at: usize, bytes: &[u8]) -> usize
         i += 1;
     }
     next
+}
+
+// Puts four of some bytes, from an index on. All are read before one is put, so that they are moved as one word.
+fn put_four(out: &mut [u8], at: usize, bytes: &[u8], i: usize)
+    requires { ⌜ (at + 4 ≤ length (now out)) × (i + 4 ≤ length (now bytes)) ⌝ }
+    ensures { λ r. ⌜ now (out .exit) ≡ sets (now (out .entry)) at (take 4 (drop i (now (bytes .entry)))) ⌝ }
+{
+    let first = bytes[i];
+    let second = bytes[i + 1];
+    let third = bytes[i + 2];
+    let fourth = bytes[i + 3];
+    out[at] = first;
+    out[at + 1] = second;
+    out[at + 2] = third;
+    out[at + 3] = fourth;
+}
+
+// Puts four bytes or more that find room, four at a time. The last four are put once more where some of them stand already.
+fn put_strides(out: &mut [u8], at: usize, bytes: &[u8]) -> usize
+    requires { ⌜ (4 ≤ length (now bytes)) × (at + length (now bytes) ≤ length (now out)) ⌝ }
+    ensures { λ r. ⌜ wrote r (now (out .exit)) ≡ append (now (out .entry)) at (now (bytes .entry)) ⌝ }
+{
+    let last = bytes.len() - 4;
+    let mut i = 0;
+    while i < last {
+        put_four(out, at + i, bytes, i);
+        i += 4;
+    }
+    put_four(out, at + last, bytes, last);
+    at + bytes.len()
+}
+
+// How many bytes find room in a buffer of a size from a place on.
+fn room_from(size: usize, at: usize) -> usize
+    ensures { λ r. ⌜ r ≡ size - at ⌝ }
+{
+    if at < size { size - at } else { 0 }
+}
+
+// Puts all of some bytes.
+pub fn put_bytes(out: &mut [u8], at: usize, bytes: &[u8]) -> usize
+    ensures { λ r. ⌜ wrote r (now (out .exit)) ≡ append (now (out .entry)) at (now (bytes .entry)) ⌝ }
+{
+    if bytes.len() < 4 {
+        return put_each(out, at, bytes);
+    }
+    if room_from(out.len(), at) < bytes.len() {
+        return put_each(out, at, bytes);
+    }
+    put_strides(out, at, bytes)
 }
 
 // The first n bytes of a buffer, or all where there are fewer: what was put, to be written in one piece. They stand where the buffer does.

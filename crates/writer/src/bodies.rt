@@ -20,7 +20,7 @@ ghost use Rattle.put.specs.Append.{wrote, append};
 ghost use Rattle.tape.specs.Words.{tokens-in};
 ghost use Rattle.writer.specs.declared.dues.Due.the-variants as due;
 ghost use Rattle.writer.specs.Forest.{stretch};
-ghost use Rattle.writer.specs.Pieces.{is-mixed, view-of, quote-if, sign-bytes};
+ghost use Rattle.writer.specs.Pieces.{is-mixed, is-opener, view-of, quote-if, sign-bytes};
 ghost use Rattle.writer.specs.Text.{lead, piece-text, body-text};
 ghost use Rattle.writer.specs.Ranges.{Range, Inside, inside-text};
 
@@ -123,6 +123,27 @@ fn is_mixed(piece: Piece) -> bool
     }
 }
 
+// Whether a piece opens a container.
+fn opens(piece: Piece) -> bool
+    ensures { λ r. ⌜ r ≡ is-opener piece ⌝ }
+{
+    match piece {
+        Piece::Opener { kind: _, end: _ } => true,
+        Piece::Scalar {
+            quoted: _,
+            offset: _,
+            length: _,
+        } => false,
+        Piece::Heading {
+            offset: _,
+            length: _,
+        } => false,
+        Piece::Sign { number: _ } => false,
+        Piece::Mixed => false,
+        Piece::Other => false,
+    }
+}
+
 // Puts a container that a piece opens, with what stands before it and all that stands in it.
 fn put_inside(
     out: &mut [u8],
@@ -176,18 +197,21 @@ fn put_entries(
     let mut first = alone;
     while i < end {
         let piece = piece_of(words::token_of(words, count, i));
-        let own = put_piece(out, next, text, first, Due::Entry, piece);
-        next = put_inside(
-            out,
-            own,
-            text,
-            words,
-            count,
-            i + 1,
-            first,
-            Due::Entry,
-            piece,
-        );
+        if opens(piece) {
+            next = put_inside(
+                out,
+                next,
+                text,
+                words,
+                count,
+                i + 1,
+                first,
+                Due::Entry,
+                piece,
+            );
+        } else {
+            next = put_piece(out, next, text, first, Due::Entry, piece);
+        }
         first = still_first(first, piece);
         i = behind(piece, i + 1);
     }
@@ -217,8 +241,11 @@ pub(crate) fn put_pairs(
         if is_mixed(piece) {
             return put_entries(out, next, text, words, count, i + 1, end, first);
         }
-        let own = put_piece(out, next, text, first, due, piece);
-        next = put_inside(out, own, text, words, count, i + 1, first, due, piece);
+        if opens(piece) {
+            next = put_inside(out, next, text, words, count, i + 1, first, due, piece);
+        } else {
+            next = put_piece(out, next, text, first, due, piece);
+        }
         first = still_first(first, piece);
         due = due_after(due, piece);
         i = behind(piece, i + 1);

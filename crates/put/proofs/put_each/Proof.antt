@@ -1,4 +1,4 @@
--- `put::put_bytes` meets its contract: at each turn what is left of the bytes, put from where the buffer is, gives what all of them give.
+-- `put::put_each` meets its contract: at each turn what is left of the bytes, put from where the buffer is, gives what all of them give.
 -- Assumes nothing.
 use Rattle.put.proofs.Append.{left-on, left-none, put-one, put-none}
 use mathlib.Core.Path.{_≡_, sym, _∙_}
@@ -7,8 +7,8 @@ use native.Mathlib.Omega.{arith}
 use borrow.Author.Needs.{needs}
 use lib.ListN.{length, drop}
 use Rattle.put.specs.Append.{append}
-use Rattle.put.proofs.put_bytes.Statement.{statement}
-use Rattle.put.proofs.put_bytes.Tie as tie
+use Rattle.put.proofs.put_each.Statement.{statement}
+use Rattle.put.proofs.put_each.Tie as tie
 
 abbrev Inv-loop : tie.InvT-loop
 Inv-loop out₀ at bytes next₀ i₀ out next i =
@@ -56,8 +56,8 @@ same-length-2 c = search needs
 returns-2 : tie.Need-returns-2 Inv-loop μ-loop
 returns-2 c = left-none _ _ _ _ (c .loop-test .left) ∙ c .before .loop .inv .2
 
-pub put-bytes-spec : {M : Type 1} → statement M
-put-bytes-spec =
+pub put-each-spec : {M : Type 1} → statement M
+put-each-spec =
     tie.close
     (tie.spec
     Inv-loop
