@@ -1,4 +1,4 @@
 pub mod Append
 pub mod Clears
 pub mod Parts
-mod Strides
+pub mod Strides

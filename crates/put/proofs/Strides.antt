@@ -13,8 +13,8 @@ use Rattle.data.proofs.Cases.{by-bool}
 use Rattle.put.specs.Append.{wrote, append}
 use Rattle.put.proofs.Append.{append-fits}
 
--- four stores in a row
-four-from : (bytes : List ℕ) (i : ℕ) → i + 4 ≤ length bytes
+-- four of some bytes, from an index on
+pub four-from : (bytes : List ℕ) (i : ℕ) → i + 4 ≤ length bytes
     → take 4 (drop i bytes) ≡ getD bytes i 0 ∷ getD bytes (i + 1) 0 ∷ getD bytes (i + 2) 0 ∷ getD bytes (i + 3) 0 ∷ []
 four-from bytes i h =
     let after : (j k : ℕ) → j < length bytes → k ≡ suc j → drop j bytes ≡ getD bytes j 0 ∷ drop k bytes =
@@ -22,6 +22,7 @@ four-from bytes i h =
     rw (after i (i + 1) (omega arith) (omega arith), after (i + 1) (i + 2) (omega arith) (omega arith),
     after (i + 2) (i + 3) (omega arith) (omega arith), after (i + 3) (i + 4) (omega arith) (omega arith))
 
+-- four stores in a row
 pub four-stored : (out bytes : List ℕ) (at i : ℕ) → i + 4 ≤ length bytes
     → set (set (set (set out at (getD bytes i 0)) (at + 1) (getD bytes (i + 1) 0)) (at + 2) (getD bytes (i + 2) 0)) (at + 3) (getD bytes (i + 3) 0)
     ≡ sets out at (take 4 (drop i bytes))

@@ -1,7 +1,7 @@
 -- What the routines for pairs and for entries come to, a token at a time, and that the tokens that are left grow fewer.
 -- Assumes nothing.
 use mathlib.Core.Path.{_≡_, refl, sym, _∙_, ap, subst}
-use mathlib.Core.Bool.{Bool, true, false≢true}
+use mathlib.Core.Bool.{Bool, true, false, false≢true}
 use mathlib.Core.List.{List, [], _∷_, _++_}
 use mathlib.Core.Logic.{⊎-elim}
 use Prim.Native.Nat.{ℕ, _+_, _-_, _*_, _≤_, _<_}
@@ -11,7 +11,7 @@ use types.Run.{OneOf}
 use denote.Enum.Declared.{tagOf}
 use Rattle.data.specs.Bytes.{brace-open, brace-close}
 use Rattle.put.specs.Append.{wrote, append}
-use Rattle.put.proofs.Append.{chain, put-empty, put-on}
+use Rattle.put.proofs.Append.{chain, same-bytes, put-empty, put-on}
 use Rattle.tape.specs.declared.token.Token.{Token}
 use Rattle.tape.specs.declared.token.ContainerKind.{ContainerKind}
 use Rattle.writer.proofs.pieces.Piece.{the-type}
@@ -20,12 +20,12 @@ use Rattle.writer.specs.declared.dues.Due.the-variants.{Entry}
 use Rattle.writer.specs.declared.pieces.Piece.{Piece}
 use Rattle.writer.specs.declared.pieces.Piece.the-variants.{Scalar, Heading, Sign, Mixed, Opener, Other}
 use Rattle.writer.specs.Forest.{Forest, stretch}
-use Rattle.writer.specs.Pieces.{is-mixed}
+use Rattle.writer.specs.Pieces.{is-mixed, is-opener}
 use Rattle.writer.specs.Dues.{due-after}
 use Rattle.writer.specs.Text.{still-first, piece-text, braced, body-text}
 use Rattle.writer.specs.Ranges.{Range, behind, Inside, inside-text, token-text}
 use Rattle.writer.proofs.Grown.{stretch-none}
-use Rattle.writer.proofs.Walks.{Bare, scalar, heading, sign, mixed, other, Met, step-inside, step-range, step-ahead, step-text}
+use Rattle.writer.proofs.Walks.{Bare, scalar, heading, sign, mixed, other, bare-text, Met, step-inside, step-range, step-ahead, step-text}
 
 -- ---- a piece by its tag: one that is not an opener's opens nothing
 abbrev bare-tags : List ℕ
@@ -130,6 +130,39 @@ put-braced out at lead body e f g h =
     chain out at lead (braced body) e
     (chain _ _ (brace-open ∷ []) (body ++ (brace-close ∷ [])) f (chain _ _ body (brace-close ∷ []) g h))
 
+-- ---- a token of a body is laid down: what it opens, or else itself
+pub record Laid (ts : List Token) (text out : List ℕ) (from next : ℕ) (first : Bool) (due : Due) (p : Piece) (o : List ℕ) (r : ℕ) : Type 0 where
+  pub bytes : wrote r o ≡ append out next (token-text text ts from first due p)
+  pub lent : length o ≡ length out
+
+module _ {ts : List Token} {text out : List ℕ} {from next : ℕ} {first : Bool} {due : Due} {p : Piece} {opens : Bool} (e : opens ≡ is-opener p)
+    {a o : List ℕ} {q r : ℕ} (kept : length a ≡ length out) (last : o ≡ a) (place : r ≡ q) where
+  laid : {bytes : List ℕ} → wrote q a ≡ append out next bytes → bytes ≡ token-text text ts from first due p → Laid ts text out from next first due p o r
+  laid put same = record { bytes = rw (last, place) (same-bytes out next _ _ put same); lent = rw last kept }
+
+  pub laid-inside : opens ≡ true → wrote q a ≡ append out next (inside-text text ts from first due p) → Laid ts text out from next first due p o r
+  unfolding token-text piece-text
+  laid-inside t put = laid put (go p (sym e ∙ t))
+    where
+      go : (x : Piece) → is-opener x ≡ true → inside-text text ts from first due x ≡ token-text text ts from first due x
+      go (Scalar quoted offset size) h = absurd (false≢true h)
+      go (Heading offset size) h = absurd (false≢true h)
+      go (Sign number) h = absurd (false≢true h)
+      go Mixed h = absurd (false≢true h)
+      go (Opener kind end) h = refl
+      go Other h = absurd (false≢true h)
+
+  pub laid-own : opens ≡ false → wrote q a ≡ append out next (piece-text text first due p) → Laid ts text out from next first due p o r
+  laid-own t put = laid put (sym (bare-text (go p (sym e ∙ t)) text ts from first due))
+    where
+      go : (x : Piece) → is-opener x ≡ false → Bare x
+      go (Scalar quoted offset size) h = scalar quoted offset size
+      go (Heading offset size) h = heading offset size
+      go (Sign number) h = sign number
+      go Mixed h = mixed
+      go (Opener kind end) h = absurd (false≢true (sym h))
+      go Other h = other
+
 -- ---- the walk over a body: what is left of it, put from here on, makes all that is to be put
 pub record Putting (ts : List Token) (text out₀ : List ℕ) (at from end : ℕ) (whole : List ℕ)
     (out : List ℕ) (i next : ℕ) (first : Bool) (due : Due) : Type 0 where
@@ -140,19 +173,16 @@ pub record Putting (ts : List Token) (text out₀ : List ℕ) (at from end : ℕ
 
 module _ {ts : List Token} {text out₀ : List ℕ} {at from end : ℕ} {whole out : List ℕ} {i next : ℕ} {first : Bool} {due : Due}
     (w : Putting ts text out₀ at from end whole out i next first due) where
-  -- one token is put: itself, or what it opens
+  -- one token is put
   pub put-step : {p : Piece} (met : Met ts i end p) (on : ℕ) → on ≡ behind p (i + 1) → {still : Bool} {after : Due}
-      → still ≡ still-first first p → after ≡ due-after due p → {q : ℕ} {a : List ℕ} (r : ℕ) (o : List ℕ)
-      → wrote q a ≡ append out next (piece-text text first due p) → wrote r o ≡ append a q (inside-text text ts (i + 1) first due p)
-      → length o ≡ length a → length a ≡ length out → Putting ts text out₀ at from end whole o on r still after
-  unfolding token-text
-  put-step {p} met on goes e f r o own inside kept lent =
-      let put = chain out next (piece-text text first due p) (inside-text text ts (i + 1) first due p) own inside in
+      → still ≡ still-first first p → after ≡ due-after due p → {o : List ℕ} {r : ℕ} → Laid ts text out (i + 1) next first due p o r
+      → Putting ts text out₀ at from end whole o on r still after
+  put-step {p} met on goes e f laid =
       record {
         range = step-range met on goes;
         past = omega (arith, step-ahead met on goes .0, w .past);
-        left = w .left ∙ put-on out next _ (token-text text ts (i + 1) first due p) _ (step-text met on goes text first due e f) put;
-        same = kept ∙ lent ∙ w .same;
+        left = w .left ∙ put-on out next _ (token-text text ts (i + 1) first due p) _ (step-text met on goes text first due e f) (laid .bytes);
+        same = laid .lent ∙ w .same;
       }
 
   -- none is left

@@ -95,7 +95,7 @@ bare-within (sign number) text ts from first due = refl
 bare-within mixed text ts from first due = refl
 bare-within other text ts from first due = refl
 
-bare-text : {p : Piece} → Bare p → (text : List ℕ) (ts : List Token) (from : ℕ) (first : Bool) (due : Due)
+pub bare-text : {p : Piece} → Bare p → (text : List ℕ) (ts : List Token) (from : ℕ) (first : Bool) (due : Due)
     → token-text text ts from first due p ≡ piece-text text first due p
 unfolding token-text
 bare-text {p} b text ts from first due = rw (token-text, bare-within b text ts from first due) (append-nil (piece-text text first due p))

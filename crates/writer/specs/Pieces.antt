@@ -49,6 +49,15 @@ is-mixed Mixed = true
 is-mixed (Opener kind end) = false
 is-mixed Other = false
 
+-- whether a piece opens a container
+abbrev pub is-opener : Piece → Bool
+is-opener (Scalar quoted offset size) = false
+is-opener (Heading offset size) = false
+is-opener (Sign number) = false
+is-opener Mixed = false
+is-opener (Opener kind end) = true
+is-opener Other = false
+
 -- ---- the bytes
 -- a scalar's bytes in its text
 abbrev pub view-of : List ℕ → ℕ → ℕ → List ℕ

@@ -5,7 +5,7 @@ use borrow.Author.Needs.{needs}
 use mathlib.Core.Path.{sym, _∙_}
 use mathlib.Core.Bool.{true}
 use mathlib.Core.List.{List}
-use Prim.Native.Nat.{_-_}
+use mathlib.Core.Logic.{⊎-elim}
 use native.Mathlib.Omega.{arith}
 use Rattle.put.specs.Append.{append}
 use Rattle.put.proofs.Append.{same-bytes, put-empty}
@@ -19,8 +19,8 @@ use Rattle.writer.specs.Ranges.{inside-text}
 use Rattle.writer.proofs.Told.{as-told}
 use Rattle.writer.proofs.Walks.{bare-within, read-piece, Met, step-inside, step-ahead}
 use Rattle.writer.proofs.Putting.{not-opener, left-in, span, enters, enters-range, opened-as, step-span, mixed-range, entry-stays, put-braced}
-use Rattle.writer.proofs.Putting.{Putting, put-start, put-step, put-rest, put-done}
-use Prim.Native.Nat.{ℕ, _<_}
+use Rattle.writer.proofs.Putting.{Laid, laid-inside, laid-own, Putting, put-start, put-step, put-rest, put-done}
+use Prim.Native.Nat.{ℕ, _+_, _-_, _<_}
 use borrow.Fn.Kinds.{In}
 use borrow.Fn.PlainCycle.{Measures, is, falls, and}
 use Rattle.writer.proofs.bodies.put_entries.Reads as put-entries
@@ -35,6 +35,7 @@ use Rattle.writer.proofs.bodies.+put_entries+put_inside+put_pairs.Lts-p
 use Rattle.put.proofs.put_byte.Reads as put-byte-reads
 use Rattle.tape.proofs.words.token_of.Reads as token-of-reads
 use Rattle.writer.proofs.bodies.is_mixed.Reads as is-mixed-reads
+use Rattle.writer.proofs.bodies.opens.Reads as opens-reads
 use Rattle.writer.proofs.bodies.put_lead.Reads as put-lead-reads
 use Rattle.writer.proofs.bodies.put_piece.Reads as put-piece-reads
 use Rattle.writer.proofs.dues.due_after.Reads as due-after-reads
@@ -82,10 +83,12 @@ entries-claims t = (
   token-of-reads.Learnt,
   piece-of-reads.Asked,
   piece-of-reads.Learnt,
-  put-piece-reads.Asked,
-  put-piece-reads.Learnt,
+  opens-reads.Asked,
+  opens-reads.Learnt,
   inside-below t,
   put-inside.Post,
+  put-piece-reads.Asked,
+  put-piece-reads.Learnt,
   still-first-reads.Asked,
   still-first-reads.Learnt,
   behind-reads.Asked,
@@ -123,19 +126,35 @@ entries-token-of-requires t c κs = search needs
 entries-piece-of-requires : (t : ℕ) → entries.Need-piece-of-requires (entries-claims t) (entries-at t) put-entries.Post entries-Inv-loop entries-μ-loop
 entries-piece-of-requires t c κs = search needs
 
-entries-put-piece-requires : (t : ℕ) → entries.Need-put-piece-requires (entries-claims t) (entries-at t) put-entries.Post entries-Inv-loop entries-μ-loop
-entries-put-piece-requires t c κs = search needs
+entries-opens-requires : (t : ℕ) → entries.Need-opens-requires (entries-claims t) (entries-at t) put-entries.Post entries-Inv-loop entries-μ-loop
+entries-opens-requires t c κs = search needs
 
 entries-add-put-inside : (t : ℕ) → entries.Need-add-put-inside (entries-claims t) (entries-at t) put-entries.Post entries-Inv-loop entries-μ-loop
 entries-add-put-inside t c = omega arith
 
 entries-inside-requires : (t : ℕ) → entries.Need-put-inside-requires (entries-claims t) (entries-at t) put-entries.Post entries-Inv-loop entries-μ-loop
 entries-inside-requires t c =
-    let read = c .before .before .before .before .before in
+    let read = c .before .before .before in
     let at-loop = read .before .before .before in
     let start = at-loop .before .before .before .before in
     let met = entries-met t read in
     λ κs. (step-span met (start .args .from) (at-loop .loop .inv .past) (start .pre .0), step-inside met)
+
+entries-put-piece-requires : (t : ℕ) → entries.Need-put-piece-requires (entries-claims t) (entries-at t) put-entries.Post entries-Inv-loop entries-μ-loop
+entries-put-piece-requires t c κs = search needs
+
+-- the token as it was put
+entries-laid : (t : ℕ) (c : entries.Joined1 (entries-claims t) (entries-at t) put-entries.Post entries-Inv-loop entries-μ-loop)
+    → let read = c .before .before in
+    let at-loop = read .before .before .before in
+    let args = at-loop .before .before .before .before .args in
+    Laid (tokens-in (args .words .now) (args .count)) (args .text .now) (at-loop .loop .out) (at-loop .loop .i + 1) (at-loop .loop .next)
+    (at-loop .loop .first) Entry (read .piece-of .result) (c .if1 .out) (c .if1 .next)
+entries-laid t c =
+    let told = c .before .opens .ensures in
+    ⊎-elim (λ w. laid-inside told (w .2 .kept .0) (w .5) (w .6) (w .0 .taken) (w .2 .ensures))
+    (λ w. laid-own told (w .2 .kept .0) (w .5) (w .6) (w .0 .left) (w .2 .ensures))
+    (c .if1 .came)
 
 entries-still-first-requires : (t : ℕ)
     → entries.Need-still-first-requires (entries-claims t) (entries-at t) put-entries.Post entries-Inv-loop entries-μ-loop
@@ -149,17 +168,15 @@ entries-behind-requires t c κs = search needs
 
 entries-loop-less : (t : ℕ) → entries.Need-loop-less (entries-claims t) (entries-at t) put-entries.Post entries-Inv-loop entries-μ-loop
 entries-loop-less t c =
-    let own = c .before .before .before .before .before .before .before .before in
-    let on = step-ahead (entries-met t (own .before .before)) _ (c .behind .ensures) in
+    let on = step-ahead (entries-met t (c .before .before .before .before)) _ (c .behind .ensures) in
     omega (arith, on .0)
 
 entries-loop-again : (t : ℕ) → entries.Need-loop-again (entries-claims t) (entries-at t) put-entries.Post entries-Inv-loop entries-μ-loop
 entries-loop-again t c =
-    let put = c .before .before .before .before in
-    let own = put .before .before .before .before in
-    let read = own .before .before in
-    put-step (read .before .before .before .loop .inv) (entries-met t read) _ (c .behind .ensures) (c .before .still-first .ensures) (entry-stays _) _ _
-    (own .put-piece .ensures) (put .put-inside .ensures) (put .put-inside .kept .0) (own .put-piece .kept .0)
+    let put = c .before .before in
+    let read = put .before .before in
+    put-step (read .before .before .before .loop .inv) (entries-met t read) _ (c .behind .ensures) (c .before .still-first .ensures) (entry-stays _)
+    (entries-laid t put)
 
 entries-same-length : (t : ℕ) → entries.Need-same-length (entries-claims t) (entries-at t) put-entries.Post entries-Inv-loop entries-μ-loop
 entries-same-length t c = c .before .loop .inv .same
@@ -178,10 +195,12 @@ pairs-claims t = (
   is-mixed-reads.Learnt,
   entries-below t,
   put-entries.Post,
-  put-piece-reads.Asked,
-  put-piece-reads.Learnt,
+  opens-reads.Asked,
+  opens-reads.Learnt,
   inside-below t,
   put-inside.Post,
+  put-piece-reads.Asked,
+  put-piece-reads.Learnt,
   still-first-reads.Asked,
   still-first-reads.Learnt,
   due-after-reads.Asked,
@@ -250,19 +269,35 @@ pairs-returns t c =
     put-rest (read .before .before .before .loop .inv) (pairs-met t read) (mixed .before .is-mixed .ensures) (mixed .if1 .taken)
     (c .before .before .put-entries .ensures)
 
-pairs-put-piece-requires : (t : ℕ) → pairs.Need-put-piece-requires (pairs-claims t) (pairs-at t) put-pairs.Post pairs-Inv-loop pairs-μ-loop
-pairs-put-piece-requires t c κs = search needs
+pairs-opens-requires : (t : ℕ) → pairs.Need-opens-requires (pairs-claims t) (pairs-at t) put-pairs.Post pairs-Inv-loop pairs-μ-loop
+pairs-opens-requires t c κs = search needs
 
 pairs-add-put-inside : (t : ℕ) → pairs.Need-add-put-inside (pairs-claims t) (pairs-at t) put-pairs.Post pairs-Inv-loop pairs-μ-loop
 pairs-add-put-inside t c = omega arith
 
 pairs-inside-requires : (t : ℕ) → pairs.Need-put-inside-requires (pairs-claims t) (pairs-at t) put-pairs.Post pairs-Inv-loop pairs-μ-loop
 pairs-inside-requires t c =
-    let read = c .before .before .before .before .before .before .before in
+    let read = c .before .before .before .before .before in
     let at-loop = read .before .before .before in
     let start = at-loop .before .before .before .before in
     let met = pairs-met t read in
     λ κs. (step-span met (start .args .from) (at-loop .loop .inv .past) (start .pre .0), step-inside met)
+
+pairs-put-piece-requires : (t : ℕ) → pairs.Need-put-piece-requires (pairs-claims t) (pairs-at t) put-pairs.Post pairs-Inv-loop pairs-μ-loop
+pairs-put-piece-requires t c κs = search needs
+
+-- the token as it was put
+pairs-laid : (t : ℕ) (c : pairs.Joined2 (pairs-claims t) (pairs-at t) put-pairs.Post pairs-Inv-loop pairs-μ-loop)
+    → let read = c .before .before .before .before in
+    let at-loop = read .before .before .before in
+    let args = at-loop .before .before .before .before .args in
+    Laid (tokens-in (args .words .now) (args .count)) (args .text .now) (at-loop .loop .out) (at-loop .loop .i + 1) (at-loop .loop .next)
+    (at-loop .loop .first) (at-loop .loop .due) (read .piece-of .result) (c .if2 .out) (c .if2 .next)
+pairs-laid t c =
+    let told = c .before .opens .ensures in
+    ⊎-elim (λ w. laid-inside told (w .2 .kept .0) (w .5) (w .6) (w .0 .taken) (w .2 .ensures))
+    (λ w. laid-own told (w .2 .kept .0) (w .5) (w .6) (w .0 .left) (w .2 .ensures))
+    (c .if2 .came)
 
 pairs-still-first-requires : (t : ℕ) → pairs.Need-still-first-requires (pairs-claims t) (pairs-at t) put-pairs.Post pairs-Inv-loop pairs-μ-loop
 pairs-still-first-requires t c κs = search needs
@@ -278,17 +313,15 @@ pairs-behind-requires t c κs = search needs
 
 pairs-loop-less : (t : ℕ) → pairs.Need-loop-less (pairs-claims t) (pairs-at t) put-pairs.Post pairs-Inv-loop pairs-μ-loop
 pairs-loop-less t c =
-    let own = c .before .before .before .before .before .before .before .before .before in
-    let on = step-ahead (pairs-met t (own .before .before .before .before)) _ (c .behind .ensures) in
+    let on = step-ahead (pairs-met t (c .before .before .before .before .before .before .before)) _ (c .behind .ensures) in
     omega (arith, on .0)
 
 pairs-loop-again : (t : ℕ) → pairs.Need-loop-again (pairs-claims t) (pairs-at t) put-pairs.Post pairs-Inv-loop pairs-μ-loop
 pairs-loop-again t c =
-    let put = c .before .before .before .before .before in
-    let own = put .before .before .before .before in
-    let read = own .before .before .before .before in
+    let put = c .before .before .before in
+    let read = put .before .before .before .before in
     put-step (read .before .before .before .loop .inv) (pairs-met t read) _ (c .behind .ensures) (c .before .before .still-first .ensures)
-    (c .before .due-after .ensures) _ _ (own .put-piece .ensures) (put .put-inside .ensures) (put .put-inside .kept .0) (own .put-piece .kept .0)
+    (c .before .due-after .ensures) (pairs-laid t put)
 
 pairs-same-length-2 : (t : ℕ) → pairs.Need-same-length-2 (pairs-claims t) (pairs-at t) put-pairs.Post pairs-Inv-loop pairs-μ-loop
 pairs-same-length-2 t c = c .before .loop .inv .same
@@ -408,9 +441,10 @@ pub +put-entries+put-inside+put-pairs-spec : {M : Type 1} → statement M
     (entries-loop-holds t)
     (entries-token-of-requires t)
     (entries-piece-of-requires t)
-    (entries-put-piece-requires t)
+    (entries-opens-requires t)
     (entries-add-put-inside t)
     (entries-inside-requires t)
+    (entries-put-piece-requires t)
     (entries-still-first-requires t)
     (entries-add-behind t)
     (entries-behind-requires t)
@@ -450,9 +484,10 @@ pub +put-entries+put-inside+put-pairs-spec : {M : Type 1} → statement M
     (pairs-entries-requires t)
     (pairs-same-length t)
     (pairs-returns t)
-    (pairs-put-piece-requires t)
+    (pairs-opens-requires t)
     (pairs-add-put-inside t)
     (pairs-inside-requires t)
+    (pairs-put-piece-requires t)
     (pairs-still-first-requires t)
     (pairs-due-after-requires t)
     (pairs-add-behind t)
