@@ -19,8 +19,12 @@ pub four-from : (bytes : List ℕ) (i : ℕ) → i + 4 ≤ length bytes
 four-from bytes i h =
     let after : (j k : ℕ) → j < length bytes → k ≡ suc j → drop j bytes ≡ getD bytes j 0 ∷ drop k bytes =
     λ j k u e. rw e (drop-cons bytes j 0 u) in
-    rw (after i (i + 1) (omega arith) (omega arith), after (i + 1) (i + 2) (omega arith) (omega arith),
-    after (i + 2) (i + 3) (omega arith) (omega arith), after (i + 3) (i + 4) (omega arith) (omega arith))
+    rw (
+      after i (i + 1) (omega arith) (omega arith),
+      after (i + 1) (i + 2) (omega arith) (omega arith),
+      after (i + 2) (i + 3) (omega arith) (omega arith),
+      after (i + 3) (i + 4) (omega arith) (omega arith),
+    )
 
 -- four stores in a row
 pub four-stored : (out bytes : List ℕ) (at i : ℕ) → i + 4 ≤ length bytes
@@ -45,13 +49,13 @@ module _ (out : List ℕ) (at : ℕ) (bytes : List ℕ) (room : at + length byte
       ∙ getD-take i bytes j 0 h in
       ap (set (paste out at bytes i) (at + j)) (sym there) ∙ set-getD (paste out at bytes i) (at + j) 0
 
-  -- after the first i bytes are put, so many from k on are put, which may be fewer than i
+  -- where the first i bytes stand, m bytes are put from the kth on, which stands already or is the next: then the first k + m stand
   pub put-over : (m k i : ℕ) → k ≤ i → i ≤ k + m → k + m ≤ length bytes
       → sets (paste out at bytes i) (at + k) (take m (drop k bytes)) ≡ paste out at bytes (k + m)
   put-over zero k i h g f = ap (paste out at bytes) {x = i} {y = k + 0} (omega arith)
   put-over (suc m) k i h g f =
       let rest : (n : ℕ) → suc k ≤ n → n ≤ suc k + m
-          → sets (paste out at bytes n) (suc (at + k)) (take m (drop (suc k) bytes)) ≡ paste out at bytes (k + suc m) =
+      → sets (paste out at bytes n) (suc (at + k)) (take m (drop (suc k) bytes)) ≡ paste out at bytes (k + suc m) =
       λ n u v. ap (λ (p : ℕ). sets (paste out at bytes n) p (take m (drop (suc k) bytes))) (sym (add-suc at k))
       ∙ put-over m (suc k) n u v (omega arith)
       ∙ ap (paste out at bytes) {x = suc k + m} {y = k + suc m} (omega arith) in
@@ -64,6 +68,6 @@ module _ (out : List ℕ) (at : ℕ) (bytes : List ℕ) (room : at + length byte
       rw same (ap (λ (l : List ℕ). sets l (suc (at + k)) (take m (drop (suc k) bytes))) (paste-suc out at bytes k 0 (omega arith) (omega arith))
       ∙ rest (suc k) (omega arith) (omega arith))))
 
-  -- and when all are put, that is all of them
+  -- and where all stand, all were put
   pub put-all : (n : ℕ) → n ≡ length bytes → wrote (at + length bytes) (paste out at bytes n) ≡ append out at bytes
   put-all n e = rw (e, take-length bytes) (sym (append-fits out at bytes room))

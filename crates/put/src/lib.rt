@@ -19,7 +19,7 @@ pub fn put_byte(out: &mut [u8], at: usize, b: u8) -> usize
     at
 }
 
-// Puts some bytes one at a time, which ends where the buffer does.
+// Puts some bytes one at a time, as far as there is room.
 fn put_each(out: &mut [u8], at: usize, bytes: &[u8]) -> usize
     ensures { λ r. ⌜ wrote r (now (out .exit)) ≡ append (now (out .entry)) at (now (bytes .entry)) ⌝ }
 {
@@ -36,7 +36,7 @@ fn put_each(out: &mut [u8], at: usize, bytes: &[u8]) -> usize
     next
 }
 
-// Puts four of some bytes, from an index on. All are read before one is put, so that they are moved as one word.
+// Puts four of some bytes, from an index on. All are read before one is put, so that a compiler moves them as one word.
 fn put_four(out: &mut [u8], at: usize, bytes: &[u8], i: usize)
     requires { ⌜ (at + 4 ≤ length (now out)) × (i + 4 ≤ length (now bytes)) ⌝ }
     ensures { λ r. ⌜ now (out .exit) ≡ sets (now (out .entry)) at (take 4 (drop i (now (bytes .entry)))) ⌝ }
@@ -51,7 +51,7 @@ fn put_four(out: &mut [u8], at: usize, bytes: &[u8], i: usize)
     out[at + 3] = fourth;
 }
 
-// Puts four bytes or more that find room, four at a time. The last four are put once more where some of them stand already.
+// Puts four bytes or more, all of which find room, four at a time: the last four whole, over those of them that stand already.
 fn put_strides(out: &mut [u8], at: usize, bytes: &[u8]) -> usize
     requires { ⌜ (4 ≤ length (now bytes)) × (at + length (now bytes) ≤ length (now out)) ⌝ }
     ensures { λ r. ⌜ wrote r (now (out .exit)) ≡ append (now (out .entry)) at (now (bytes .entry)) ⌝ }
@@ -73,7 +73,8 @@ fn room_from(size: usize, at: usize) -> usize
     if at < size { size - at } else { 0 }
 }
 
-// Puts all of some bytes.
+// Puts all of some bytes: four at a time, since a loop over a few bytes costs most where it ends, or one at a time where they are fewer
+// or do not all find room.
 pub fn put_bytes(out: &mut [u8], at: usize, bytes: &[u8]) -> usize
     ensures { λ r. ⌜ wrote r (now (out .exit)) ≡ append (now (out .entry)) at (now (bytes .entry)) ⌝ }
 {

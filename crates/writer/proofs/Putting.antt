@@ -137,7 +137,8 @@ pub record Laid (ts : List Token) (text out : List ℕ) (from next : ℕ) (first
 
 module _ {ts : List Token} {text out : List ℕ} {from next : ℕ} {first : Bool} {due : Due} {p : Piece} {opens : Bool} (e : opens ≡ is-opener p)
     {a o : List ℕ} {q r : ℕ} (kept : length a ≡ length out) (last : o ≡ a) (place : r ≡ q) where
-  laid : {bytes : List ℕ} → wrote q a ≡ append out next bytes → bytes ≡ token-text text ts from first due p → Laid ts text out from next first due p o r
+  laid : {bytes : List ℕ} → wrote q a ≡ append out next bytes → bytes ≡ token-text text ts from first due p
+      → Laid ts text out from next first due p o r
   laid put same = record { bytes = rw (last, place) (same-bytes out next _ _ put same); lent = rw last kept }
 
   pub laid-inside : opens ≡ true → wrote q a ≡ append out next (inside-text text ts from first due p) → Laid ts text out from next first due p o r

@@ -29,7 +29,7 @@ fn same_each(a: &[u8], b: &[u8]) -> bool
     true
 }
 
-// Whether four bytes of two runs are the same, from an index on. All are looked at, so that they are held against each other as one word.
+// Whether four bytes of two runs are the same, from an index on. All are looked at, so that a compiler compares them as one word.
 fn same_four(a: &[u8], b: &[u8], i: usize) -> bool
     requires { ⌜ (i + 4 ≤ length (now a)) × (i + 4 ≤ length (now b)) ⌝ }
     ensures { λ r. ⌜ r ≡ same-bytes (take 4 (drop i (now (a .entry)))) (take 4 (drop i (now (b .entry)))) ⌝ }
@@ -37,7 +37,7 @@ fn same_four(a: &[u8], b: &[u8], i: usize) -> bool
     (a[i] == b[i]) & (a[i + 1] == b[i + 1]) & (a[i + 2] == b[i + 2]) & (a[i + 3] == b[i + 3])
 }
 
-// Whether two runs of as many bytes, four or more, are the same, four at a time. The last four are looked at whole, where some were before.
+// Whether two runs of as many bytes, four or more, are the same, four at a time: the last four whole, with those that were looked at before.
 fn same_strides(a: &[u8], b: &[u8]) -> bool
     requires { ⌜ (length (now a) ≡ length (now b)) × (4 ≤ length (now a)) ⌝ }
     ensures { λ r. ⌜ r ≡ same-bytes (now (a .entry)) (now (b .entry)) ⌝ }
@@ -53,7 +53,7 @@ fn same_strides(a: &[u8], b: &[u8]) -> bool
     same_four(a, b, last)
 }
 
-// Whether two runs of bytes are the same.
+// Whether two runs of bytes are the same: four at a time, or one at a time where they are fewer.
 fn same_bytes(a: &[u8], b: &[u8]) -> bool
     ensures { λ r. ⌜ r ≡ same-bytes (now (a .entry)) (now (b .entry)) ⌝ }
 {

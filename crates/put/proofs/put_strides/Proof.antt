@@ -45,8 +45,8 @@ loop-again c =
     let start = at-loop .before .before .before in
     let inv = at-loop .loop .inv in (
       four .put-four .ensures
-      ∙ ap (λ (out : List ℕ). sets out (start .args .at + at-loop .loop .i) (take 4 (drop (at-loop .loop .i) (start .args .bytes .now)))) (inv .0)
-      ∙ put-over _ _ _ (start .pre .1) 4 (at-loop .loop .i) (at-loop .loop .i) (omega arith) (omega arith) (omega arith),
+          ∙ ap (λ (out : List ℕ). sets out (start .args .at + at-loop .loop .i) (take 4 (drop (at-loop .loop .i) (start .args .bytes .now)))) (inv .0)
+          ∙ put-over _ _ _ (start .pre .1) 4 (at-loop .loop .i) (at-loop .loop .i) (omega arith) (omega arith) (omega arith),
       search needs,
       search needs,
     )
