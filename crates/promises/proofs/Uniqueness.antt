@@ -96,6 +96,7 @@ use Rattle.put.proofs.put_bytes.Reads as put-bytes
 use Rattle.put.proofs.front.Reads as front
 use Rattle.put.proofs.part.Reads as part
 use Rattle.put.proofs.clear_from.Reads as zeroed
+use Rattle.put.proofs.equal.equal_bytes.Reads as equal-bytes
 use Rattle.writer.proofs.Refusal.number.Reads as write-refusal-number
 use Rattle.writer.proofs.write.Reads as write
 use Rattle.report.proofs.numbers.put_decimal.Reads as put-decimal
@@ -169,6 +170,7 @@ pub record Put : Type 0 where
   pub part : (κs : _) (args : _) (r s : _) (xs ys : _) → part.Post κs args r xs → part.Post κs args s ys
       → (r .now ≡ s .now) × (r .ptr ≡ s .ptr)
   pub zeroed : One-left zeroed.Post (λ κs xs. xs .0 .now)
+  pub equal-bytes : One-result equal-bytes.Post
 
 pub put-calls : Put
 put-calls =
@@ -178,6 +180,7 @@ put-calls =
       front = λ κs args r s xs ys p q. (p .0 ∙ sym (q .0), p .1 ∙ sym (q .1));
       part = λ κs args r s xs ys p q. (p .0 ∙ sym (q .0), p .1 ∙ sym (q .1));
       zeroed = λ κs args r s xs ys p q. p ∙ sym q;
+      equal-bytes = by-definition _ _;
     }
 
 pub record Operator : Type 0 where

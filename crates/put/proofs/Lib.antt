@@ -1,4 +1,5 @@
 pub mod Append
 pub mod Clears
+pub mod Equality
 pub mod Parts
 pub mod Strides

@@ -1,4 +1,5 @@
-// Bytes put into a lent buffer one after another, as far as it has room. Every call answers the place after what it put.
+// Bytes put into a lent buffer one after another, as far as it has room: every such call answers the place after what it put. And parts
+// of some bytes.
 ghost use mathlib.Core.Path.{_≡_};
 ghost use mathlib.Core.List.{[], _∷_};
 ghost use Prim.Native.Nat.{_+_, _-_, _≤_};
@@ -7,6 +8,9 @@ ghost use lib.Seq.{sets};
 ghost use denote.Ref.{ptr};
 ghost use Rattle.put.specs.Append.{wrote, append, zeroed};
 ghost use Rattle.put.specs.Parts.{part-place};
+
+// Two runs of bytes held against each other.
+pub mod equal;
 
 // Puts one byte.
 pub fn put_byte(out: &mut [u8], at: usize, b: u8) -> usize

@@ -7,6 +7,7 @@ use Prim.Native.Nat.{ℕ, zero, suc}
 use borrow.Author.Tests.{eqb-true, eq-eqb}
 use lib.Dec.{eqb}
 use lib.ListN.{length}
+use Rattle.put.proofs.Equality.{equal-are, equal-self}
 use Rattle.tape.specs.declared.token.Token.{Token}
 use Rattle.tape.specs.declared.token.ScalarKind.{ScalarKind}
 use Rattle.tape.specs.declared.token.ScalarNamed.{ScalarNamed}
@@ -15,26 +16,9 @@ use Rattle.tape.specs.Token.{nth, scalar-named, scalar-code, scalar-of}
 use Rattle.tape.proofs.Makers.{code-names}
 use Rattle.tape.proofs.Shapes.{named-code}
 use Rattle.writer.specs.Pieces.{view-of}
-use Rattle.writer.specs.Alike.{same-bytes, same-view, same-words, same-token, alike}
+use Rattle.writer.specs.Alike.{same-view, same-words, same-token, alike}
 use Rattle.writer.proofs.Forms.{both, first-of, second-of}
 
--- ---- bytes
-pub bytes-same : (bs : List ℕ) → same-bytes bs bs ≡ true
-unfolding same-bytes
-bytes-same [] = refl
-bytes-same (b ∷ bs) = both (eq-eqb b b refl) (bytes-same bs)
-
-pub same-bytes-are : (bs cs : List ℕ) → same-bytes bs cs ≡ true → bs ≡ cs
-unfolding same-bytes
-same-bytes-are [] [] h = refl
-same-bytes-are [] (c ∷ cs) h = absurd (false≢true h)
-same-bytes-are (b ∷ bs) [] h = absurd (false≢true h)
-same-bytes-are (b ∷ bs) (c ∷ cs) h =
-    let e = eqb-true b c (first-of (eqb b c) (same-bytes bs cs) h) in
-    let f = same-bytes-are bs cs (second-of (eqb b c) (same-bytes bs cs) h) in
-    cc
-
--- ---- tokens
 -- a token by its words
 pub as-made : (x : Token) {c a b : ℕ} → x .code ≡ c → x .a ≡ a → x .b ≡ b → x ≡ record { code = c; a = a; b = b }
 as-made x e f g = rw (← e, ← f, ← g)
@@ -56,7 +40,7 @@ module _ (text other : List ℕ) where
       let c = named-code (x .code) kind s in
       let b : x .b ≡ y .b = eqb-true (x .b) (y .b) (first-of _ _ t) in
       viewed kind (x .a) (y .a) (x .b) (as-made x c refl refl) (as-made y (sym codes ∙ c) refl (sym b))
-      (same-bytes-are (view-of text (x .a) (x .b)) (view-of other (y .a) (y .b)) (second-of (eqb (x .b) (y .b)) _ t)
+      (equal-are (view-of text (x .a) (x .b)) (view-of other (y .a) (y .b)) (second-of (eqb (x .b) (y .b)) _ t)
       ∙ ap (view-of other (y .a)) (sym b))
 
   pub same-told : (x y : Token) → same-token text other x y ≡ true → Same text other x y
@@ -70,7 +54,7 @@ module _ (text other : List ℕ) where
   unfolding same-token same-view
   same-scalar kind a b n v =
       both (eq-eqb (scalar-code kind) (scalar-code kind) refl)
-      (rw (code-names kind) (both (eq-eqb n n refl) (rw v (bytes-same (view-of other b n)))))
+      (rw (code-names kind) (both (eq-eqb n n refl) (rw v (equal-self (view-of other b n)))))
 
   same-itself : (x : Token) → scalar-named (x .code) ≡ Nothing → same-token text other x x ≡ true
   unfolding same-token same-words

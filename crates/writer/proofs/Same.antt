@@ -1,116 +1,23 @@
--- Two sheets held against each other, a byte and a token at a time.
+-- Two sheets held against each other, a token at a time.
 -- Assumes nothing.
 use mathlib.Core.Path.{_≡_, refl, sym, _∙_, ap}
-use mathlib.Core.Bool.{Bool, true, false, _&&_, false≢true}
-use mathlib.Core.List.{List, [], _∷_, _++_}
+use mathlib.Core.Bool.{Bool, true, false, _&&_}
+use mathlib.Core.List.{List, [], _∷_}
 use Prim.Native.Nat.{ℕ, suc, _+_, _≤_, _<_}
 use native.Mathlib.Numerals.{add-one}
 use native.Mathlib.Omega.{arith}
-use borrow.Author.Tests.{eqb-true, eq-eqb, ne-eqb, leb-true, leb-false}
+use borrow.Author.Tests.{eq-eqb, ne-eqb, leb-true, leb-false}
 use lib.Dec.{eqb, leb}
-use lib.ListN.{length, getD, take, drop, drop-of-length-le}
-use lib.Seq.{drop-cons, take-add, take-take, take-all}
+use lib.ListN.{length, drop, drop-of-length-le}
+use lib.Seq.{drop-cons}
 use Rattle.data.proofs.Cases.{by-bool}
-use Rattle.put.proofs.Strides.{four-from}
 use Rattle.tape.specs.declared.token.Token.{Token}
 use Rattle.tape.specs.declared.token.ScalarKind.{ScalarKind}
 use Rattle.tape.specs.declared.token.ScalarNamed.the-variants.{Kind, Nothing}
 use Rattle.tape.specs.Token.{no-token, nth, scalar-named}
 use Rattle.tape.specs.Words.{words-for, tokens-in, token-in}
 use Rattle.tape.proofs.Views.{tokens-length, tokens-counted}
-use Rattle.writer.specs.Alike.{same-bytes, same-view, same-words, same-token, alike, found-alike}
-
--- ---- bytes
--- runs of different lengths are not the same
-pub other-length : (a b : List ℕ) → (length a ≡ length b → ⊥) → false ≡ same-bytes a b
-unfolding same-bytes
-other-length [] [] h = absurd (h refl)
-other-length [] (c ∷ cs) h = refl
-other-length (b ∷ bs) [] h = refl
-other-length (b ∷ bs) (c ∷ cs) h =
-    by-bool (eqb b c)
-    (λ e. rw e (other-length bs cs (λ same. h (ap suc same))))
-    (λ e. rw e)
-
-module _ (a b : List ℕ) (i : ℕ) where
-  -- from an index on: the next byte, and what follows
-  same-next : i < length a → i < length b
-      → same-bytes (drop i a) (drop i b) ≡ (eqb (getD a i 0) (getD b i 0) && same-bytes (drop (i + 1) a) (drop (i + 1) b))
-  unfolding same-bytes
-  same-next h g = rw (drop-cons a i 0 h, drop-cons b i 0 g, add-one i)
-
-  pub same-on : i < length a → i < length b → getD a i 0 ≡ getD b i 0
-      → same-bytes (drop i a) (drop i b) ≡ same-bytes (drop (i + 1) a) (drop (i + 1) b)
-  same-on h g e = same-next h g ∙ rw (eq-eqb _ _ e)
-
-  pub same-not : i < length a → i < length b → (getD a i 0 ≡ getD b i 0 → ⊥) → same-bytes (drop i a) (drop i b) ≡ false
-  same-not h g e = same-next h g ∙ rw (ne-eqb _ _ e)
-
-  pub same-end : length a ≤ i → length b ≤ i → same-bytes (drop i a) (drop i b) ≡ true
-  unfolding same-bytes
-  same-end h g = rw (drop-of-length-le a h, drop-of-length-le b g)
-
--- the same bytes are the same run
-same-run : (a b : List ℕ) → same-bytes a b ≡ true → a ≡ b
-unfolding same-bytes
-same-run [] [] e = refl
-same-run [] (c ∷ cs) e = absurd (false≢true e)
-same-run (b ∷ bs) [] e = absurd (false≢true e)
-same-run (b ∷ bs) (c ∷ cs) e =
-    by-bool (eqb b c)
-    (λ t. let tail : same-bytes bs cs ≡ true = rw t at e in rw (eqb-true b c t, same-run bs cs tail))
-    (λ f. let no : false ≡ true = rw f at e in absurd (false≢true no))
-
-run-same : (a : List ℕ) → same-bytes a a ≡ true
-unfolding same-bytes
-run-same [] = refl
-run-same (b ∷ bs) = rw (eq-eqb b b refl) (run-same bs)
-
--- four bytes, all of them looked at
-pub four-same : (a b : List ℕ) (i : ℕ) → i + 4 ≤ length a → i + 4 ≤ length b
-    → (((eqb (getD a i 0) (getD b i 0) && eqb (getD a (i + 1) 0) (getD b (i + 1) 0)) && eqb (getD a (i + 2) 0) (getD b (i + 2) 0))
-    && eqb (getD a (i + 3) 0) (getD b (i + 3) 0))
-    ≡ same-bytes (take 4 (drop i a)) (take 4 (drop i b))
-unfolding same-bytes
-four-same a b i h g =
-    rw (four-from a i h, four-from b i g)
-    (regroup (eqb (getD a i 0) (getD b i 0)) (eqb (getD a (i + 1) 0) (getD b (i + 1) 0)) (eqb (getD a (i + 2) 0) (getD b (i + 2) 0))
-    (eqb (getD a (i + 3) 0) (getD b (i + 3) 0)))
-  where
-    regroup : (p q r s : Bool) → (((p && q) && r) && s) ≡ (p && (q && (r && (s && true))))
-    regroup false q r s = refl
-    regroup true false r s = refl
-    regroup true true false s = refl
-    regroup true true true false = refl
-    regroup true true true true = refl
-
--- some bytes at a time: so many are the same from the start, and then so many from there on
-module _ (a b : List ℕ) where
-  pub same-more : (k m : ℕ) → take k a ≡ take k b → same-bytes (take m (drop k a)) (take m (drop k b)) ≡ true → take (k + m) a ≡ take (k + m) b
-  same-more k m e f =
-      take-add k m a ∙ ap (λ (l : List ℕ). l ++ take m (drop k a)) e ∙ ap (λ (l : List ℕ). take k b ++ l) (same-run _ _ f) ∙ sym (take-add k m b)
-
-  -- where some are not the same, the runs are not
-  pub some-not : (k m : ℕ) → same-bytes (take m (drop k a)) (take m (drop k b)) ≡ false → same-bytes a b ≡ false
-  some-not k m f =
-      by-bool (same-bytes a b)
-      (λ t.
-      let part : same-bytes (take m (drop k a)) (take m (drop k b)) ≡ true =
-      ap (λ (l : List ℕ). same-bytes (take m (drop k a)) (take m (drop k l))) (sym (same-run a b t)) ∙ run-same (take m (drop k a)) in
-      absurd (false≢true (sym f ∙ part)))
-      (λ e. e)
-
-  -- the last of them, of which some were looked at before, decide
-  pub last-decide : (k m i : ℕ) → k + m ≡ length a → length a ≡ length b → k ≤ i → take i a ≡ take i b
-      → same-bytes (take m (drop k a)) (take m (drop k b)) ≡ same-bytes a b
-  last-decide k m i whole lengths early e =
-      by-bool (same-bytes (take m (drop k a)) (take m (drop k b)))
-      (λ t.
-      let before : take k a ≡ take k b = sym (take-take k i a early) ∙ ap (take k) e ∙ take-take k i b early in
-      let all : a ≡ b =
-      sym (take-all (k + m) a (omega (arith, whole))) ∙ same-more k m before t ∙ take-all (k + m) b (omega (arith, whole, lengths)) in
-      t ∙ sym (ap (same-bytes a) (sym all) ∙ run-same a))
-      (λ f. f ∙ sym (some-not k m f))
+use Rattle.writer.specs.Alike.{same-view, same-words, same-token, alike, found-alike}
 
 -- ---- one token
 module _ (text other : List ℕ) (x y : Token) where

@@ -4,6 +4,7 @@ use mathlib.Core.Bool.{Bool, true, false, _&&_}
 use mathlib.Core.List.{List, [], _∷_}
 use lib.Dec.{eqb}
 use lib.ListN.{length}
+use Rattle.put.specs.Equal.{equal-bytes}
 use Rattle.tape.specs.declared.token.Token.{Token}
 use Rattle.tape.specs.declared.token.ScalarNamed.the-variants.{Kind, Nothing}
 use Rattle.tape.specs.Token.{scalar-named}
@@ -12,16 +13,9 @@ use Rattle.machine.specs.Finish.{Outcome, outcome}
 use Rattle.tape.specs.Words.{tokens-in}
 use Rattle.writer.specs.Pieces.{view-of}
 
--- the same bytes
-unfoldable pub same-bytes : List ℕ → List ℕ → Bool
-same-bytes [] [] = true
-same-bytes [] (c ∷ cs) = false
-same-bytes (b ∷ bs) [] = false
-same-bytes (b ∷ bs) (c ∷ cs) = eqb b c && same-bytes bs cs
-
 -- what a scalar views: its length and its bytes
 unfoldable pub same-view : List ℕ → List ℕ → Token → Token → Bool
-same-view text other x y = eqb (x .b) (y .b) && same-bytes (view-of text (x .a) (x .b)) (view-of other (y .a) (y .b))
+same-view text other x y = eqb (x .b) (y .b) && equal-bytes (view-of text (x .a) (x .b)) (view-of other (y .a) (y .b))
 
 -- the words of a token that is no scalar
 unfoldable pub same-words : Token → Token → Bool

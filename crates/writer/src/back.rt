@@ -1,70 +1,19 @@
 // Whether a text, parsed, gives the tokens of a sheet: the same codes, words and scalar bytes, offsets aside.
 use machine::Parsed;
+use put::equal::equal_bytes;
 use put::part;
 use tape::token;
 use tape::token::ScalarNamed;
 use tape::token::Token;
 use tape::words;
 ghost use mathlib.Core.Path.{_≡_};
-ghost use Prim.Native.Nat.{_+_, _≤_};
-ghost use lib.ListN.{length, take, drop};
+ghost use Prim.Native.Nat.{_≤_};
+ghost use lib.ListN.{length};
 ghost use Rattle.tape.specs.Words.{words-for, tokens-in};
 ghost use Rattle.machine.specs.Finish.{outcome};
 ghost use Rattle.parse.specs.Parse.{parse-of};
-ghost use Rattle.writer.specs.Alike.{same-bytes, same-view, same-words, same-token, found-alike, comes-back};
+ghost use Rattle.writer.specs.Alike.{same-view, same-words, same-token, found-alike, comes-back};
 ghost use Rattle.writer.specs.Write.{zeros};
-
-// Whether two runs of as many bytes are the same, a byte at a time.
-fn same_each(a: &[u8], b: &[u8]) -> bool
-    requires { ⌜ length (now a) ≡ length (now b) ⌝ }
-    ensures { λ r. ⌜ r ≡ same-bytes (now (a .entry)) (now (b .entry)) ⌝ }
-{
-    let mut i = 0;
-    while i < a.len() {
-        if a[i] != b[i] {
-            return false;
-        }
-        i += 1;
-    }
-    true
-}
-
-// Whether four bytes of two runs are the same, from an index on. All are looked at, so that a compiler compares them as one word.
-fn same_four(a: &[u8], b: &[u8], i: usize) -> bool
-    requires { ⌜ (i + 4 ≤ length (now a)) × (i + 4 ≤ length (now b)) ⌝ }
-    ensures { λ r. ⌜ r ≡ same-bytes (take 4 (drop i (now (a .entry)))) (take 4 (drop i (now (b .entry)))) ⌝ }
-{
-    (a[i] == b[i]) & (a[i + 1] == b[i + 1]) & (a[i + 2] == b[i + 2]) & (a[i + 3] == b[i + 3])
-}
-
-// Whether two runs of as many bytes, four or more, are the same, four at a time: the last four whole, with those that were looked at before.
-fn same_strides(a: &[u8], b: &[u8]) -> bool
-    requires { ⌜ (length (now a) ≡ length (now b)) × (4 ≤ length (now a)) ⌝ }
-    ensures { λ r. ⌜ r ≡ same-bytes (now (a .entry)) (now (b .entry)) ⌝ }
-{
-    let last = a.len() - 4;
-    let mut i = 0;
-    while i < last {
-        if !same_four(a, b, i) {
-            return false;
-        }
-        i += 4;
-    }
-    same_four(a, b, last)
-}
-
-// Whether two runs of bytes are the same: four at a time, or one at a time where they are fewer.
-fn same_bytes(a: &[u8], b: &[u8]) -> bool
-    ensures { λ r. ⌜ r ≡ same-bytes (now (a .entry)) (now (b .entry)) ⌝ }
-{
-    if a.len() != b.len() {
-        return false;
-    }
-    if a.len() < 4 {
-        return same_each(a, b);
-    }
-    same_strides(a, b)
-}
 
 // Whether two scalars view the same bytes, each in its own text.
 fn same_view(text: &[u8], other: &[u8], x: Token, y: Token) -> bool
@@ -74,7 +23,7 @@ fn same_view(text: &[u8], other: &[u8], x: Token, y: Token) -> bool
         return false;
     }
     let viewed = part(text, x.a as usize, x.b as usize);
-    same_bytes(viewed, part(other, y.a as usize, y.b as usize))
+    equal_bytes(viewed, part(other, y.a as usize, y.b as usize))
 }
 
 // Whether two tokens that are no scalars have the same words.

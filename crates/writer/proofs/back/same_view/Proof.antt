@@ -3,7 +3,7 @@
 use borrow.Author.Needs.{needs}
 use mathlib.Core.Path.{_∙_}
 use borrow.Author.Tests.{eq-eqb}
-use Rattle.writer.specs.Alike.{same-bytes, same-view}
+use Rattle.writer.specs.Alike.{same-view}
 use Rattle.writer.proofs.Same.{view-other}
 use Rattle.writer.proofs.back.same_view.Statement.{statement}
 use Rattle.writer.proofs.back.same_view.Tie as tie
@@ -29,14 +29,14 @@ cast-part-4 c = search needs
 part-requires-2 : tie.Need-part-requires-2
 part-requires-2 c κs = search needs
 
-same-bytes-requires : tie.Need-same-bytes-requires
-same-bytes-requires c κs = search needs
+equal-bytes-requires : tie.Need-equal-bytes-requires
+equal-bytes-requires c κs = search needs
 
 returns-2 : tie.Need-returns-2
 unfolding same-view
 returns-2 c =
     rw (same-view, eq-eqb _ _ (c .before .before .before .before .before .before .before .if1 .left))
-    (c .same-bytes .ensures ∙ rw (c .before .before .before .before .part .ensures .0, c .before .part2 .ensures .0))
+    (c .equal-bytes .ensures ∙ rw (c .before .before .before .before .part .ensures .0, c .before .part2 .ensures .0))
 
 pub same-view-spec : {M : Type 1} → statement M
 same-view-spec =
@@ -49,5 +49,5 @@ same-view-spec =
     cast-part-3
     cast-part-4
     part-requires-2
-    same-bytes-requires
+    equal-bytes-requires
     returns-2)

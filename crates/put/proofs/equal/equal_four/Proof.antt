@@ -1,9 +1,9 @@
--- `writer::back::same_four` meets its contract: four tests, all of them made.
+-- `put::equal::equal_four` meets its contract: four tests, all of them made.
 -- Assumes nothing.
 use borrow.Author.Needs.{needs}
-use Rattle.writer.proofs.Same.{four-same}
-use Rattle.writer.proofs.back.same_four.Statement.{statement}
-use Rattle.writer.proofs.back.same_four.Tie as tie
+use Rattle.put.proofs.Equality.{four-equal}
+use Rattle.put.proofs.equal.equal_four.Statement.{statement}
+use Rattle.put.proofs.equal.equal_four.Tie as tie
 
 shared-slice-read-result : tie.Need-shared-slice-read-result
 shared-slice-read-result c = search needs
@@ -50,10 +50,10 @@ shared-slice-read-result-8 c = search needs
 returns : tie.Need-returns
 returns c =
     let start = c .before .before .before .before .before .before .before .before in
-    four-same _ _ _ (start .pre .0) (start .pre .1)
+    four-equal _ _ _ (start .pre .0) (start .pre .1)
 
-pub same-four-spec : {M : Type 1} → statement M
-same-four-spec =
+pub equal-four-spec : {M : Type 1} → statement M
+equal-four-spec =
     tie.close
     (tie.spec
     shared-slice-read-result

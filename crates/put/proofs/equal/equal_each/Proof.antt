@@ -1,17 +1,17 @@
--- `writer::back::same_each` meets its contract. The invariant: what is left of both decides.
+-- `put::equal::equal_each` meets its contract. The invariant: what is left of both decides.
 -- Assumes nothing.
 use borrow.Author.Needs.{needs}
 use Prim.Native.Nat.{_-_}
 use mathlib.Core.Path.{_≡_, refl, sym, _∙_}
 use lib.ListN.{length, drop}
-use Rattle.writer.specs.Alike.{same-bytes}
-use Rattle.writer.proofs.Same.{same-on, same-not, same-end}
+use Rattle.put.specs.Equal.{equal-bytes}
+use Rattle.put.proofs.Equality.{equal-on, equal-not, equal-end}
 use native.Mathlib.Omega.{arith}
-use Rattle.writer.proofs.back.same_each.Statement.{statement}
-use Rattle.writer.proofs.back.same_each.Tie as tie
+use Rattle.put.proofs.equal.equal_each.Statement.{statement}
+use Rattle.put.proofs.equal.equal_each.Tie as tie
 
 abbrev Inv-loop : tie.InvT-loop
-Inv-loop a b i₀ i = (same-bytes a b ≡ same-bytes (drop i a) (drop i b)) × (length a ≡ length b)
+Inv-loop a b i₀ i = (equal-bytes a b ≡ equal-bytes (drop i a) (drop i b)) × (length a ≡ length b)
 
 abbrev μ-loop : tie.MeasureT-loop
 μ-loop a b i₀ i = length a - i
@@ -29,7 +29,7 @@ returns : tie.Need-returns Inv-loop μ-loop
 returns c =
     let at-loop = c .before .before .before .before in
     let args = at-loop .before .args in
-    sym (at-loop .loop .inv .0 ∙ same-not (args .a .now) (args .b .now) (at-loop .loop .i) (omega arith) (omega arith) (c .if1 .taken))
+    sym (at-loop .loop .inv .0 ∙ equal-not (args .a .now) (args .b .now) (at-loop .loop .i) (omega arith) (omega arith) (c .if1 .taken))
 
 add-i : tie.Need-add-i Inv-loop μ-loop
 add-i c = omega arith
@@ -41,16 +41,16 @@ loop-again : tie.Need-loop-again Inv-loop μ-loop
 loop-again c =
     let at-loop = c .before .before .before .before in
     let args = at-loop .before .args in
-    (at-loop .loop .inv .0 ∙ same-on (args .a .now) (args .b .now) (at-loop .loop .i) (omega arith) (omega arith) (c .if1 .left), at-loop .loop .inv .1)
+    (at-loop .loop .inv .0 ∙ equal-on (args .a .now) (args .b .now) (at-loop .loop .i) (omega arith) (omega arith) (c .if1 .left), at-loop .loop .inv .1)
 
 returns-2 : tie.Need-returns-2 Inv-loop μ-loop
 returns-2 c =
     let at-loop = c .before in
     let args = at-loop .before .args in
-    sym (at-loop .loop .inv .0 ∙ same-end (args .a .now) (args .b .now) (at-loop .loop .i) (omega arith) (omega arith))
+    sym (at-loop .loop .inv .0 ∙ equal-end (args .a .now) (args .b .now) (at-loop .loop .i) (omega arith) (omega arith))
 
-pub same-each-spec : {M : Type 1} → statement M
-same-each-spec =
+pub equal-each-spec : {M : Type 1} → statement M
+equal-each-spec =
     tie.close
     (tie.spec
     Inv-loop
