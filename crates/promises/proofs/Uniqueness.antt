@@ -55,6 +55,7 @@ use Rattle.tape.proofs.words.capacity.Reads as capacity
 use Rattle.tape.proofs.words.token_of.Reads as token-of
 use Rattle.tape.proofs.words.token.Reads as token
 use Rattle.tape.proofs.words.holds.Reads as holds
+use Rattle.tape.proofs.words.held.Reads as held
 use Rattle.tape.proofs.words.put.Reads as put
 use Rattle.tape.proofs.words.push.Reads as push
 use Rattle.tape.proofs.words.insert_mixed.Reads as insert-mixed
@@ -97,6 +98,7 @@ use Rattle.put.proofs.front.Reads as front
 use Rattle.put.proofs.part.Reads as part
 use Rattle.put.proofs.clear_from.Reads as zeroed
 use Rattle.put.proofs.equal.equal_bytes.Reads as equal-bytes
+use Rattle.alike.proofs.comes_back.Reads as comes-back
 use Rattle.writer.proofs.Refusal.number.Reads as write-refusal-number
 use Rattle.writer.proofs.write.Reads as write
 use Rattle.report.proofs.numbers.put_decimal.Reads as put-decimal
@@ -274,6 +276,7 @@ pub record Tape : Type 0 where
   pub token-of : One-result token-of.Post
   pub token : One-result token.Post
   pub holds : One-result holds.Post
+  pub held : One-result held.Post
   pub put-tape : One-left put.Post (λ κs xs. xs .0 .now)
   pub push-result : One-result push.Post
   pub push-tape : One-left push.Post (λ κs xs. xs .0 .now)
@@ -303,6 +306,7 @@ tape-calls =
       token-of = by-definition _ _;
       token = by-definition _ _;
       holds = by-definition _ _;
+      held = by-definition _ _;
       put-tape = λ κs args r s xs ys p q. cc;
       push-result = λ κs args r s xs ys p q. cc;
       push-tape = λ κs args r s xs ys p q. cc;
@@ -403,6 +407,17 @@ sheet-calls =
       link = by-definition _ _;
       view-of = by-definition _ _;
       view = λ κs args r s xs ys p q. (p .0 ∙ sym (q .0), p .1 ∙ sym (q .1));
+    }
+
+pub record Alike : Type 0 where
+  pub comes-back-result : One-result comes-back.Post
+  pub comes-back-scratch : One-left comes-back.Post (λ κs xs. xs .1 .1 .1 .1 .0 .now)
+
+pub alike-calls : Alike
+alike-calls =
+    record {
+      comes-back-result = λ κs args r s xs ys p q. p .0 ∙ sym (q .0);
+      comes-back-scratch = λ κs args r s xs ys p q. p .1 ∙ sym (q .1);
     }
 
 pub record Writer : Type 0 where

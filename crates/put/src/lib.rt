@@ -7,7 +7,7 @@ ghost use lib.ListN.{length, take, drop};
 ghost use lib.Seq.{sets};
 ghost use denote.Ref.{ptr};
 ghost use Rattle.put.specs.Append.{wrote, append, zeroed};
-ghost use Rattle.put.specs.Parts.{part-place};
+ghost use Rattle.put.specs.Parts.{view-of, part-place};
 
 // Two runs of bytes held against each other.
 pub mod equal;
@@ -104,7 +104,7 @@ pub fn front(buffer: &[u8], n: usize) -> &[u8]
 
 // The part of some bytes that starts at an offset and has a length, or as much of it as there is.
 pub fn part(bytes: &[u8], offset: usize, size: usize) -> &[u8]
-    ensures bytes { λ r. ⌜ now r ≡ take size (drop offset (now (bytes .entry))) ⌝ }
+    ensures bytes { λ r. ⌜ now r ≡ view-of (now (bytes .entry)) offset size ⌝ }
     ensures place { λ r. ⌜ r .ptr ≡ part-place (bytes .entry .ptr) (length (now (bytes .entry))) offset ⌝ }
 {
     if bytes.len() <= offset {

@@ -75,15 +75,11 @@ pub fn put_token(out: &mut [u8], at: usize, i: u32, t: Token) -> usize
     put_byte(out, b, b'\n')
 }
 
-// How many of count tokens stand on a tape whole.
+// How many of count tokens stand on a tape whole, by numbers of a word's width.
 fn standing(tape: &[u32], count: u32) -> u32
     ensures { λ r. ⌜ r ≡ length (tokens-in (now (tape .entry)) count) ⌝ }
 {
-    let most = words::capacity(tape);
-    if most < count as usize {
-        return most as u32;
-    }
-    count
+    words::held(tape, count as usize) as u32
 }
 
 // Puts the lines of the first count tokens of a tape, or of as many as stand there.

@@ -6,7 +6,7 @@ use crate::token::Token;
 ghost use mathlib.Core.Path.{_≡_};
 ghost use lib.ListN.{length, replicate};
 ghost use lib.Dec.{leb, ltb};
-ghost use Rattle.tape.specs.Words.{words-for, capacity, room-of, token-in, put-words, put-in, written, push-words, insert-words, cleared};
+ghost use Rattle.tape.specs.Words.{words-for, capacity, room-of, tokens-in, token-in, put-words, put-in, written, push-words, insert-words, cleared};
 ghost use Rattle.tape.specs.Tape.{view, replace, lay, lay-mixed, after-push};
 
 // How many words a token has. Whoever lends words counts in this or asks `words_for` and `capacity`.
@@ -71,6 +71,17 @@ pub fn holds(words: &[u32], count: usize) -> bool
     ensures { λ r. ⌜ r ≡ leb (words-for count) (length (now (words .entry))) ⌝ }
 {
     count <= words.len() / WORDS_PER_TOKEN
+}
+
+// How many of count tokens stand in some words whole.
+pub fn held(words: &[u32], count: usize) -> usize
+    ensures { λ r. ⌜ r ≡ length (tokens-in (now (words .entry)) count) ⌝ }
+{
+    let most = capacity(words);
+    if most < count {
+        return most;
+    }
+    count
 }
 
 // Writes the words of token i, where they fit.

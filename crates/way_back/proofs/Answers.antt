@@ -17,7 +17,7 @@ use Rattle.writer.specs.declared.Refusal.the-variants.{NotSound, TooDeep, TooLo
 use Rattle.writer.specs.declared.Written.{Written}
 use Rattle.writer.specs.declared.Written.the-variants.{Text, Refused}
 use Rattle.writer.specs.Refusals.{number}
-use Rattle.writer.specs.Alike.{comes-back}
+use Rattle.alike.specs.Alike.{comes-back}
 use Rattle.writer.specs.Write.{Left, refuse, text-of, formed, too-deep, no-room, first-there, weigh, read-back, write-of}
 use Rattle.writer.proofs.Weighing.{neither}
 use Rattle.way_back.specs.Accepted.{Given, Accepted, Reads-back, answer-of, Answers-length, Promised}

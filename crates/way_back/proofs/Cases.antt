@@ -34,7 +34,7 @@ use Rattle.writer.specs.Dues.{due-after}
 use Rattle.writer.specs.Form.{takes, has-form}
 use Rattle.writer.specs.Text.{piece-text, body-text}
 use Rattle.writer.specs.Levels.{levels}
-use Rattle.writer.specs.Alike.{same-view, same-words, same-token, alike, found-alike}
+use Rattle.alike.specs.Alike.{same-view, same-words, same-token, alike, found-alike}
 use Rattle.writer.specs.Write.{text-of, first-there, weigh, read-back, write-of}
 use Rattle.sheet.specs.Sound.{Sheet}
 use Rattle.promises.specs.Each.{Each}

@@ -12,7 +12,7 @@ use Rattle.tape.specs.Words.{capacity, tokens-in}
 use Rattle.machine.specs.declared.Parsed.the-variants.{Tokens, Refused}
 use Rattle.machine.specs.Finish.{Outcome, outcome}
 use Rattle.parse.specs.Parse.{parse-of}
-use Rattle.writer.specs.Alike.{alike, found-alike, comes-back}
+use Rattle.alike.specs.Alike.{alike, found-alike, comes-back}
 use Rattle.writer.specs.Write.{text-of, write-of}
 use Rattle.way_back.specs.Accepted.{Accepted, answer-of, Answers-length, Accepted-exactly, Length-exactly}
 use Rattle.writer.proofs.Forms.{both, first-of, second-of}

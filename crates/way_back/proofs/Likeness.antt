@@ -27,12 +27,13 @@ use Rattle.writer.specs.declared.dues.Due.the-variants.{Key}
 use Rattle.writer.specs.declared.pieces.Piece.{Piece}
 use Rattle.writer.specs.declared.pieces.Piece.the-variants.{Scalar, Heading, Sign, Mixed, Opener, Other}
 use Rattle.writer.specs.Forest.{Forest, no-more, leaf, box, forest-in, stretch, forest-of}
-use Rattle.writer.specs.Pieces.{view-of, scalar-piece, bare-piece, piece-of, own-bytes}
+use Rattle.put.specs.Parts.{view-of}
+use Rattle.writer.specs.Pieces.{scalar-piece, bare-piece, piece-of, own-bytes}
 use Rattle.writer.specs.Dues.{due-in, due-after, after-container}
 use Rattle.writer.specs.Form.{takes, has-form}
 use Rattle.writer.specs.Text.{still-first, piece-text, body-text}
 use Rattle.writer.specs.Levels.{levels, most-levels}
-use Rattle.writer.specs.Alike.{alike}
+use Rattle.alike.specs.Alike.{alike}
 use Rattle.writer.specs.Write.{text-of, formed, too-deep}
 use Rattle.writer.proofs.Grown.{none-left, takes-leaf, takes-box}
 use Rattle.writer.proofs.Walks.{leaf-piece}

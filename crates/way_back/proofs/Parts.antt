@@ -17,7 +17,7 @@ use Rattle.tape.specs.declared.token.ScalarKind.the-variants.{Unquoted, Quoted,
 use Rattle.tape.specs.declared.token.Container.the-variants.{Nothing}
 use Rattle.tape.specs.Token.{nth, container-of, scalar-of, opener-of}
 use Rattle.sheet.specs.Sound.{Form, container, mixed-container, scalar, operator, closing}
-use Rattle.writer.specs.Pieces.{view-of}
+use Rattle.put.specs.Parts.{view-of}
 use Rattle.writer.specs.Forest.{Forest, no-more, leaf, box, stretch, forest-of}
 use Rattle.writer.specs.Ranges.{Range}
 use Rattle.way_back.specs.Plain.{All-plain, All-bare, Plain}

@@ -38,12 +38,13 @@ use Rattle.writer.specs.declared.pieces.Piece.the-variants.{Scalar, Heading, Si
 use Rattle.writer.specs.declared.Refusal.{Refusal}
 use Rattle.writer.specs.declared.Refusal.the-variants.{NotSound, TooDeep, TooLong, NoRoom, ReadsOtherwise, OtherForm}
 use Rattle.writer.specs.declared.Written.the-variants.{Text, Refused}
-use Rattle.writer.specs.Pieces.{view-of, quote-if, symbol-bytes, numbered-bytes, sign-bytes, own-bytes, bare-piece, piece-of}
+use Rattle.put.specs.Parts.{view-of}
+use Rattle.writer.specs.Pieces.{quote-if, symbol-bytes, numbered-bytes, sign-bytes, own-bytes, bare-piece, piece-of}
 use Rattle.writer.specs.Text.{lead, piece-text}
 use Rattle.writer.specs.Scans.{token-size, first-behind, text-size}
 use Rattle.writer.specs.Ranges.{Whole}
 use Rattle.writer.specs.Refusals.{number}
-use Rattle.writer.specs.Alike.{comes-back}
+use Rattle.alike.specs.Alike.{comes-back}
 use Rattle.writer.specs.Write.{text-of, formed, too-deep, first-there, weigh, read-back, write-of}
 use Rattle.writer.proofs.Sizes.{lead-same, lead-short, quoted-size, view-short}
 use Rattle.writer.proofs.Grown.{tokens-on}

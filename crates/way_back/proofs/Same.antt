@@ -15,8 +15,8 @@ use Rattle.tape.specs.declared.token.ScalarNamed.the-variants.{Kind, Nothing}
 use Rattle.tape.specs.Token.{nth, scalar-named, scalar-code, scalar-of}
 use Rattle.tape.proofs.Makers.{code-names}
 use Rattle.tape.proofs.Shapes.{named-code}
-use Rattle.writer.specs.Pieces.{view-of}
-use Rattle.writer.specs.Alike.{same-view, same-words, same-token, alike}
+use Rattle.put.specs.Parts.{view-of}
+use Rattle.alike.specs.Alike.{same-view, same-words, same-token, alike}
 use Rattle.writer.proofs.Forms.{both, first-of, second-of}
 
 -- a token by its words

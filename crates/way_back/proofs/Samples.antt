@@ -37,7 +37,7 @@ use Rattle.parse.specs.Parse.{state-turn, turn, run, parse-of}
 use Rattle.promises.specs.Cases.{bytes}
 use Rattle.promises.proofs.Demand3.{parse-sound}
 use Rattle.sheet.specs.Sound.{Sheet}
-use Rattle.writer.specs.Pieces.{view-of}
+use Rattle.put.specs.Parts.{view-of}
 use Rattle.writer.specs.Forest.{forest-in, stretch, forest-of}
 use Rattle.way_back.specs.Plain.{plain-byte, bare-byte, All-plain, All-bare, Plain}
 use Rattle.writer.proofs.Forms.{first-of, second-of}

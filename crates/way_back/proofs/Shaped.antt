@@ -12,7 +12,7 @@ use Rattle.tape.specs.declared.token.ContainerKind.{ContainerKind}
 use Rattle.tape.specs.declared.token.ContainerKind.the-variants.{Array, Object}
 use Rattle.tape.specs.declared.token.ScalarKind.the-variants.{Unquoted, Quoted}
 use Rattle.tape.specs.Token.{quoted-code, scalar-of, end-of}
-use Rattle.writer.specs.Pieces.{view-of}
+use Rattle.put.specs.Parts.{view-of}
 use Rattle.writer.specs.Forest.{Forest, no-more, leaf, box, forest-of}
 use Rattle.way_back.specs.Plain.{All-plain, In-turn, Plain}
 use Rattle.way_back.proofs.Tree.{Word, unquoted, quoted, Entry, scalar, empty, array, object, Entries, no-entries, more, Pairs, no-pairs, pair}

@@ -9,7 +9,7 @@ use Rattle.tape.specs.declared.token.ContainerKind.the-variants.{Array, Object}
 use Rattle.tape.specs.declared.token.ScalarKind.{ScalarKind}
 use Rattle.tape.specs.declared.token.ScalarKind.the-variants.{Unquoted, Quoted}
 use Rattle.tape.specs.Token.{scalar-of}
-use Rattle.writer.specs.Pieces.{view-of}
+use Rattle.put.specs.Parts.{view-of}
 use Rattle.way_back.proofs.Tree.{Word, unquoted, quoted, Entry, scalar, empty, array, object, Entries, no-entries, more, Pairs, no-pairs, pair}
 use Rattle.way_back.proofs.Tree.{Tree, nothing, pairs, enclosed}
 

@@ -11,7 +11,7 @@ use lib.Seq.{take-append-seam}
 use Rattle.tape.specs.declared.token.Token.{Token}
 use Rattle.tape.specs.Words.{padded, capacity, words-for, tokens-in}
 use Rattle.promises.proofs.Demand3.{parse-sound}
-use Rattle.writer.specs.Alike.{alike}
+use Rattle.alike.specs.Alike.{alike}
 use Rattle.writer.specs.Write.{accept, zeros, text-of}
 use Rattle.way_back.specs.Accepted.{Given, Accepted-as, Reads-back, answer-of}
 use Rattle.way_back.specs.Stable.{Parses-again, Writes-again}

@@ -12,7 +12,8 @@ use Rattle.tape.specs.Shape.{shape-of}
 use Rattle.writer.specs.declared.dues.Due.{Due}
 use Rattle.writer.specs.declared.dues.Due.the-variants.{Entry, Key, AfterKey}
 use Rattle.writer.specs.Forest.{Forest, no-more, leaf, box}
-use Rattle.writer.specs.Pieces.{view-of, quote-if, piece-of, own-bytes}
+use Rattle.put.specs.Parts.{view-of}
+use Rattle.writer.specs.Pieces.{quote-if, piece-of, own-bytes}
 use Rattle.writer.specs.Dues.{after-scalar, due-after}
 use Rattle.writer.specs.Text.{lead, piece-text, braced, body-text, sheet-text}
 use Rattle.writer.specs.Form.{takes, has-form}

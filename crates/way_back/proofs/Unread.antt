@@ -24,8 +24,8 @@ use Rattle.sheet.specs.Decided.{Decided}
 use Rattle.sheet.specs.Sound.{Views, Sound}
 use Rattle.sheet.proofs.Sheets.{one-answer, later-ignored}
 use Rattle.writer.specs.declared.Written.{Written}
-use Rattle.writer.specs.Pieces.{view-of}
-use Rattle.writer.specs.Alike.{same-view, same-token, alike, found-alike, comes-back}
+use Rattle.put.specs.Parts.{view-of}
+use Rattle.alike.specs.Alike.{same-view, same-token, alike, found-alike, comes-back}
 use Rattle.writer.specs.Write.{Left, left, text-of, formed, too-deep, no-room, first-there, weigh, read-back, write-of}
 use Rattle.way_back.specs.Unread.{Same-views, Views-alone, Same-read, Same-left, Write-ignores}
 use Rattle.way_back.proofs.Same.{Same, same, viewed, alike-none, alike-one}

@@ -12,7 +12,7 @@ use Rattle.tape.specs.declared.token.ContainerKind.{ContainerKind}
 use Rattle.tape.specs.declared.token.ContainerKind.the-variants.{Array, Object}
 use Rattle.tape.specs.declared.token.ScalarNamed.the-variants.{Nothing}
 use Rattle.tape.specs.Token.{scalar-named, opener-of, end-of}
-use Rattle.writer.specs.Alike.{alike}
+use Rattle.alike.specs.Alike.{alike}
 use Rattle.way_back.proofs.Tree.{Word, unquoted, quoted, Entry, scalar, empty, array, object, Entries, no-entries, more, Pairs, no-pairs, pair}
 use Rattle.way_back.proofs.Tree.{Tree, nothing, pairs, write-word, write, write-entries, write-pairs, write-tree}
 use Rattle.way_back.proofs.Tree.{token-of, value-at, enclosed, flatten, flatten-entries, flatten-pairs, flatten-tree}

@@ -12,7 +12,7 @@ use Rattle.parse.specs.Parse.{text-limit, parse-of}
 use Rattle.writer.specs.declared.Refusal.the-variants.{ReadsOtherwise, OtherForm}
 use Rattle.writer.specs.declared.Written.{Written}
 use Rattle.writer.specs.declared.Written.the-variants.{Text, Refused}
-use Rattle.writer.specs.Alike.{comes-back}
+use Rattle.alike.specs.Alike.{comes-back}
 use Rattle.writer.specs.Write.{Left, left, accept, text-of, formed, too-deep, write-of}
 use Rattle.way_back.specs.Plain.{Plain}
 

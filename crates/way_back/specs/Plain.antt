@@ -15,7 +15,7 @@ use Rattle.tape.specs.Token.{nth, opener-of, scalar-of, operator-of, mixed-cont
 use Rattle.sheet.specs.Sound.{Sheet}
 use Rattle.promises.specs.Each.{Each}
 use Rattle.writer.specs.Forest.{Forest, no-more, leaf, box, forest-of}
-use Rattle.writer.specs.Pieces.{view-of}
+use Rattle.put.specs.Parts.{view-of}
 
 -- ---- bytes
 -- the first of the letters, small and capital, and how many there are; how many digits

@@ -10,7 +10,7 @@ use Rattle.machine.specs.declared.Parsed.the-variants.{Tokens}
 use Rattle.machine.specs.Finish.{Outcome, outcome}
 use Rattle.parse.specs.Parse.{parse-of}
 use Rattle.sheet.specs.Sound.{Sound}
-use Rattle.writer.specs.Alike.{alike}
+use Rattle.alike.specs.Alike.{alike}
 use Rattle.writer.specs.Write.{text-of, formed, too-deep}
 use Rattle.way_back.specs.Accepted.{Accepted-as}
 

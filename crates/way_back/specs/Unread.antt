@@ -9,7 +9,7 @@ use Rattle.tape.specs.Token.{nth}
 use Rattle.tape.specs.Words.{tokens-in}
 use Rattle.sheet.specs.Sound.{Views}
 use Rattle.writer.specs.declared.Written.{Written}
-use Rattle.writer.specs.Pieces.{view-of}
+use Rattle.put.specs.Parts.{view-of}
 use Rattle.writer.specs.Write.{write-of}
 use Rattle.writer.proofs.write.Reads as write
 

@@ -10,9 +10,10 @@ use Rattle.put.proofs.Append.{chain, same-bytes, put-empty}
 use Rattle.writer.specs.declared.dues.Due.{Due}
 use Rattle.writer.specs.declared.pieces.Piece.{Piece}
 use Rattle.writer.specs.declared.pieces.Piece.the-variants.{Scalar, Heading, Sign}
-use Rattle.writer.specs.Pieces.{view-of, quote-if, sign-bytes, own-bytes}
+use Rattle.put.specs.Parts.{view-of}
+use Rattle.writer.specs.Pieces.{quote-if, sign-bytes, own-bytes}
 use Rattle.writer.specs.Text.{gap, lead, piece-text}
-use Rattle.writer.proofs.Told.{as-told}
+use Rattle.data.proofs.Told.{as-told}
 
 -- nothing before the first of a body
 pub put-first : (out : List ℕ) (at : ℕ) (due : Due) (sign : Bool) {first : Bool} → first ≡ true → wrote at out ≡ append out at (lead first due sign)

@@ -15,7 +15,8 @@ use Rattle.operator.specs.declared.Numbered.the-variants as Numbered
 use Rattle.operator.specs.Operators.{symbol-of, numbered}
 use Rattle.writer.specs.declared.dues.Due.{Due}
 use Rattle.writer.specs.declared.dues.Due.the-variants.{Entry, Key, AfterKey, Value}
-use Rattle.writer.specs.Pieces.{view-of, quote-if, symbol-bytes, sign-bytes}
+use Rattle.put.specs.Parts.{view-of}
+use Rattle.writer.specs.Pieces.{quote-if, symbol-bytes, sign-bytes}
 use Rattle.writer.specs.Text.{lead}
 
 -- before a token stands one byte, whichever it is, or none

@@ -29,7 +29,7 @@ use Rattle.writer.specs.declared.measure.Measured.the-variants.{Size, Ov
 use Rattle.writer.specs.declared.dues.Due.the-variants.{Key}
 use Rattle.writer.specs.Forest.{stretch, forest-of}
 use Rattle.writer.specs.Text.{body-text}
-use Rattle.writer.specs.Alike.{comes-back}
+use Rattle.alike.specs.Alike.{comes-back}
 use Rattle.writer.specs.Scans.{measured}
 use Rattle.writer.specs.Ranges.{Whole}
 use Rattle.writer.specs.Write.{Left, left, zeros, text-of, formed, too-deep}

@@ -6,6 +6,5 @@ pub mod Form
 pub mod Levels
 pub mod Ranges
 pub mod Scans
-pub mod Alike
 pub mod Refusals
 pub mod Write

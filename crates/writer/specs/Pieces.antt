@@ -3,8 +3,8 @@ use Prim.Native.Nat.{ℕ}
 use mathlib.Core.Bool.{Bool, true, false}
 use mathlib.Core.List.{List, [], _∷_, _++_}
 use lib.Dec.{eqb}
-use lib.ListN.{take, drop}
 use Rattle.data.specs.Bytes.{quote}
+use Rattle.put.specs.Parts.{view-of}
 use Rattle.operator.specs.declared.Numbered.{Numbered}
 use Rattle.operator.specs.declared.Numbered.the-variants as Numbered
 use Rattle.operator.specs.declared.Symbol.{Symbol}
@@ -59,10 +59,6 @@ is-opener (Opener kind end) = true
 is-opener Other = false
 
 -- ---- the bytes
--- a scalar's bytes in its text
-abbrev pub view-of : List ℕ → ℕ → ℕ → List ℕ
-view-of text offset size = take size (drop offset text)
-
 -- in quotes or as they are
 abbrev pub quote-if : Bool → List ℕ → List ℕ
 quote-if true bytes = quote ∷ (bytes ++ (quote ∷ []))

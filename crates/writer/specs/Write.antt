@@ -7,6 +7,7 @@ use lib.ListN.{length, replicate}
 use Rattle.tape.specs.declared.token.Token.{Token}
 use Rattle.tape.specs.Words.{capacity}
 use Rattle.parse.specs.Parse.{text-limit, parse-of}
+use Rattle.alike.specs.Alike.{comes-back}
 use Rattle.writer.specs.declared.Refusal.{Refusal}
 use Rattle.writer.specs.declared.Refusal.the-variants.{NotSound, TooDeep, TooLong, NoRoom, ReadsOtherwise, OtherForm}
 use Rattle.writer.specs.declared.Written.{Written}
@@ -19,7 +20,6 @@ use Rattle.writer.specs.Forest.{forest-of}
 use Rattle.writer.specs.Form.{has-form}
 use Rattle.writer.specs.Levels.{levels, most-levels}
 use Rattle.writer.specs.Text.{sheet-text}
-use Rattle.writer.specs.Alike.{comes-back}
 
 -- an answer, with the buffer and the scratch as it leaves them
 pub data Left : Type 0 where

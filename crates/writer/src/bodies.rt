@@ -20,7 +20,8 @@ ghost use Rattle.put.specs.Append.{wrote, append};
 ghost use Rattle.tape.specs.Words.{tokens-in};
 ghost use Rattle.writer.specs.declared.dues.Due.the-variants as due;
 ghost use Rattle.writer.specs.Forest.{stretch};
-ghost use Rattle.writer.specs.Pieces.{is-mixed, is-opener, view-of, quote-if, sign-bytes};
+ghost use Rattle.put.specs.Parts.{view-of};
+ghost use Rattle.writer.specs.Pieces.{is-mixed, is-opener, quote-if, sign-bytes};
 ghost use Rattle.writer.specs.Text.{lead, piece-text, body-text};
 ghost use Rattle.writer.specs.Ranges.{Range, Inside, inside-text};
 

@@ -14,8 +14,6 @@ ghost use Rattle.writer.specs.Ranges.{Whole};
 
 // What a body is written as.
 mod bodies;
-// Whether the text comes back as it was.
-mod back;
 // What is due next in a body.
 pub mod dues;
 // Whether a sheet is of the form that can be written.
@@ -128,7 +126,7 @@ fn write_fitting(
 {
     let size = put_pairs(out, 0, text, words, count, 0, count);
     put::clear_from(out, size);
-    if back::comes_back(text, words, count, put::front(out, size), scratch) {
+    if alike::comes_back(text, words, count, put::front(out, size), scratch) {
         return Written::Text(size);
     }
     put::clear_from(out, 0);

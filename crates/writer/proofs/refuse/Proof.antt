@@ -1,9 +1,10 @@
 -- `writer::refuse` meets its contract: both are cleared from their start.
 -- Assumes nothing.
 use borrow.Author.Needs.{needs}
-use mathlib.Core.Path.{refl}
+use mathlib.Core.Path.{refl, _∙_}
 use lib.ListN.{length}
-use Rattle.writer.proofs.Left.{tape-cleared, buffer-cleared, refused-left}
+use Rattle.machine.proofs.Clearing.{cleared-whole}
+use Rattle.writer.proofs.Left.{buffer-cleared, refused-left}
 use Rattle.writer.proofs.refuse.Statement.{statement}
 use Rattle.writer.proofs.refuse.Tie as tie
 
@@ -25,7 +26,7 @@ returns c =
     let scratch = c .before .before in
     let out = c .before .before .before .before .before .before in
     refused-left (args .r) (length (args .out .now)) (length (args .scratch .now)) (buffer-cleared (args .out .now) (out .clear-from .ensures) refl)
-    (tape-cleared (args .scratch .now) (scratch .clear-from2 .ensures) refl)
+    (scratch .clear-from2 .ensures ∙ cleared-whole (args .scratch .now))
 
 pub refuse-spec : {M : Type 1} → statement M
 refuse-spec =

@@ -25,8 +25,7 @@ front-requires : tie.Need-front-requires
 front-requires c κs = search needs
 
 comes-back-requires : tie.Need-comes-back-requires
-comes-back-requires c κs =
-    c .before .before .before .before .before .before .before .before .before .before .before .before .before .before .before .pre .0 .sound .fits
+comes-back-requires c κs = search needs
 
 same-length : tie.Need-same-length
 same-length c = search needs

@@ -1,4 +1,4 @@
--- `report::tokens::standing` meets its contract: as many tokens as are asked for, or as the words hold.
+-- `report::tokens::standing` meets its contract: no more tokens stand there than were asked for.
 -- Assumes nothing.
 use native.Mathlib.Omega.{arith}
 use borrow.Author.Needs.{needs}
@@ -6,21 +6,16 @@ use Rattle.tape.proofs.Views.{tokens-length}
 use Rattle.report.proofs.tokens.standing.Statement.{statement}
 use Rattle.report.proofs.tokens.standing.Tie as tie
 
-capacity-requires : tie.Need-capacity-requires
-capacity-requires c κs = search needs
+held-requires : tie.Need-held-requires
+held-requires c κs = search needs
 
 cast-result : tie.Need-cast-result
-cast-result c = search needs
+cast-result c =
+    let args = c .before .before .args in
+    omega (arith, c .held .ensures, tokens-length (args .tape .now) (args .count))
 
 returns : tie.Need-returns
-returns c =
-    let at-args = c .before .before .before in
-    omega (arith, tokens-length (at-args .args .tape .now) (at-args .args .count))
-
-returns-2 : tie.Need-returns-2
-returns-2 c =
-    let at-args = c .before .before .before in
-    omega (arith, tokens-length (at-args .args .tape .now) (at-args .args .count))
+returns c = search needs
 
 pub standing-spec : {M : Type 1} → statement M
-standing-spec = tie.close (tie.spec capacity-requires cast-result returns returns-2)
+standing-spec = tie.close (tie.spec held-requires cast-result returns)

@@ -16,7 +16,7 @@ use Rattle.writer.specs.declared.pieces.Piece.{Piece}
 use Rattle.writer.specs.Forest.{stretch}
 use Rattle.writer.specs.Text.{body-text}
 use Rattle.writer.specs.Ranges.{inside-text}
-use Rattle.writer.proofs.Told.{as-told}
+use Rattle.data.proofs.Told.{as-told}
 use Rattle.writer.proofs.Walks.{bare-within, read-piece, Met, step-inside, step-ahead}
 use Rattle.writer.proofs.Putting.{not-opener, left-in, span, enters, enters-range, opened-as, step-span, mixed-range, entry-stays, put-braced}
 use Rattle.writer.proofs.Putting.{Laid, laid-inside, laid-own, Putting, put-start, put-step, put-rest, put-done}

@@ -1,7 +1,7 @@
 -- `writer::bodies::put_scalar` meets its contract: the bytes of the view, between quotes where there are some.
 -- Assumes nothing.
 use borrow.Author.Needs.{needs}
-use Rattle.writer.specs.Pieces.{view-of}
+use Rattle.put.specs.Parts.{view-of}
 use Rattle.writer.proofs.Puts.{put-quoted, put-bare}
 use Rattle.writer.proofs.bodies.put_scalar.Statement.{statement}
 use Rattle.writer.proofs.bodies.put_scalar.Tie as tie

@@ -3,7 +3,7 @@
 use borrow.Author.Needs.{needs}
 use mathlib.Core.Path.{refl}
 use Rattle.writer.specs.Dues.{due-after}
-use Rattle.writer.proofs.Told.{as-told}
+use Rattle.data.proofs.Told.{as-told}
 use Rattle.writer.proofs.dues.due_after.Statement.{statement}
 use Rattle.writer.proofs.dues.due_after.Tie as tie
 

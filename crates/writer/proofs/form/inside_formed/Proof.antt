@@ -6,7 +6,7 @@ use mathlib.Core.List.{List}
 use Rattle.tape.specs.declared.token.Token.{Token}
 use Rattle.tape.specs.Words.{tokens-in}
 use Rattle.writer.specs.Ranges.{Inside, inside-form}
-use Rattle.writer.proofs.Told.{as-told}
+use Rattle.data.proofs.Told.{as-told}
 use Rattle.writer.proofs.Walks.{due-as}
 use Rattle.writer.proofs.form.inside_formed.Statement.{statement}
 use Rattle.writer.proofs.form.inside_formed.Tie as tie

@@ -3,7 +3,7 @@
 use borrow.Author.Needs.{needs}
 use mathlib.Core.Path.{refl}
 use Rattle.writer.specs.Scans.{sunk}
-use Rattle.writer.proofs.Told.{as-told}
+use Rattle.data.proofs.Told.{as-told}
 use Rattle.writer.proofs.Scanned.{sunk-down, sunk-deep, sunk-up}
 use native.Mathlib.Omega.{arith}
 use Rattle.writer.proofs.levels.sink.Statement.{statement}

@@ -5,7 +5,7 @@ use mathlib.Core.Path.{refl, _∙_, ap}
 use Rattle.tape.specs.declared.shape.Link.{Link}
 use Rattle.writer.specs.Text.{still-first}
 use Rattle.writer.specs.Scans.{first-behind}
-use Rattle.writer.proofs.Told.{as-told}
+use Rattle.data.proofs.Told.{as-told}
 use Rattle.writer.proofs.measure.first_behind.Statement.{statement}
 use Rattle.writer.proofs.measure.first_behind.Tie as tie
 

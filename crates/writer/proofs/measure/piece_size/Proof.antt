@@ -8,7 +8,7 @@ use Rattle.writer.specs.declared.pieces.Piece.{Piece}
 use Rattle.writer.specs.declared.dues.Due.the-variants.{Entry}
 use Rattle.writer.specs.Pieces.{own-bytes}
 use Rattle.writer.specs.Text.{lead, piece-text}
-use Rattle.writer.proofs.Told.{as-told}
+use Rattle.data.proofs.Told.{as-told}
 use Rattle.writer.proofs.Sizes.{lead-same, lead-short, both-sized}
 use native.Mathlib.Omega.{arith}
 use Rattle.writer.proofs.measure.piece_size.Statement.{statement}

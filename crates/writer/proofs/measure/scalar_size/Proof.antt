@@ -6,7 +6,8 @@ use mathlib.Core.Bool.{Bool}
 use mathlib.Core.List.{List}
 use Prim.Native.Nat.{ℕ, _+_}
 use lib.ListN.{length}
-use Rattle.writer.specs.Pieces.{view-of, quote-if}
+use Rattle.put.specs.Parts.{view-of}
+use Rattle.writer.specs.Pieces.{quote-if}
 use Rattle.writer.proofs.Sizes.{quoted-size, view-short}
 use native.Mathlib.Omega.{arith}
 use Rattle.writer.proofs.measure.scalar_size.Statement.{statement}

@@ -9,7 +9,7 @@ use Rattle.writer.specs.declared.dues.Due.the-variants.{Entry}
 use Rattle.writer.specs.declared.pieces.Piece.{Piece}
 use Rattle.writer.specs.Text.{piece-text}
 use Rattle.writer.specs.Scans.{token-size}
-use Rattle.writer.proofs.Told.{as-told}
+use Rattle.data.proofs.Told.{as-told}
 use Rattle.writer.proofs.Sizes.{lead-short}
 use native.Mathlib.Omega.{arith}
 use Rattle.writer.proofs.measure.token_size.Statement.{statement}

@@ -3,7 +3,7 @@
 use borrow.Author.Needs.{needs}
 use mathlib.Core.Path.{refl}
 use Rattle.writer.specs.Pieces.{bare-piece}
-use Rattle.writer.proofs.Told.{as-told}
+use Rattle.data.proofs.Told.{as-told}
 use Rattle.writer.proofs.pieces.bare_piece.Statement.{statement}
 use Rattle.writer.proofs.pieces.bare_piece.Tie as tie
 

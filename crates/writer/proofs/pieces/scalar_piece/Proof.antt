@@ -4,7 +4,7 @@ use borrow.Author.Needs.{needs}
 use mathlib.Core.Path.{refl}
 use Rattle.tape.specs.declared.token.ScalarKind.{ScalarKind}
 use Rattle.writer.specs.Pieces.{scalar-piece}
-use Rattle.writer.proofs.Told.{as-told}
+use Rattle.data.proofs.Told.{as-told}
 use Rattle.writer.proofs.pieces.scalar_piece.Statement.{statement}
 use Rattle.writer.proofs.pieces.scalar_piece.Tie as tie
 

@@ -1,10 +1,10 @@
--- `writer::back::same_token` meets its contract: the codes differ, or the code says what to hold against each other.
+-- `alike::same_token` meets its contract: the codes differ, or the code says what to hold against each other.
 -- Assumes nothing.
 use borrow.Author.Needs.{needs}
 use mathlib.Core.Path.{sym, _∙_}
-use Rattle.writer.proofs.Same.{code-other, scalars-same, words-same}
-use Rattle.writer.proofs.back.same_token.Statement.{statement}
-use Rattle.writer.proofs.back.same_token.Tie as tie
+use Rattle.alike.proofs.Same.{code-other, scalars-same, words-same}
+use Rattle.alike.proofs.same_token.Statement.{statement}
+use Rattle.alike.proofs.same_token.Tie as tie
 
 returns : tie.Need-returns
 returns c = code-other _ _ _ _ (c .if1 .taken)

@@ -5,13 +5,13 @@ use mathlib.Core.List.{List, [], _∷_}
 use lib.Dec.{eqb}
 use lib.ListN.{length}
 use Rattle.put.specs.Equal.{equal-bytes}
+use Rattle.put.specs.Parts.{view-of}
 use Rattle.tape.specs.declared.token.Token.{Token}
 use Rattle.tape.specs.declared.token.ScalarNamed.the-variants.{Kind, Nothing}
 use Rattle.tape.specs.Token.{scalar-named}
 use Rattle.machine.specs.declared.Parsed.the-variants.{Tokens, Refused}
 use Rattle.machine.specs.Finish.{Outcome, outcome}
 use Rattle.tape.specs.Words.{tokens-in}
-use Rattle.writer.specs.Pieces.{view-of}
 
 -- what a scalar views: its length and its bytes
 unfoldable pub same-view : List ℕ → List ℕ → Token → Token → Bool

@@ -7,13 +7,11 @@ use tape::token::ScalarNamed;
 use tape::token::Token;
 use tape::words;
 ghost use mathlib.Core.Path.{_≡_};
-ghost use Prim.Native.Nat.{_≤_};
-ghost use lib.ListN.{length};
-ghost use Rattle.tape.specs.Words.{words-for, tokens-in};
+ghost use lib.ListN.{length, replicate};
+ghost use Rattle.tape.specs.Words.{tokens-in};
 ghost use Rattle.machine.specs.Finish.{outcome};
 ghost use Rattle.parse.specs.Parse.{parse-of};
-ghost use Rattle.writer.specs.Alike.{same-view, same-words, same-token, found-alike, comes-back};
-ghost use Rattle.writer.specs.Write.{zeros};
+ghost use Rattle.alike.specs.Alike.{same-view, same-words, same-token, found-alike, comes-back};
 
 // Whether two scalars view the same bytes, each in its own text.
 fn same_view(text: &[u8], other: &[u8], x: Token, y: Token) -> bool
@@ -49,21 +47,27 @@ fn same_token(text: &[u8], other: &[u8], x: Token, y: Token) -> bool
     }
 }
 
-// Whether so many tokens that were found are a sheet's, each over its own text.
-fn alike(text: &[u8], other: &[u8], words: &[u32], count: usize, tape: &[u32], found: usize) -> bool
-    requires { ⌜ words-for count ≤ length (now words) ⌝ }
+// Whether so many tokens that were found on a tape are a sheet's, each over its own text.
+fn found_alike(
+    text: &[u8],
+    other: &[u8],
+    words: &[u32],
+    count: usize,
+    tape: &[u32],
+    found: usize,
+) -> bool
     ensures { λ r. ⌜ r ≡ found-alike (now (text .entry)) (now (other .entry)) (tokens-in (now (words .entry)) count) found (now (tape .entry)) ⌝ }
 {
-    if found != count {
+    if found != words::held(words, count) {
         return false;
     }
-    if !words::holds(tape, count) {
+    if !words::holds(tape, found) {
         return false;
     }
     let mut i = 0;
-    while i < count {
+    while i < found {
         let x = words::token_of(words, count, i);
-        if !same_token(text, other, x, words::token_of(tape, count, i)) {
+        if !same_token(text, other, x, words::token_of(tape, found, i)) {
             return false;
         }
         i += 1;
@@ -80,7 +84,6 @@ fn parsed_alike(
     tape: &[u32],
     parsed: Parsed,
 ) -> bool
-    requires { ⌜ words-for count ≤ length (now words) ⌝ }
     ensures { λ r. ⌜ r ≡ comes-back (now (text .entry)) (now (other .entry)) (tokens-in (now (words .entry)) count)
         (outcome parsed (now (tape .entry))) ⌝ }
 {
@@ -88,23 +91,22 @@ fn parsed_alike(
         Parsed::Tokens {
             count: found,
             bom: _,
-        } => alike(text, other, words, count, tape, found as usize),
+        } => found_alike(text, other, words, count, tape, found as usize),
         Parsed::Refused(_) => false,
     }
 }
 
 // Whether another text, parsed, gives a sheet's tokens. The scratch is the parse's tape, and is zero afterwards.
-pub(crate) fn comes_back(
+pub fn comes_back(
     text: &[u8],
     words: &[u32],
     count: usize,
     other: &[u8],
     scratch: &mut [u32],
 ) -> bool
-    requires { ⌜ words-for count ≤ length (now words) ⌝ }
     ensures told { λ r. ⌜ r ≡ comes-back (now (text .entry)) (now (other .entry)) (tokens-in (now (words .entry)) count)
         (parse-of (now (other .entry)) (length (now (scratch .entry)))) ⌝ }
-    ensures clear { λ r. ⌜ now (scratch .exit) ≡ zeros (length (now (scratch .entry))) ⌝ }
+    ensures clear { λ r. ⌜ now (scratch .exit) ≡ replicate (length (now (scratch .entry))) 0 ⌝ }
 {
     let parsed = parse::parse(other, scratch);
     let same = parsed_alike(text, other, words, count, scratch, parsed);

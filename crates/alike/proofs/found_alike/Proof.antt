@@ -1,34 +1,38 @@
--- `writer::back::alike` meets its contract. The invariant: the tokens that are left of both decide.
+-- `alike::found_alike` meets its contract. The invariant: the tokens that are left of both decide.
 -- Assumes nothing.
 use borrow.Author.Needs.{needs}
 use borrow.Author.Tests.{not-true, not-false}
 use Prim.Native.Nat.{_-_}
-use Rattle.writer.proofs.Same.{Beside, found-other, found-short, beside, beside-on, beside-not, beside-end}
 use native.Mathlib.Omega.{arith}
-use Rattle.writer.proofs.back.alike.Statement.{statement}
-use Rattle.writer.proofs.back.alike.Tie as tie
+use Rattle.tape.specs.Words.{tokens-in}
+use Rattle.alike.proofs.Same.{Beside, found-other, found-short, beside, beside-on, beside-not, beside-end}
+use Rattle.alike.proofs.found_alike.Statement.{statement}
+use Rattle.alike.proofs.found_alike.Tie as tie
 
 abbrev Inv-loop : tie.InvT-loop
-Inv-loop text other words count tape found i₀ i = Beside text other words tape count found i
+Inv-loop text other words count tape found i₀ i = Beside text other (tokens-in words count) tape found i
 
 abbrev μ-loop : tie.MeasureT-loop
-μ-loop text other words count tape found i₀ i = count - i
+μ-loop text other words count tape found i₀ i = found - i
+
+held-requires : tie.Need-held-requires Inv-loop μ-loop
+held-requires c κs = search needs
 
 returns : tie.Need-returns Inv-loop μ-loop
-returns c = found-other _ _ _ _ _ _ (c .before .before .before .before .before .pre) (c .if1 .taken)
+returns c = found-other _ _ _ _ _ (c .before .held .ensures) (c .if1 .taken)
 
 holds-requires : tie.Need-holds-requires Inv-loop μ-loop
 holds-requires c κs = search needs
 
 returns-2 : tie.Need-returns-2 Inv-loop μ-loop
 returns-2 c =
-    found-short _ _ _ _ _ _ (c .before .before .before .before .before .before .before .pre) (c .before .before .if1 .left)
-    (c .before .holds .ensures) (not-true _ (c .if2 .taken))
+    let counted = c .before .before in
+    found-short _ _ _ _ _ (counted .before .held .ensures) (counted .if1 .left) (c .before .holds .ensures) (not-true _ (c .if2 .taken))
 
 loop-holds : tie.Need-loop-holds Inv-loop μ-loop
 loop-holds c =
-    beside _ _ _ _ _ _ (c .before .before .before .before .before .before .before .pre) (c .before .before .if1 .left)
-    (c .before .holds .ensures) (not-false _ (c .if2 .left))
+    let counted = c .before .before in
+    beside _ _ _ _ _ (counted .before .held .ensures) (counted .if1 .left) (c .before .holds .ensures) (not-false _ (c .if2 .left))
 
 token-of-requires : tie.Need-token-of-requires Inv-loop μ-loop
 token-of-requires c κs = search needs
@@ -62,12 +66,13 @@ loop-again c =
 returns-4 : tie.Need-returns-4 Inv-loop μ-loop
 returns-4 c = beside-end _ _ _ _ _ _ _ (c .before .loop .inv) (c .loop-test .left)
 
-pub alike-spec : {M : Type 1} → statement M
-alike-spec =
+pub found-alike-spec : {M : Type 1} → statement M
+found-alike-spec =
     tie.close
     (tie.spec
     Inv-loop
     μ-loop
+    held-requires
     returns
     holds-requires
     returns-2

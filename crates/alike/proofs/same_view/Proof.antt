@@ -1,12 +1,12 @@
--- `writer::back::same_view` meets its contract: the lengths differ, or the bytes decide.
+-- `alike::same_view` meets its contract: the lengths differ, or the bytes decide.
 -- Assumes nothing.
 use borrow.Author.Needs.{needs}
 use mathlib.Core.Path.{_∙_}
 use borrow.Author.Tests.{eq-eqb}
-use Rattle.writer.specs.Alike.{same-view}
-use Rattle.writer.proofs.Same.{view-other}
-use Rattle.writer.proofs.back.same_view.Statement.{statement}
-use Rattle.writer.proofs.back.same_view.Tie as tie
+use Rattle.alike.specs.Alike.{same-view}
+use Rattle.alike.proofs.Same.{view-other}
+use Rattle.alike.proofs.same_view.Statement.{statement}
+use Rattle.alike.proofs.same_view.Tie as tie
 
 returns : tie.Need-returns
 returns c = view-other _ _ _ _ (c .if1 .taken)

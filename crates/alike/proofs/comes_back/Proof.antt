@@ -1,11 +1,11 @@
--- `writer::back::comes_back` meets its contract: what the parse answered and left is held against the sheet, and the tape is cleared.
+-- `alike::comes_back` meets its contract: what the parse answered and left is held against the sheet, and the tape is cleared.
 -- Assumes nothing.
 use borrow.Author.Needs.{needs}
 use mathlib.Core.Path.{ap, _∙_}
-use Rattle.writer.specs.Alike.{comes-back}
-use Rattle.writer.proofs.Left.{tape-cleared}
-use Rattle.writer.proofs.back.comes_back.Statement.{statement}
-use Rattle.writer.proofs.back.comes_back.Tie as tie
+use Rattle.alike.specs.Alike.{comes-back}
+use Rattle.alike.proofs.Same.{all-cleared}
+use Rattle.alike.proofs.comes_back.Statement.{statement}
+use Rattle.alike.proofs.comes_back.Tie as tie
 
 parse-requires : tie.Need-parse-requires
 parse-requires c κs = search needs
@@ -24,7 +24,7 @@ returns c =
     let held = c .before .before .before .before in
     let parsed = held .before .before .before .before in (
       held .parsed-alike .ensures ∙ ap (comes-back _ _ _) (parsed .parse .ensures),
-      tape-cleared _ (c .before .before .clear-from .ensures) (parsed .parse .kept .1 .0),
+      all-cleared _ (c .before .before .clear-from .ensures) (parsed .parse .kept .1 .0),
     )
 
 pub comes-back-spec : {M : Type 1} → statement M
