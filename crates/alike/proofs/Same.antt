@@ -1,21 +1,19 @@
 -- Two sheets held against each other, a token at a time.
 -- Assumes nothing.
-use mathlib.Core.Path.{_≡_, refl, sym, _∙_, ap}
-use mathlib.Core.Bool.{Bool, true, false, _&&_}
-use mathlib.Core.List.{List, [], _∷_}
-use Prim.Native.Nat.{ℕ, suc, _+_, _≤_, _<_}
-use native.Mathlib.Numerals.{add-one}
+use mathlib.Core.Path.{_≡_, sym, _∙_, ap}
+use mathlib.Core.Bool.{Bool, true, false}
+use mathlib.Core.List.{List}
+use Prim.Native.Nat.{ℕ, _+_, _≤_, _<_}
 use native.Mathlib.Omega.{arith}
 use borrow.Author.Tests.{eq-eqb, ne-eqb, leb-true, leb-false}
 use lib.Dec.{eqb, leb}
-use lib.ListN.{length, drop, replicate, drop-of-length-le}
-use lib.Seq.{drop-cons}
-use Rattle.data.proofs.Cases.{by-bool}
+use lib.ListN.{length, drop, replicate}
+use Rattle.data.proofs.Pairs.{pairs-on, pairs-not, pairs-end, pairs-lengths}
 use Rattle.data.proofs.Told.{as-told}
 use Rattle.tape.specs.declared.token.Token.{Token}
 use Rattle.tape.specs.declared.token.ScalarKind.{ScalarKind}
 use Rattle.tape.specs.declared.token.ScalarNamed.the-variants.{Kind, Nothing}
-use Rattle.tape.specs.Token.{no-token, nth, scalar-named}
+use Rattle.tape.specs.Token.{no-token, scalar-named}
 use Rattle.tape.specs.Words.{words-for, tokens-in, token-in, cleared}
 use Rattle.tape.proofs.Views.{tokens-length, tokens-counted}
 use Rattle.machine.specs.declared.Parsed.{Parsed}
@@ -51,37 +49,6 @@ pub word-same : (x y : Token) → x .a ≡ y .a → eqb (x .b) (y .b) ≡ same-w
 unfolding same-words
 word-same x y h = rw (same-words, eq-eqb _ _ h)
 
--- ---- the tokens from an index on
-module _ (text other : List ℕ) (xs ys : List Token) (i : ℕ) where
-  alike-next : i < length xs → i < length ys
-      → alike text other (drop i xs) (drop i ys)
-      ≡ (same-token text other (nth xs i) (nth ys i) && alike text other (drop (i + 1) xs) (drop (i + 1) ys))
-  unfolding alike
-  alike-next h g = rw (drop-cons xs i no-token h, drop-cons ys i no-token g, add-one i)
-
-  pub alike-on : i < length xs → i < length ys → same-token text other (nth xs i) (nth ys i) ≡ true
-      → alike text other (drop i xs) (drop i ys) ≡ alike text other (drop (i + 1) xs) (drop (i + 1) ys)
-  alike-on h g e = alike-next h g ∙ rw e
-
-  pub alike-not : i < length xs → i < length ys → same-token text other (nth xs i) (nth ys i) ≡ false
-      → alike text other (drop i xs) (drop i ys) ≡ false
-  alike-not h g e = alike-next h g ∙ rw e
-
-  pub alike-end : length xs ≤ i → length ys ≤ i → alike text other (drop i xs) (drop i ys) ≡ true
-  unfolding alike
-  alike-end h g = rw (drop-of-length-le xs h, drop-of-length-le ys g)
-
--- sheets of different lengths are not alike
-pub other-count : (text other : List ℕ) (xs ys : List Token) → (length xs ≡ length ys → ⊥) → alike text other xs ys ≡ false
-unfolding alike
-other-count text other [] [] h = absurd (h refl)
-other-count text other [] (y ∷ ys) h = refl
-other-count text other (x ∷ xs) [] h = refl
-other-count text other (x ∷ xs) (y ∷ ys) h =
-    by-bool (same-token text other x y)
-    (λ e. rw e (other-count text other xs ys (λ same. h (ap suc same))))
-    (λ e. rw e)
-
 -- ---- a parse that found tokens tells what they tell
 pub back-found : (text other : List ℕ) (ts : List Token) (tape : List ℕ) {p : Parsed} {n : ℕ} {bom r : Bool} → p ≡ Tokens n bom
     → r ≡ found-alike text other ts n tape → r ≡ comes-back text other ts (outcome p tape)
@@ -114,7 +81,7 @@ module _ (text other : List ℕ) (ts : List Token) (tape : List ℕ) (found : �
     found-short f =
         let short = leb-false (words-for found) (length tape) (sym told ∙ f) in
         let fewer : length ts ≡ length (tokens-in tape found) → ⊥ = λ z. omega (arith, z, short, same, held, tokens-length tape found) in
-        sym (counted ∙ other-count text other _ _ fewer)
+        sym (counted ∙ pairs-lengths (same-token text other) _ _ fewer)
 
     pub beside : r ≡ true → Beside text other ts tape found 0
     beside f =
@@ -130,7 +97,7 @@ module _ (text other words tape : List ℕ) (count found i : ℕ) (b : Beside te
   unfolding token-in
   beside-on h e f s t =
       record {
-        decides = b .decides ∙ alike-on text other _ _ i (omega (arith, b .here)) (omega (arith, b .there))
+        decides = b .decides ∙ pairs-on (same-token text other) no-token _ _ i (omega (arith, b .here)) (omega (arith, b .there))
             (sym (ap (λ (z : Token). same-token text other z (token-in tape found i)) e) ∙ sym (ap (same-token text other _) f) ∙ sym s ∙ t);
         here = b .here;
         there = b .there;
@@ -140,8 +107,8 @@ module _ (text other words tape : List ℕ) (count found i : ℕ) (b : Beside te
       → r ≡ same-token text other x y → r ≡ false → false ≡ found-alike text other (tokens-in words count) found tape
   unfolding token-in
   beside-not h e f s t =
-      sym (b .decides ∙ alike-not text other _ _ i (omega (arith, b .here)) (omega (arith, b .there))
+      sym (b .decides ∙ pairs-not (same-token text other) no-token _ _ i (omega (arith, b .here)) (omega (arith, b .there))
       (sym (ap (λ (z : Token). same-token text other z (token-in tape found i)) e) ∙ sym (ap (same-token text other _) f) ∙ sym s ∙ t))
 
   pub beside-end : found ≤ i → true ≡ found-alike text other (tokens-in words count) found tape
-  beside-end h = sym (b .decides ∙ alike-end text other _ _ i (omega (arith, b .here)) (omega (arith, b .there)))
+  beside-end h = sym (b .decides ∙ pairs-end (same-token text other) _ _ i (omega (arith, b .here)) (omega (arith, b .there)))

@@ -1,9 +1,10 @@
 -- Whether two sheets are the same tokens, each over its own text: the same codes, words and scalar bytes, offsets aside.
 use Prim.Native.Nat.{ℕ}
-use mathlib.Core.Bool.{Bool, true, false, _&&_}
-use mathlib.Core.List.{List, [], _∷_}
+use mathlib.Core.Bool.{Bool, false, _&&_}
+use mathlib.Core.List.{List}
 use lib.Dec.{eqb}
 use lib.ListN.{length}
+use Rattle.data.specs.Pairs.{pairwise}
 use Rattle.put.specs.Equal.{equal-bytes}
 use Rattle.put.specs.Parts.{view-of}
 use Rattle.tape.specs.declared.token.Token.{Token}
@@ -27,11 +28,8 @@ same-token text other x y =
     eqb (x .code) (y .code) && elim (scalar-named (x .code)) [ Kind kind ↦ same-view text other x y | Nothing ↦ same-words x y ]
 
 -- as many tokens, and each like the other's
-unfoldable pub alike : List ℕ → List ℕ → List Token → List Token → Bool
-alike text other [] [] = true
-alike text other [] (y ∷ ys) = false
-alike text other (x ∷ xs) [] = false
-alike text other (x ∷ xs) (y ∷ ys) = same-token text other x y && alike text other xs ys
+abbrev pub alike : List ℕ → List ℕ → List Token → List Token → Bool
+alike text other xs ys = pairwise (same-token text other) xs ys
 
 -- whether so many tokens that were found on a tape are a sheet's: the count, and each of them
 unfoldable pub found-alike : List ℕ → List ℕ → List Token → ℕ → List ℕ → Bool

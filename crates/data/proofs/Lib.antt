@@ -1,3 +1,4 @@
 pub mod Cases
 pub mod Boundary
+pub mod Pairs
 pub mod Told

@@ -3,49 +3,29 @@
 use mathlib.Core.Path.{_≡_, refl, sym, _∙_, ap}
 use mathlib.Core.Bool.{Bool, true, false, _&&_, false≢true}
 use mathlib.Core.List.{List, [], _∷_, _++_}
-use Prim.Native.Nat.{ℕ, suc, _+_, _≤_, _<_}
-use native.Mathlib.Numerals.{add-one}
+use Prim.Native.Nat.{ℕ, _+_, _≤_, _<_}
 use native.Mathlib.Omega.{arith}
 use borrow.Author.Tests.{eqb-true, eq-eqb, ne-eqb}
 use lib.Dec.{eqb}
-use lib.ListN.{length, getD, take, drop, drop-of-length-le}
-use lib.Seq.{drop-cons, take-add, take-take, take-all}
+use lib.ListN.{length, getD, take, drop}
+use lib.Seq.{take-add, take-take, take-all}
+use Rattle.data.specs.Pairs.{pairwise}
 use Rattle.data.proofs.Cases.{by-bool}
+use Rattle.data.proofs.Pairs.{pairs-on, pairs-not, pairs-self}
 use Rattle.put.specs.Equal.{equal-bytes}
 use Rattle.put.proofs.Strides.{four-from}
 
--- runs of different lengths are not the same
-pub equal-lengths : (a b : List ℕ) → (length a ≡ length b → ⊥) → false ≡ equal-bytes a b
-unfolding equal-bytes
-equal-lengths [] [] h = absurd (h refl)
-equal-lengths [] (c ∷ cs) h = refl
-equal-lengths (b ∷ bs) [] h = refl
-equal-lengths (b ∷ bs) (c ∷ cs) h =
-    by-bool (eqb b c)
-    (λ e. rw e (equal-lengths bs cs (λ same. h (ap suc same))))
-    (λ e. rw e)
+module _ (a b : List ℕ) (i : ℕ) (early : i < length a) (late : i < length b) where
+  -- a byte at a time
+  pub equal-on : getD a i 0 ≡ getD b i 0 → equal-bytes (drop i a) (drop i b) ≡ equal-bytes (drop (i + 1) a) (drop (i + 1) b)
+  equal-on e = pairs-on eqb 0 a b i early late (eq-eqb _ _ e)
 
-module _ (a b : List ℕ) (i : ℕ) where
-  -- from an index on: the next byte, and what follows
-  equal-next : i < length a → i < length b
-      → equal-bytes (drop i a) (drop i b) ≡ (eqb (getD a i 0) (getD b i 0) && equal-bytes (drop (i + 1) a) (drop (i + 1) b))
-  unfolding equal-bytes
-  equal-next h g = rw (drop-cons a i 0 h, drop-cons b i 0 g, add-one i)
-
-  pub equal-on : i < length a → i < length b → getD a i 0 ≡ getD b i 0
-      → equal-bytes (drop i a) (drop i b) ≡ equal-bytes (drop (i + 1) a) (drop (i + 1) b)
-  equal-on h g e = equal-next h g ∙ rw (eq-eqb _ _ e)
-
-  pub equal-not : i < length a → i < length b → (getD a i 0 ≡ getD b i 0 → ⊥) → equal-bytes (drop i a) (drop i b) ≡ false
-  equal-not h g e = equal-next h g ∙ rw (ne-eqb _ _ e)
-
-  pub equal-end : length a ≤ i → length b ≤ i → equal-bytes (drop i a) (drop i b) ≡ true
-  unfolding equal-bytes
-  equal-end h g = rw (drop-of-length-le a h, drop-of-length-le b g)
+  pub equal-not : (getD a i 0 ≡ getD b i 0 → ⊥) → equal-bytes (drop i a) (drop i b) ≡ false
+  equal-not e = pairs-not eqb 0 a b i early late (ne-eqb _ _ e)
 
 -- the same bytes are the same run
 pub equal-are : (a b : List ℕ) → equal-bytes a b ≡ true → a ≡ b
-unfolding equal-bytes
+unfolding pairwise
 equal-are [] [] e = refl
 equal-are [] (c ∷ cs) e = absurd (false≢true e)
 equal-are (b ∷ bs) [] e = absurd (false≢true e)
@@ -56,16 +36,14 @@ equal-are (b ∷ bs) (c ∷ cs) e =
 
 -- and every run is the same as itself
 pub equal-self : (a : List ℕ) → equal-bytes a a ≡ true
-unfolding equal-bytes
-equal-self [] = refl
-equal-self (b ∷ bs) = rw (eq-eqb b b refl) (equal-self bs)
+equal-self a = pairs-self eqb (λ b. eq-eqb b b refl) a
 
 -- four bytes, all of them looked at
 pub four-equal : (a b : List ℕ) (i : ℕ) → i + 4 ≤ length a → i + 4 ≤ length b
     → (((eqb (getD a i 0) (getD b i 0) && eqb (getD a (i + 1) 0) (getD b (i + 1) 0)) && eqb (getD a (i + 2) 0) (getD b (i + 2) 0))
     && eqb (getD a (i + 3) 0) (getD b (i + 3) 0))
     ≡ equal-bytes (take 4 (drop i a)) (take 4 (drop i b))
-unfolding equal-bytes
+unfolding pairwise
 four-equal a b i h g =
     rw (four-from a i h, four-from b i g)
     (regroup (eqb (getD a i 0) (getD b i 0)) (eqb (getD a (i + 1) 0) (getD b (i + 1) 0)) (eqb (getD a (i + 2) 0) (getD b (i + 2) 0))

@@ -1,12 +1,10 @@
 -- Whether two runs of bytes are the same.
 use Prim.Native.Nat.{ℕ}
-use mathlib.Core.Bool.{Bool, true, false, _&&_}
-use mathlib.Core.List.{List, [], _∷_}
+use mathlib.Core.Bool.{Bool}
+use mathlib.Core.List.{List}
 use lib.Dec.{eqb}
+use Rattle.data.specs.Pairs.{pairwise}
 
--- as many, and each the other's
-unfoldable pub equal-bytes : List ℕ → List ℕ → Bool
-equal-bytes [] [] = true
-equal-bytes [] (c ∷ cs) = false
-equal-bytes (b ∷ bs) [] = false
-equal-bytes (b ∷ bs) (c ∷ cs) = eqb b c && equal-bytes bs cs
+-- as many bytes, and each the other's
+abbrev pub equal-bytes : List ℕ → List ℕ → Bool
+equal-bytes a b = pairwise eqb a b

@@ -27,14 +27,14 @@ use Rattle.parse.specs.ArrayValue.{array-close, operator-then, after-end, unmix
 use Rattle.machine.specs.Start.{has-bom, start}
 use Rattle.parse.specs.Parse.{state-turn, turn, run, parse-of}
 use Rattle.promises.specs.Cases.{bytes}
-use Rattle.put.specs.Equal.{equal-bytes}
+use Rattle.data.specs.Pairs.{pairwise}
 use Rattle.writer.specs.Forest.{forest-in, stretch, forest-of}
 use Rattle.writer.specs.Pieces.{piece-of, sign-bytes, own-bytes}
 use Rattle.writer.specs.Dues.{due-after}
 use Rattle.writer.specs.Form.{takes, has-form}
 use Rattle.writer.specs.Text.{piece-text, body-text}
 use Rattle.writer.specs.Levels.{levels}
-use Rattle.alike.specs.Alike.{same-view, same-words, same-token, alike, found-alike}
+use Rattle.alike.specs.Alike.{same-view, same-words, same-token, found-alike}
 use Rattle.writer.specs.Write.{text-of, first-there, weigh, read-back, write-of}
 use Rattle.sheet.specs.Sound.{Sheet}
 use Rattle.promises.specs.Each.{Each}
@@ -50,7 +50,7 @@ unfolding bytes refused cases is-boundary is-blank blanks-from comment-from skip
     scalar-then key-byte key-close key-turn mix-then separator-then separator-turn object-value-turn open-byte settle open-empty open-brace
     flag-parent follows-key open-as open-scalar parse-open-turn begins-operator value-byte array-close operator-then after-end
     unmixed-operator array-operator array-value-turn state-turn turn run has-bom start parse-of forest-in stretch forest-of piece-of
-    sign-bytes own-bytes due-after takes has-form piece-text body-text levels equal-bytes same-view same-words same-token alike found-alike
+    sign-bytes own-bytes due-after takes has-form piece-text body-text levels pairwise same-view same-words same-token found-alike
     text-of first-there weigh read-back write-of
 cases-hold = refl
 

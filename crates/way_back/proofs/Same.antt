@@ -7,6 +7,8 @@ use Prim.Native.Nat.{ℕ, zero, suc}
 use borrow.Author.Tests.{eqb-true, eq-eqb}
 use lib.Dec.{eqb}
 use lib.ListN.{length}
+use Rattle.data.specs.Pairs.{pairwise}
+use Rattle.data.proofs.Pairs.{pairs-self}
 use Rattle.put.proofs.Equality.{equal-are, equal-self}
 use Rattle.tape.specs.declared.token.Token.{Token}
 use Rattle.tape.specs.declared.token.ScalarKind.{ScalarKind}
@@ -66,14 +68,14 @@ module _ (text other : List ℕ) where
 
   -- ---- lists
   pub alike-length : (xs ys : List Token) → alike text other xs ys ≡ true → length xs ≡ length ys
-  unfolding alike
+  unfolding pairwise
   alike-length [] [] h = refl
   alike-length [] (y ∷ ys) h = absurd (false≢true h)
   alike-length (x ∷ xs) [] h = absurd (false≢true h)
   alike-length (x ∷ xs) (y ∷ ys) h = ap suc (alike-length xs ys (second-of (same-token text other x y) _ h))
 
   pub alike-at : (xs ys : List Token) → alike text other xs ys ≡ true → (i : ℕ) → Same text other (nth xs i) (nth ys i)
-  unfolding alike scalar-named
+  unfolding pairwise scalar-named
   alike-at [] [] h i = same refl refl
   alike-at [] (y ∷ ys) h i = absurd (false≢true h)
   alike-at (x ∷ xs) [] h i = absurd (false≢true h)
@@ -82,16 +84,16 @@ module _ (text other : List ℕ) where
 
   pub alike-one : {x y : Token} → Same text other x y → (xs ys : List Token) → alike text other xs ys ≡ true
       → alike text other (x ∷ xs) (y ∷ ys) ≡ true
-  unfolding alike
+  unfolding pairwise
   alike-one {x} {y} s xs ys h = both (same-holds x y s) h
 
   pub alike-none : alike text other [] [] ≡ true
-  unfolding alike
+  unfolding pairwise
   alike-none = refl
 
   pub alike-append : (xs ys us vs : List Token) → alike text other xs ys ≡ true → alike text other us vs ≡ true
       → alike text other (xs ++ us) (ys ++ vs) ≡ true
-  unfolding alike
+  unfolding pairwise
   alike-append [] [] us vs h g = g
   alike-append [] (y ∷ ys) us vs h g = absurd (false≢true h)
   alike-append (x ∷ xs) [] us vs h g = absurd (false≢true h)
@@ -109,5 +111,4 @@ same-self text x = go (scalar-named (x .code)) refl
         viewed kind (x .a) (x .a) (x .b) e e refl
 
 pub alike-self : (text : List ℕ) (xs : List Token) → alike text text xs xs ≡ true
-alike-self text [] = alike-none text text
-alike-self text (x ∷ xs) = alike-one text text (same-self text x) xs xs (alike-self text xs)
+alike-self text xs = pairs-self (same-token text text) (λ x. same-holds text text x x (same-self text x)) xs

@@ -8,6 +8,7 @@ use Prim.Native.Nat.{ℕ, suc, _≤_}
 use native.Mathlib.Omega.{arith}
 use lib.Dec.{eqb, ltb}
 use lib.ListN.{length}
+use Rattle.data.specs.Pairs.{pairwise}
 use Rattle.data.proofs.Cases.{by-bool}
 use Rattle.tape.specs.declared.token.Token.{Token}
 use Rattle.tape.specs.declared.token.ScalarKind.{ScalarKind}
@@ -66,7 +67,7 @@ module _ (text other : List ℕ) where
         go (Kind kind) n = rw (same-token, same-token, n, v (x .a) (x .b) (named-views x kind n))
 
     alike-read : (ts us : List Token) → Same-views text other ts → alike text bytes ts us ≡ alike other bytes ts us
-    unfolding alike
+    unfolding pairwise
     alike-read [] [] v = refl
     alike-read [] (y ∷ us) v = refl
     alike-read (x ∷ ts) [] v = refl

@@ -1,12 +1,14 @@
 -- `put::equal::equal_bytes` meets its contract: the lengths differ, or either way tells the same.
 -- Assumes nothing.
 use borrow.Author.Needs.{needs}
-use Rattle.put.proofs.Equality.{equal-lengths}
+use mathlib.Core.Path.{sym}
+use lib.Dec.{eqb}
+use Rattle.data.proofs.Pairs.{pairs-lengths}
 use Rattle.put.proofs.equal.equal_bytes.Statement.{statement}
 use Rattle.put.proofs.equal.equal_bytes.Tie as tie
 
 returns : tie.Need-returns
-returns c = equal-lengths _ _ (c .if1 .taken)
+returns c = sym (pairs-lengths eqb _ _ (c .if1 .taken))
 
 equal-each-requires : tie.Need-equal-each-requires
 equal-each-requires c κs = search needs

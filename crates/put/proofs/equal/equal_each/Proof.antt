@@ -3,9 +3,11 @@
 use borrow.Author.Needs.{needs}
 use Prim.Native.Nat.{_-_}
 use mathlib.Core.Path.{_≡_, refl, sym, _∙_}
+use lib.Dec.{eqb}
 use lib.ListN.{length, drop}
 use Rattle.put.specs.Equal.{equal-bytes}
-use Rattle.put.proofs.Equality.{equal-on, equal-not, equal-end}
+use Rattle.data.proofs.Pairs.{pairs-end}
+use Rattle.put.proofs.Equality.{equal-on, equal-not}
 use native.Mathlib.Omega.{arith}
 use Rattle.put.proofs.equal.equal_each.Statement.{statement}
 use Rattle.put.proofs.equal.equal_each.Tie as tie
@@ -47,7 +49,7 @@ returns-2 : tie.Need-returns-2 Inv-loop μ-loop
 returns-2 c =
     let at-loop = c .before in
     let args = at-loop .before .args in
-    sym (at-loop .loop .inv .0 ∙ equal-end (args .a .now) (args .b .now) (at-loop .loop .i) (omega arith) (omega arith))
+    sym (at-loop .loop .inv .0 ∙ pairs-end eqb (args .a .now) (args .b .now) (at-loop .loop .i) (omega arith) (omega arith))
 
 pub equal-each-spec : {M : Type 1} → statement M
 equal-each-spec =
