@@ -19,7 +19,7 @@ use Rattle.tape.proofs.Views.{tokens-length, tokens-counted}
 use Rattle.machine.specs.declared.Parsed.{Parsed}
 use Rattle.machine.specs.declared.Parsed.the-variants.{Tokens}
 use Rattle.machine.specs.Finish.{outcome}
-use Rattle.machine.proofs.Clearing.{cleared-whole}
+use Rattle.tape.proofs.Clearing.{cleared-whole}
 use Rattle.alike.specs.Alike.{same-view, same-words, same-token, alike, found-alike, comes-back}
 
 -- ---- one token

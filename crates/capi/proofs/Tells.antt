@@ -1,4 +1,4 @@
--- What the calls below answer is what C is told: one law for the readings, one for each answer of a parse, of a view and of the way back.
+-- What the calls below answer is what C is told: one law for the readings, one for each answer of a parse, of a view, of the way back and of sheet files.
 -- Assumes nothing.
 use Prim.Native.Nat.{ℕ}
 use mathlib.Core.Bool.{Bool}
@@ -21,7 +21,16 @@ use Rattle.writer.specs.declared.Written.the-variants as Written
 use Rattle.writer.specs.declared.Written.the-variants.{Text}
 use Rattle.writer.specs.Refusals.{number as unwritten-number}
 use Rattle.writer.specs.Write.{Left, left}
-use Rattle.capi.specs.Told.{read-told, view-told, tell-view, write-told, tell-write}
+use Rattle.file.specs.declared.Refusal as unfiled
+use Rattle.file.specs.declared.Written as file-written
+use Rattle.file.specs.declared.Written.the-variants as FileWritten
+use Rattle.file.specs.declared.Written.the-variants.{File}
+use Rattle.file.specs.declared.Found.{Found}
+use Rattle.file.specs.declared.Found.the-variants as Found
+use Rattle.file.specs.Refusals.{number as unfiled-number}
+use Rattle.file.specs.Files as file
+use Rattle.file.proofs.Reading.{reads-told}
+use Rattle.capi.specs.Told.{read-told, view-told, tell-view, write-told, tell-write, file-told, tell-file, sheet-told, tell-sheet}
 
 -- the refusal and the value of a reading, told as they are
 pub reads : {Read Value : Type 0} (refusal : Read → ℕ) (value : Read → Value) {told said : ℕ} {v : Value} {read spec : Read} →
@@ -59,3 +68,27 @@ module _ {Holds : Type 0} (answer : Bool → Left) {w : Written} {out scratch : 
   tells-unwritten e f =
       decided-as answer tell-write d
       (ap (λ (k : ℕ). write-told k 0 out scratch) f ∙ ap (λ (x : Written). tell-write (left x out scratch)) (sym e))
+
+-- a sheet file written, by whether the sheet is sound: a file, and a refusal
+module _ {Holds : Type 0} (answer : Bool → file.Left file-written.Written) {w : file-written.Written} {out : List ℕ}
+    (d : Decided Holds answer (file.left w out)) where
+  pub tells-file : {size : ℕ} → w ≡ File size → Decided Holds (λ (sound : Bool). tell-file (answer sound)) (file-told 0 size out)
+  tells-file e = decided-as answer tell-file d (ap (λ (x : file-written.Written). tell-file (file.left x out)) (sym e))
+
+  pub tells-unfiled : {n : ℕ} {why : unfiled.Refusal} → w ≡ FileWritten.Refused why → n ≡ unfiled-number why
+      → Decided Holds (λ (sound : Bool). tell-file (answer sound)) (file-told n 0 out)
+  tells-unfiled e f =
+      decided-as answer tell-file d
+      (ap (λ (k : ℕ). file-told k 0 out) f ∙ ap (λ (x : file-written.Written). tell-file (file.left x out)) (sym e))
+
+-- and one read: a sheet, and a refusal
+module _ (bytes : List ℕ) (room : ℕ) (found : Found) (words : List ℕ) (d : file.Reads bytes room (file.left found words)) where
+  pub tells-sheet : {text-length count : ℕ} → found ≡ Found.Sheet text-length count
+      → file.Reads-as tell-sheet bytes room (sheet-told 0 text-length count words)
+  tells-sheet e = reads-told tell-sheet bytes room d (ap (λ (x : Found). tell-sheet (file.left x words)) (sym e))
+
+  pub tells-unread : {n : ℕ} {why : unfiled.Refusal} → found ≡ Found.Refused why → n ≡ unfiled-number why
+      → file.Reads-as tell-sheet bytes room (sheet-told n 0 0 words)
+  tells-unread e f =
+      reads-told tell-sheet bytes room d
+      (ap (λ (k : ℕ). sheet-told k 0 0 words) f ∙ ap (λ (x : Found). tell-sheet (file.left x words)) (sym e))

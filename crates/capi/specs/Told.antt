@@ -14,6 +14,10 @@ use Rattle.scalar.specs.declared.float.F64Read.{F64Read}
 use Rattle.sheet.specs.declared.views.Viewed.{Viewed}
 use Rattle.sheet.specs.declared.views.Viewed.the-variants.{At, NoScalar}
 use Rattle.sheet.specs.Views.{refusal-of}
+use Rattle.file.specs.declared.Written as file-written
+use Rattle.file.specs.declared.Found.{Found}
+use Rattle.file.specs.Refusals.{write-refusal, size-of, read-refusal, text-length-of, count-of}
+use Rattle.file.specs.Files as file
 use Rattle.tape.specs.declared.token.Token.{Token}
 use Rattle.writer.specs.Refusals.{length-of}
 use Rattle.writer.specs.Refusals.{refusal-of as write-refusal-of}
@@ -35,6 +39,20 @@ pub data WriteTold : Type 0 where
 -- a refusal has no text
 abbrev pub tell-write : Left → WriteTold
 tell-write (left w out scratch) = write-told (write-refusal-of w) (length-of w) out scratch
+
+-- a sheet file written: its refusal, its length, and the buffer as it leaves it
+pub data FileTold : Type 0 where
+  file-told : (refusal size : ℕ) → List ℕ → FileTold
+
+abbrev pub tell-file : file.Left file-written.Written → FileTold
+tell-file (file.left w out) = file-told (write-refusal w) (size-of w) out
+
+-- and one read: its refusal, the text's length, the count, and the words as it leaves them
+pub data SheetTold : Type 0 where
+  sheet-told : (refusal text-length count : ℕ) → List ℕ → SheetTold
+
+abbrev pub tell-sheet : file.Left Found → SheetTold
+tell-sheet (file.left f words) = sheet-told (read-refusal f) (text-length-of f) (count-of f) words
 
 -- a reading: its refusal and its value
 pub data ReadTold (Value : Type 0) : Type 0 where

@@ -1,6 +1,7 @@
-// The calls for C: parse, check, views, tokens, the way back and readings under plain names, on slices (a pointer and a length),
+// The calls for C: parse, check, views, tokens, the way back, sheet files and readings under plain names, on slices (a pointer and a length),
 // pointers to single numbers, and numbers. Each answers document 01's number of a refusal, 0 for none, and writes through
 // every pointer that it is given, whatever it answers.
+use file::Found;
 use machine::Parsed;
 use sheet::views;
 use sheet::views::Viewed;
@@ -22,7 +23,11 @@ ghost use Rattle.sheet.specs.Views.{viewed};
 ghost use Rattle.sheet.specs.Decided.{Decided};
 ghost use Rattle.tape.specs.Words.{token-in, tokens-in};
 ghost use Rattle.writer.specs.Write.{write-of};
+ghost use Rattle.file.specs.Files as file;
+ghost use Rattle.file.specs.Files.{Reads-as};
+ghost use Rattle.file.specs.declared.layout.Version.the-variants.{V1};
 ghost use Rattle.capi.specs.Told.{view-told, tell-view, token-told, tell-token, write-told, tell-write};
+ghost use Rattle.capi.specs.Told.{file-told, tell-file, sheet-told, tell-sheet};
 ghost use Rattle.capi.specs.Told.{read-told, tell-bool, tell-u64, tell-i64, tell-f64};
 
 // 1 for yes and 0 for no.
@@ -150,6 +155,59 @@ pub extern "C" fn tackacorn_write(
         }
         Written::Refused(refusal) => {
             *written = 0;
+            refusal.number()
+        }
+    }
+}
+
+// Writes a sheet as a sheet file into a lent buffer.
+#[no_mangle]
+pub extern "C" fn tackacorn_sheet_write(
+    text_length: usize,
+    words: &[u32],
+    count: usize,
+    out: &mut [u8],
+    written: &mut usize,
+) -> u32
+    ensures { λ r. ⌜ Decided (Sound «text_length» (now (words .entry)) count)
+        (λ (sound : Bool). tell-file (file.write-of V1 «text_length» (tokens-in (now (words .entry)) count) (length (now (out .entry))) sound))
+        (file-told r (now (written .exit)) (now (out .exit))) ⌝ }
+{
+    match file::write(text_length, words, count, out) {
+        file::Written::File(size) => {
+            *written = size;
+            0
+        }
+        file::Written::Refused(refusal) => {
+            *written = 0;
+            refusal.number()
+        }
+    }
+}
+
+// Reads any bytes as a sheet file onto lent words.
+#[no_mangle]
+pub extern "C" fn tackacorn_sheet_read(
+    bytes: &[u8],
+    words: &mut [u32],
+    text_length: &mut usize,
+    count: &mut u32,
+) -> u32
+    ensures { λ r. ⌜ Reads-as tell-sheet (now (bytes .entry)) (length (now (words .entry)))
+        (sheet-told r (now («text_length» .exit)) (now (count .exit)) (now (words .exit))) ⌝ }
+{
+    match file::read(bytes, words) {
+        Found::Sheet {
+            text_length: length,
+            count: tokens,
+        } => {
+            *text_length = length as usize;
+            *count = tokens;
+            0
+        }
+        Found::Refused(refusal) => {
+            *text_length = 0;
+            *count = 0;
             refusal.number()
         }
     }

@@ -1,3 +1,4 @@
 pub mod Bytes
 pub mod Classes
 pub mod Pairs
+pub mod Reasons

@@ -1,2 +1,1 @@
 pub mod Among
-pub mod Clearing

@@ -1,8 +1,9 @@
 -- Zeros from a place on, a byte at a time.
 -- Assumes nothing.
-use mathlib.Core.Path.{_≡_, sym}
+use mathlib.Core.Path.{_≡_, sym, _∙_, ap}
 use mathlib.Core.List.{List, _++_, append-nil}
 use Prim.Native.Nat.{ℕ, suc, _+_, _-_, _<_, _≤_}
+use native.Mathlib.Nat.{sub-zero}
 use native.Mathlib.Numerals.{add-one}
 use native.Mathlib.Omega.{arith}
 use lib.ListN.{length, take, set, replicate}
@@ -21,3 +22,7 @@ pub zero-none : (bytes : List ℕ) (i : ℕ) → length bytes ≤ i → bytes �
 zero-none bytes i h =
     let none : length bytes - i ≡ 0 = omega arith in
     rw (none, take-all i bytes h) (sym (append-nil bytes))
+
+-- a buffer that is cleared from its first byte on is zero
+pub buffer-cleared : (bytes : List ℕ) {out : List ℕ} {n : ℕ} → out ≡ zeroed bytes 0 → length bytes ≡ n → out ≡ replicate n 0
+buffer-cleared bytes e h = e ∙ ap (λ (k : ℕ). replicate k 0) (sub-zero (length bytes) ∙ h)

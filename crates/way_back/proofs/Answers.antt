@@ -8,7 +8,7 @@ use native.Mathlib.Omega.{arith}
 use borrow.Author.Tests.{ltb-false, le-ltb}
 use lib.Dec.{ltb}
 use lib.ListN.{length}
-use Rattle.data.proofs.Cases.{by-bool}
+use Rattle.data.proofs.Cases.{by-bool, neither}
 use Rattle.tape.specs.declared.token.Token.{Token}
 use Rattle.tape.specs.Words.{capacity}
 use Rattle.parse.specs.Parse.{text-limit, parse-of}
@@ -18,8 +18,8 @@ use Rattle.writer.specs.declared.Written.{Written}
 use Rattle.writer.specs.declared.Written.the-variants.{Text, Refused}
 use Rattle.writer.specs.Refusals.{number}
 use Rattle.alike.specs.Alike.{comes-back}
-use Rattle.writer.specs.Write.{Left, refuse, text-of, formed, too-deep, no-room, first-there, weigh, read-back, write-of}
-use Rattle.writer.proofs.Weighing.{neither}
+use Rattle.data.specs.Reasons.{first-of}
+use Rattle.writer.specs.Write.{Left, refuse, text-of, formed, too-deep, no-room, weigh, read-back, write-of}
 use Rattle.way_back.specs.Accepted.{Given, Accepted, Reads-back, answer-of, Answers-length, Promised}
 
 length-apart : {P : Type 0} (answer : Written) (size : ℕ) (r : Refusal) → answer ≡ Text size → answer ≡ Refused r → P
@@ -31,27 +31,27 @@ module _ (text : List ℕ) (ts : List Token) (room scratch : ℕ) where
 
   -- 46, 42, 43, 44, in that order
   other-form : formed ts ≡ false → answered ≡ refuse room scratch OtherForm
-  unfolding write-of weigh first-there
+  unfolding write-of weigh first-of
   other-form e = rw e
 
   module _ (f : formed ts ≡ true) where
     deep : too-deep ts ≡ true → answered ≡ refuse room scratch TooDeep
-    unfolding write-of weigh first-there
+    unfolding write-of weigh first-of
     deep e = rw (f, e)
 
     long : too-deep ts ≡ false → ltb text-limit (length (text-of text ts)) ≡ true → answered ≡ refuse room scratch TooLong
-    unfolding write-of weigh first-there
+    unfolding write-of weigh first-of
     long d e = rw (f, d, e)
 
     full : too-deep ts ≡ false → ltb text-limit (length (text-of text ts)) ≡ false → no-room room scratch ts (text-of text ts) ≡ true
         → answered ≡ refuse room scratch NoRoom
-    unfolding write-of weigh first-there
+    unfolding write-of weigh first-of
     full d l e = rw (f, d, l, e)
 
     -- and else it is read back
     module _ (g : Given text ts room scratch) where
       fits : answered ≡ read-back text ts room scratch (text-of text ts)
-      unfolding write-of weigh first-there
+      unfolding write-of weigh first-of
       fits =
           let l = le-ltb text-limit (length (text-of text ts)) (g .limit) in
           let b = le-ltb room (length (text-of text ts)) (g .buffer) in
@@ -106,7 +106,7 @@ module _ (text : List ℕ) (ts : List Token) (room scratch : ℕ) where
 
   -- and to a sound sheet alone
   not-sound : write-of text ts room scratch false ≡ refuse room scratch NotSound
-  unfolding write-of weigh first-there
+  unfolding write-of weigh first-of
   not-sound = refl
 
   pub length-sound : (yes : Bool) → Answers-length (write-of text ts room scratch yes) → yes ≡ true

@@ -35,7 +35,8 @@ use Rattle.writer.specs.Form.{takes, has-form}
 use Rattle.writer.specs.Text.{piece-text, body-text}
 use Rattle.writer.specs.Levels.{levels}
 use Rattle.alike.specs.Alike.{same-view, same-words, same-token, found-alike}
-use Rattle.writer.specs.Write.{text-of, first-there, weigh, read-back, write-of}
+use Rattle.data.specs.Reasons.{first-of}
+use Rattle.writer.specs.Write.{text-of, weigh, read-back, write-of}
 use Rattle.sheet.specs.Sound.{Sheet}
 use Rattle.promises.specs.Each.{Each}
 use Rattle.way_back.specs.Plain.{plain-byte, bare-byte}
@@ -51,7 +52,7 @@ unfolding bytes refused cases is-boundary is-blank blanks-from comment-from skip
     flag-parent follows-key open-as open-scalar parse-open-turn begins-operator value-byte array-close operator-then after-end
     unmixed-operator array-operator array-value-turn state-turn turn run has-bom start parse-of forest-in stretch forest-of piece-of
     sign-bytes own-bytes due-after takes has-form piece-text body-text levels pairwise same-view same-words same-token found-alike
-    text-of first-there weigh read-back write-of
+    text-of first-of weigh read-back write-of
 cases-hold = refl
 
 -- a line whose sheet passes the test

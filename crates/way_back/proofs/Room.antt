@@ -45,7 +45,8 @@ use Rattle.writer.specs.Scans.{token-size, first-behind, text-size}
 use Rattle.writer.specs.Ranges.{Whole}
 use Rattle.writer.specs.Refusals.{number}
 use Rattle.alike.specs.Alike.{comes-back}
-use Rattle.writer.specs.Write.{text-of, formed, too-deep, first-there, weigh, read-back, write-of}
+use Rattle.data.specs.Reasons.{first-of}
+use Rattle.writer.specs.Write.{text-of, formed, too-deep, weigh, read-back, write-of}
 use Rattle.writer.proofs.Sizes.{lead-same, lead-short, quoted-size, view-short}
 use Rattle.writer.proofs.Grown.{tokens-on}
 use Rattle.writer.proofs.Scanned.{size-told, size-none}
@@ -193,13 +194,13 @@ length-apart size e = let z : _≡_ {A = ℕ} 0 1 = cc in omega arith
 module _ (text : List ℕ) (ts : List Token) (room scratch : ℕ) where
   -- a sheet that is not sound is refused by 41
   unsound-apart : answer-of (write-of text ts room scratch false) ≡ Refused NoRoom → ⊥
-  unfolding write-of weigh first-there
+  unfolding write-of weigh first-of
   unsound-apart e = apart NotSound (omega arith) e
 
   -- and a sound one for which there is room, by its form, its depth, its length or what it reads back as
   sound-apart : length (text-of text ts) ≤ room → length ts ≤ capacity scratch
       → answer-of (write-of text ts room scratch true) ≡ Refused NoRoom → ⊥
-  unfolding write-of weigh first-there read-back
+  unfolding write-of weigh first-of read-back
   sound-apart fits tape e =
       let b = le-ltb room (length (text-of text ts)) fits in
       let t = le-ltb (capacity scratch) (length ts) tape in

@@ -27,7 +27,8 @@ use Rattle.sheet.proofs.Sheets.{one-answer, later-ignored}
 use Rattle.writer.specs.declared.Written.{Written}
 use Rattle.put.specs.Parts.{view-of}
 use Rattle.alike.specs.Alike.{same-view, same-token, alike, found-alike, comes-back}
-use Rattle.writer.specs.Write.{Left, left, text-of, formed, too-deep, no-room, first-there, weigh, read-back, write-of}
+use Rattle.data.specs.Reasons.{first-of}
+use Rattle.writer.specs.Write.{Left, left, text-of, formed, too-deep, no-room, weigh, read-back, write-of}
 use Rattle.way_back.specs.Unread.{Same-views, Views-alone, Same-read, Same-left, Write-ignores}
 use Rattle.way_back.proofs.Same.{Same, same, viewed, alike-none, alike-one}
 use Rattle.way_back.proofs.Likeness.{alike-text}
@@ -91,7 +92,7 @@ module _ (text other : List ℕ) (ts : List Token) (v : Same-views text other ts
 
   -- so a sound sheet is answered alike, a test at a time
   same-sound : write-of text ts room scratch true ≡ write-of other ts room scratch true
-  unfolding write-of weigh first-there
+  unfolding write-of weigh first-of
   same-sound =
       by-bool (formed ts)
       (λ f. by-bool (too-deep ts)
@@ -105,7 +106,7 @@ module _ (text other : List ℕ) (ts : List Token) (v : Same-views text other ts
       (λ f. rw f)
 
 pub views-alone : Views-alone
-unfolding write-of weigh first-there
+unfolding write-of weigh first-of
 views-alone text other ts v room scratch true = same-sound text other ts v room scratch
 views-alone text other ts v room scratch false = refl
 

@@ -1,7 +1,7 @@
 -- What is said before a byte is written, and what is left when all are: by the tests that lead there.
 -- Assumes nothing.
 use mathlib.Core.Path.{_≡_, refl, sym, _∙_, ap}
-use mathlib.Core.Bool.{Bool, true, false, not, _||_, false≢true}
+use mathlib.Core.Bool.{Bool, true, false, not, _||_}
 use mathlib.Core.List.{List, [], _∷_, _++_}
 use mathlib.Core.Logic.{_↔_}
 use Prim.Native.Nat.{ℕ, _-_, _≤_, _<_}
@@ -11,7 +11,9 @@ use borrow.Author.Tests.{not-false, ltb-false, lt-ltb, le-ltb}
 use lib.Dec.{ltb}
 use lib.ListN.{length, take, drop, length-append, length-drop}
 use lib.Seq.{take-append-seam}
-use Rattle.data.proofs.Cases.{by-bool}
+use Rattle.data.specs.Reasons.{Reason, if-so}
+use Rattle.data.proofs.Cases.{by-bool, neither}
+use Rattle.data.proofs.Reasons.{first-here, first-later, first-none}
 use Rattle.put.specs.Append.{Wrote, wrote, place-of, append, zeroed}
 use Rattle.put.proofs.Append.{append-fits}
 use Rattle.tape.specs.declared.token.Token.{Token}
@@ -33,7 +35,7 @@ use Rattle.alike.specs.Alike.{comes-back}
 use Rattle.writer.specs.Scans.{measured}
 use Rattle.writer.specs.Ranges.{Whole}
 use Rattle.writer.specs.Write.{Left, left, zeros, text-of, formed, too-deep}
-use Rattle.writer.specs.Write.{Reason, if-so, first-there, weigh-text, weigh, read-back, carry-out, write-of}
+use Rattle.writer.specs.Write.{first-there, weigh-text, weigh, read-back, carry-out, write-of}
 use Rattle.writer.proofs.Forms.{whole-count}
 
 -- ---- a length that was measured
@@ -62,44 +64,26 @@ module _ (n : ℕ) {m : Measured} (told : m ≡ measured n) where
 fits-not : {why : Refusal} → Refused why ≡ Fits → ⊥
 fits-not e = let z : _≡_ {A = ℕ} 0 1 = cc in omega arith
 
-module _ (why : Refusal) (rs : List Reason) {there : Bool} where
-  pub first-here : there ≡ true → first-there (if-so there why ∷ rs) ≡ Refused why
-  unfolding first-there
-  first-here e = rw e
-
-  pub first-later : there ≡ false → first-there (if-so there why ∷ rs) ≡ first-there rs
-  unfolding first-there
-  first-later e = rw e
-
-pub first-none : first-there [] ≡ Fits
-unfolding first-there
-first-none = refl
-
 -- where the text fits, none of them is there
-fits-later : (there : Bool) (why : Refusal) (rs : List Reason) → first-there (if-so there why ∷ rs) ≡ Fits
+fits-later : (there : Bool) (why : Refusal) (rs : List (Reason Refusal)) → first-there (if-so there why ∷ rs) ≡ Fits
     → (there ≡ false) × (first-there rs ≡ Fits)
 fits-later there why rs e =
     by-bool there
-    (λ t. absurd (fits-not (sym (first-here why rs t) ∙ e)))
-    (λ t. (t, sym (first-later why rs t) ∙ e))
-
--- neither of two tests
-pub neither : (a b : Bool) → (a || b) ≡ false → (a ≡ false) × (b ≡ false)
-neither true b h = absurd (false≢true (sym h))
-neither false b h = (refl, h)
+    (λ t. absurd (fits-not (sym (first-here Refused Fits why rs t) ∙ e)))
+    (λ t. (t, sym (first-later Refused Fits why rs t) ∙ e))
 
 -- ---- 43 and 44
 module _ (room scratch : ℕ) (ts : List Token) (bytes : List ℕ) {m : Measured} (told : m ≡ measured (length bytes)) where
   pub text-over : m ≡ Over → Refused TooLong ≡ weigh-text room scratch ts bytes
   unfolding weigh-text
-  text-over e = sym (first-here _ _ (over-known (length bytes) told e))
+  text-over e = sym (first-here Refused Fits _ _ (over-known (length bytes) told e))
 
   module _ {s : ℕ} (size : m ≡ Size s) where
     pub text-no-room : room < s → Refused NoRoom ≡ weigh-text room scratch ts bytes
     unfolding weigh-text
     text-no-room h =
         let known = size-known (length bytes) told size in
-        sym (first-later _ _ (known .1) ∙ first-here _ _ (rw (lt-ltb room (length bytes) (omega (arith, known .0, h)))))
+        sym (first-later Refused Fits _ _ (known .1) ∙ first-here Refused Fits _ _ (rw (lt-ltb room (length bytes) (omega (arith, known .0, h)))))
 
     module _ (fits : s ≤ room) {count k : ℕ} (counted : length ts ≡ count) (tokens : k ≡ capacity scratch) where
       pub scratch-no-room : k < count → Refused NoRoom ≡ weigh-text room scratch ts bytes
@@ -107,36 +91,36 @@ module _ (room scratch : ℕ) (ts : List Token) (bytes : List ℕ) {m : Measured
       scratch-no-room h =
           let known = size-known (length bytes) told size in
           let few : capacity scratch < length ts = omega (arith, counted, tokens, h) in
-          sym (first-later _ _ (known .1)
-          ∙ first-here _ _ (rw (le-ltb room (length bytes) (omega (arith, known .0, fits)), lt-ltb (capacity scratch) (length ts) few)))
+          sym (first-later Refused Fits _ _ (known .1)
+          ∙ first-here Refused Fits _ _ (rw (le-ltb room (length bytes) (omega (arith, known .0, fits)), lt-ltb (capacity scratch) (length ts) few)))
 
       pub text-fits : count ≤ k → Fits ≡ weigh-text room scratch ts bytes
       unfolding weigh-text
       text-fits h =
           let known = size-known (length bytes) told size in
           let all : length ts ≤ capacity scratch = omega (arith, counted, tokens, h) in
-          sym (first-later _ _ (known .1)
-          ∙ first-later _ _ (rw (le-ltb room (length bytes) (omega (arith, known .0, fits)), le-ltb (capacity scratch) (length ts) all)) ∙ first-none)
+          sym (first-later Refused Fits _ _ (known .1)
+          ∙ first-later Refused Fits _ _ (rw (le-ltb room (length bytes) (omega (arith, known .0, fits)), le-ltb (capacity scratch) (length ts) all)) ∙ first-none Refused Fits)
 
 -- ---- 41, 46, 42, and then the text
 module _ (text : List ℕ) (ts : List Token) (room scratch : ℕ) {sound : Bool} where
   pub weigh-unsound : sound ≡ false → Refused NotSound ≡ weigh text ts room scratch sound
   unfolding weigh
-  weigh-unsound e = sym (first-here _ _ (ap not e))
+  weigh-unsound e = sym (first-here Refused Fits _ _ (ap not e))
 
   module _ (yes : sound ≡ true) {f : Bool} (form : f ≡ formed ts) where
     pub weigh-other : f ≡ false → Refused OtherForm ≡ weigh text ts room scratch sound
     unfolding weigh
-    weigh-other e = sym (first-later _ _ (ap not yes) ∙ first-here _ _ (ap not (sym form ∙ e)))
+    weigh-other e = sym (first-later Refused Fits _ _ (ap not yes) ∙ first-here Refused Fits _ _ (ap not (sym form ∙ e)))
 
     module _ (is : f ≡ true) {d : Bool} (deep : d ≡ too-deep ts) where
       pub weigh-deep : d ≡ true → Refused TooDeep ≡ weigh text ts room scratch sound
       unfolding weigh
-      weigh-deep e = sym (first-later _ _ (ap not yes) ∙ first-later _ _ (ap not (sym form ∙ is)) ∙ first-here _ _ (sym deep ∙ e))
+      weigh-deep e = sym (first-later Refused Fits _ _ (ap not yes) ∙ first-later Refused Fits _ _ (ap not (sym form ∙ is)) ∙ first-here Refused Fits _ _ (sym deep ∙ e))
 
       pub weigh-on : {r : Weighed} → d ≡ false → r ≡ weigh-text room scratch ts (text-of text ts) → r ≡ weigh text ts room scratch sound
       unfolding weigh weigh-text
-      weigh-on e g = g ∙ sym (first-later _ _ (ap not yes) ∙ first-later _ _ (ap not (sym form ∙ is)) ∙ first-later _ _ (sym deep ∙ e))
+      weigh-on e g = g ∙ sym (first-later Refused Fits _ _ (ap not yes) ∙ first-later Refused Fits _ _ (ap not (sym form ∙ is)) ∙ first-later Refused Fits _ _ (sym deep ∙ e))
 
 -- the words of a sheet that is found sound
 pub found-whole : {n count : ℕ} {words : List ℕ} {r : Bool} → (r ≡ true) ↔ Sound n words count → r ≡ true → Whole words count

@@ -4,6 +4,7 @@ use mathlib.Core.Bool.{Bool, true, false, not, _||_}
 use mathlib.Core.List.{List, [], _∷_, _++_}
 use lib.Dec.{ltb}
 use lib.ListN.{length, replicate}
+use Rattle.data.specs.Reasons.{Reason, if-so, first-of}
 use Rattle.tape.specs.declared.token.Token.{Token}
 use Rattle.tape.specs.Words.{capacity}
 use Rattle.parse.specs.Parse.{text-limit, parse-of}
@@ -54,28 +55,19 @@ abbrev pub no-room : ℕ → ℕ → List Token → List ℕ → Bool
 no-room room scratch ts bytes = ltb room (length bytes) || ltb (capacity scratch) (length ts)
 
 -- ---- what can be said before a byte is written
--- a reason to refuse, and whether it is there
-pub record Reason : Type 0 where
-  pub there : Bool
-  pub refusal : Refusal
-
-abbrev pub if-so : Bool → Refusal → Reason
-if-so there refusal = record { there = there; refusal = refusal }
-
 -- the first of some reasons that is there; where none is, the text fits
-unfoldable pub first-there : List Reason → Weighed
-first-there [] = Fits
-first-there (r ∷ rs) = elim (r .there) [ true ↦ Weighed.Refused (r .refusal) | false ↦ first-there rs ]
+abbrev pub first-there : List (Reason Refusal) → Weighed
+first-there rs = first-of Weighed.Refused Fits rs
 
 -- 43 text over the limit of 01, 44 no room, in that order: by a buffer of so many bytes and a scratch of so many words
-abbrev pub text-reasons : ℕ → ℕ → List Token → List ℕ → List Reason
+abbrev pub text-reasons : ℕ → ℕ → List Token → List ℕ → List (Reason Refusal)
 text-reasons room scratch ts bytes =
     if-so (ltb text-limit (length bytes)) TooLong
     ∷ if-so (no-room room scratch ts bytes) NoRoom
     ∷ []
 
 -- 41 not sound, 46 not of this form, 42 too deep, and then those, in that order: by whether the sheet is sound
-abbrev pub reasons : List ℕ → List Token → ℕ → ℕ → Bool → List Reason
+abbrev pub reasons : List ℕ → List Token → ℕ → ℕ → Bool → List (Reason Refusal)
 reasons text ts room scratch sound =
     if-so (not sound) NotSound
     ∷ if-so (not (formed ts)) OtherForm

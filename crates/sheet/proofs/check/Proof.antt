@@ -1,36 +1,28 @@
--- `sheet::check` meets its contract: the three parts tell what a sound sheet is, together.
+-- `sheet::check` meets its contract: without bytes the words are read.
 -- Assumes nothing.
-use borrow.Author.Needs.{needs}
+use mathlib.Core.Path.{_≡_, refl, subst}
+use mathlib.Core.Bool.{true}
+use mathlib.Core.List.{List, []}
+use mathlib.Core.Logic.{_↔_}
+use Prim.Native.Nat.{ℕ}
 use denote.Ref.{now}
-use Rattle.sheet.proofs.Whole.{standing-linked, check-short, check-fits, check-fallen, check-nested}
+use Rattle.packed.proofs.Packing.{behind-words}
+use Rattle.sheet.specs.Sound.{Sound}
+use borrow.Author.Needs.{needs}
 use Rattle.sheet.proofs.check.Statement.{statement}
 use Rattle.sheet.proofs.check.Tie as tie
 
-holds-requires : tie.Need-holds-requires
-holds-requires c κs = search needs
+slice-aggregate-check-source : tie.Need-slice-aggregate-check-source
+slice-aggregate-check-source c = search needs
 
-all-stand-requires : tie.Need-all-stand-requires
-all-stand-requires c κs =
-    check-fits (now (c .before .before .before .args .words)) _ (c .before .holds .ensures) (c .if1 .taken)
-
-nest-requires : tie.Need-nest-requires
-nest-requires c κs = standing-linked _ _ (c .before .all-stand .ensures .0 (c .if2 .taken))
+check-source-requires : tie.Need-check-source-requires
+check-source-requires c κs = search needs
 
 returns : tie.Need-returns
 returns c =
-    let stood = c .before .before in
-    let held = stood .before .before in
-    check-nested _ _ _
-    (check-fits (now (held .before .before .args .words)) _ (held .holds .ensures) (stood .before .if1 .taken))
-    (stood .all-stand .ensures .0 (c .before .if2 .taken))
-    (c .nest .ensures)
-
-returns-2 : tie.Need-returns-2
-returns-2 c = check-fallen _ _ _ (c .before .all-stand .ensures) (c .if2 .left)
-
-returns-3 : tie.Need-returns-3
-returns-3 c = check-short _ _ _ (c .before .holds .ensures) (c .if1 .left)
+    let start = c .before .before .before in
+    let asked = c .check-source in
+    subst (λ (ws : List ℕ). (asked .result ≡ true) ↔ Sound (start .args .text-length) ws (start .args .count)) (behind-words (now (start .args .words)) [] refl) (asked .ensures)
 
 pub check-spec : {M : Type 1} → statement M
-check-spec =
-    tie.close (tie.spec holds-requires all-stand-requires nest-requires returns returns-2 returns-3)
+check-spec = tie.close (tie.spec slice-aggregate-check-source check-source-requires returns)

@@ -3,8 +3,9 @@
 use borrow.Author.Needs.{needs}
 use mathlib.Core.Path.{refl, _∙_}
 use lib.ListN.{length}
-use Rattle.machine.proofs.Clearing.{cleared-whole}
-use Rattle.writer.proofs.Left.{buffer-cleared, refused-left}
+use Rattle.tape.proofs.Clearing.{cleared-whole}
+use Rattle.put.proofs.Clears.{buffer-cleared}
+use Rattle.writer.proofs.Left.{refused-left}
 use Rattle.writer.proofs.refuse.Statement.{statement}
 use Rattle.writer.proofs.refuse.Tie as tie
 

@@ -10,7 +10,7 @@ use Rattle.tape.specs.declared.token.Token.{Token}
 use Rattle.tape.specs.Words.{tokens-in}
 use Rattle.writer.specs.Write.{text-of}
 use Rattle.writer.proofs.Forms.{whole-range}
-use Rattle.writer.proofs.Left.{buffer-cleared}
+use Rattle.put.proofs.Clears.{buffer-cleared}
 use Rattle.writer.proofs.Weighing.{whole-text, put-size, put-cleared, put-front, reads-back, reads-otherwise}
 use Rattle.writer.proofs.write_fitting.Statement.{statement}
 use Rattle.writer.proofs.write_fitting.Tie as tie

@@ -2,7 +2,7 @@
 -- Assumes nothing.
 use borrow.Author.Needs.{needs}
 use denote.Ref.{now}
-use Rattle.machine.proofs.Clearing.{cleared-whole}
+use Rattle.tape.proofs.Clearing.{cleared-whole}
 use Rattle.machine.proofs.finish.refuse.Statement.{statement}
 use Rattle.machine.proofs.finish.refuse.Tie as tie
 

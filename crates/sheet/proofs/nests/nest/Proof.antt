@@ -3,6 +3,7 @@
 use native.Mathlib.Omega.{arith}
 use borrow.Author.Needs.{needs}
 use borrow.Author.Tests.{not-true, not-false}
+use Rattle.packed.specs.Packed.{behind}
 use Rattle.tape.specs.Words.{tokens-in}
 use Rattle.sheet.proofs.Links.{read-link}
 use Rattle.sheet.proofs.Nesting.{NestedFrom, nested-past, nested-all, nested-more, nested-end, nested-none, walkable, nested-not}
@@ -10,10 +11,10 @@ use Rattle.sheet.proofs.nests.nest.Statement.{statement}
 use Rattle.sheet.proofs.nests.nest.Tie as tie
 
 abbrev Inv-loop : tie.InvT-loop
-Inv-loop words count i₀ i = NestedFrom (tokens-in words count) i
+Inv-loop words bytes count i₀ i = NestedFrom (tokens-in (behind words bytes) count) i
 
 abbrev μ-loop : tie.MeasureT-loop
-μ-loop words count i₀ i = i
+μ-loop words bytes count i₀ i = i
 
 loop-holds : tie.Need-loop-holds Inv-loop μ-loop
 loop-holds c = nested-past _ _
@@ -38,7 +39,7 @@ walk-requires c κs =
     let linked = c .before .before .before in
     let in-loop = linked .before .before in
     let at-loop = in-loop .before in
-    walkable _ _ (in-loop .loop-test .taken) (at-loop .loop .inv) (at-loop .before .before .pre)
+    walkable _ _ (in-loop .loop-test .taken) (at-loop .loop .inv) (at-loop .before .before .before .pre)
     (read-link _ _ _ (linked .before .token-of .ensures) (linked .link-of .ensures) (c .before .end .given .1))
 
 returns : tie.Need-returns Inv-loop μ-loop

@@ -4,6 +4,7 @@ use Prim.Native.Nat.{_≤_, _-_}
 use native.Mathlib.Omega.{arith}
 use borrow.Author.Needs.{needs}
 use borrow.Author.Tests.{not-true, not-false}
+use Rattle.packed.specs.Packed.{behind}
 use Rattle.tape.specs.Words.{tokens-in}
 use Rattle.sheet.proofs.Tokens.{read-shape}
 use Rattle.sheet.proofs.Scan.{Scanned, scanned-none, scanned-more, read-floor, stand-all, stand-unheld, stand-passed}
@@ -11,10 +12,10 @@ use Rattle.sheet.proofs.stands.all_stand.Statement.{statement}
 use Rattle.sheet.proofs.stands.all_stand.Tie as tie
 
 abbrev Inv-loop : tie.InvT-loop
-Inv-loop text-length words count i₀ floor₀ i floor = (i ≤ count) × Scanned text-length (tokens-in words count) i floor
+Inv-loop text-length words bytes count i₀ floor₀ i floor = (i ≤ count) × Scanned text-length (tokens-in (behind words bytes) count) i floor
 
 abbrev μ-loop : tie.MeasureT-loop
-μ-loop text-length words count i₀ floor₀ i floor = count - i
+μ-loop text-length words bytes count i₀ floor₀ i floor = count - i
 
 loop-holds : tie.Need-loop-holds Inv-loop μ-loop
 loop-holds c = (omega arith, scanned-none _ _)
@@ -28,12 +29,12 @@ shape-of-requires c κs = search needs
 token-stands-requires : tie.Need-token-stands-requires Inv-loop μ-loop
 token-stands-requires c κs =
     let in-loop = c .before .before in
-    (in-loop .before .before .before .pre, in-loop .loop-test .taken, read-shape _ _ _ (c .before .token-of .ensures) (c .shape-of .ensures))
+    (in-loop .before .before .before .before .pre, in-loop .loop-test .taken, read-shape _ _ _ (c .before .token-of .ensures) (c .shape-of .ensures))
 
 returns : tie.Need-returns Inv-loop μ-loop
 returns c =
     let in-loop = c .before .before .before .before in
-    stand-unheld _ _ _ (in-loop .before .before .before .pre) _ (in-loop .loop-test .taken)
+    stand-unheld _ _ _ (in-loop .before .before .before .before .pre) _ (in-loop .loop-test .taken)
     (c .before .token-stands .ensures)
     (not-true _ (c .if1 .taken))
 
@@ -51,7 +52,7 @@ returns-2 c =
     let at-shape = c .before .before .before .before .before in
     let in-loop = at-shape .before .before in
     let at-loop = in-loop .before in
-    stand-passed _ _ _ (at-loop .before .before .pre) _ (in-loop .loop-test .taken) (at-loop .loop .inv .1)
+    stand-passed _ _ _ (at-loop .before .before .before .pre) _ (in-loop .loop-test .taken) (at-loop .loop .inv .1)
     (read-floor _ _ (read-shape _ _ _ (at-shape .before .token-of .ensures) (at-shape .shape-of .ensures))
     (c .before .before .raised .ensures)
     (c .enum-told .given .1))
@@ -76,7 +77,7 @@ loop-again c =
     )
 
 returns-3 : tie.Need-returns-3 Inv-loop μ-loop
-returns-3 c = stand-all _ _ _ (c .before .before .before .pre) (c .before .loop .inv .1) (c .loop-test .left)
+returns-3 c = stand-all _ _ _ (c .before .before .before .before .pre) (c .before .loop .inv .1) (c .loop-test .left)
 
 pub all-stand-spec : {M : Type 1} → statement M
 all-stand-spec =

@@ -1,0 +1,5 @@
+pub mod Spells
+pub mod Fields
+pub mod Answers
+pub mod Kept
+pub mod Listed

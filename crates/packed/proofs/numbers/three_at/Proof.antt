@@ -1,0 +1,51 @@
+-- `packed::numbers::three_at` meets its contract.
+-- Assumes nothing.
+use Rattle.packed.proofs.Spelling.{three-spelt}
+use borrow.Author.Needs.{needs}
+use Rattle.packed.proofs.numbers.three_at.Statement.{statement}
+use Rattle.packed.proofs.numbers.three_at.Tie as tie
+
+byte-at-requires : tie.Need-byte-at-requires
+byte-at-requires c κs = search needs
+
+add-byte-at : tie.Need-add-byte-at
+add-byte-at c = search needs
+
+byte-at-requires-2 : tie.Need-byte-at-requires-2
+byte-at-requires-2 c κs = search needs
+
+add-byte-at-2 : tie.Need-add-byte-at-2
+add-byte-at-2 c = search needs
+
+byte-at-requires-3 : tie.Need-byte-at-requires-3
+byte-at-requires-3 c κs = search needs
+
+mul-result : tie.Need-mul-result
+mul-result c = search needs
+
+add-result : tie.Need-add-result
+add-result c = search needs
+
+mul-result-2 : tie.Need-mul-result-2
+mul-result-2 c = search needs
+
+add-result-2 : tie.Need-add-result-2
+add-result-2 c = search needs
+
+returns : tie.Need-returns
+returns c = three-spelt _ _ (c .before .before .before .before .pre) (c .before .before .byte-at .ensures .0) (c .before .byte-at2 .ensures .0) (c .byte-at3 .ensures .0)
+
+pub three-at-spec : {M : Type 1} → statement M
+three-at-spec =
+    tie.close
+    (tie.spec
+    byte-at-requires
+    add-byte-at
+    byte-at-requires-2
+    add-byte-at-2
+    byte-at-requires-3
+    mul-result
+    add-result
+    mul-result-2
+    add-result-2
+    returns)
