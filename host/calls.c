@@ -230,9 +230,144 @@ static void depth(void) {
     expect("65 levels", write_nested(OVER, &size) == TACKACORN_TOO_DEEP && size == 0);
 }
 
+/* The sheet of 'a=b', and its file. */
+static const uint32_t sheet_words[ROOM] = {4, 0, 1, 4, 2, 1};
+static const uint8_t sheet_file[] = {0, 0, 0, 30, 1, 0, 0, 3, 0, 0, 0, 2, 4, 0, 0, 0, 0, 0, 0, 0, 1, 4, 0, 0, 0, 2, 0, 0, 0, 1};
+
+enum { SHEET_BYTES = sizeof sheet_file, SHEET_WORDS = 2 * TACKACORN_WORDS_PER_TOKEN };
+
+/* What a write of a file is lent, with something in it, and what it tells. */
+struct lent_bytes {
+    uint8_t out[MOST];
+    size_t written;
+};
+
+/* Writes the file of a sheet into lent bytes that are not zero, with room for so many. */
+static uint32_t write_file(struct lent_bytes *lent, size_t length, const uint32_t *words, size_t count, size_t bytes_lent) {
+    memset(lent, 255, sizeof *lent);
+    return tackacorn_sheet_write(length, words, ROOM, count, lent->out, bytes_lent, &lent->written);
+}
+
+/* Whether a write left this file, zeros behind it up to its room, and nothing behind that. */
+static bool left_file(const struct lent_bytes *lent, const uint8_t *file, size_t size, size_t bytes_lent) {
+    return lent->written == size && memcmp(lent->out, file, size) == 0 && zero(lent->out + size, bytes_lent - size)
+           && (bytes_lent == MOST || lent->out[bytes_lent] == 255);
+}
+
+/* Sheets that are written on file: the bytes, the zeros behind them, and the edges of the room and of the text. */
+static void filed(void) {
+    struct lent_bytes lent;
+    const uint32_t all[ROOM] = {11, 1, 0, 10, 2, 1, 1, 3, 1, 9, 2, 0, 8, 8, 0, 3};
+    const uint8_t none[] = {0, 0, 0, 12, 1, 255, 255, 255, 0, 0, 0, 0};
+    expect("a file", write_file(&lent, 3, sheet_words, 2, MOST) == TACKACORN_OK && left_file(&lent, sheet_file, SHEET_BYTES, MOST));
+    expect("a file with just room enough", TACKACORN_FILE_BYTES_FOR(2) == SHEET_BYTES && write_file(&lent, 3, sheet_words, 2, SHEET_BYTES) == TACKACORN_OK
+                                               && left_file(&lent, sheet_file, SHEET_BYTES, SHEET_BYTES));
+    expect("a file of no tokens", write_file(&lent, 16777215, sheet_words, 0, TACKACORN_FILE_HEAD) == TACKACORN_OK
+                                      && left_file(&lent, none, TACKACORN_FILE_HEAD, TACKACORN_FILE_HEAD));
+    expect("a file of other codes", write_file(&lent, 3, all, 5, MOST) == TACKACORN_OK && lent.written == TACKACORN_FILE_BYTES_FOR(5)
+                                        && lent.out[12] == 11 && lent.out[30] == 1 && lent.out[34] == 3 && lent.out[38] == 1 && lent.out[52] == 8);
+}
+
+/* Whether a write of a file is refused with a number, and leaves nothing. */
+static bool refuses_file(uint32_t number, uint32_t answer, const struct lent_bytes *lent, size_t bytes_lent) {
+    return answer == number && left_file(lent, sheet_file, 0, bytes_lent);
+}
+
+/* Sheets that are not written on file, each reason before the next. */
+static void unfiled(void) {
+    struct lent_bytes lent;
+    const uint32_t falling[ROOM] = {4, 2, 1, 4, 0, 1};
+    expect("a file that is not sound", refuses_file(TACKACORN_FILE_NOT_SOUND, write_file(&lent, 3, falling, 2, MOST), &lent, MOST)
+                                           && refuses_file(TACKACORN_FILE_NOT_SOUND, write_file(&lent, 2, sheet_words, 2, MOST), &lent, MOST));
+    expect("a file of words that are not there", refuses_file(TACKACORN_FILE_NOT_SOUND, write_file(&lent, 3, sheet_words, ROOM / 3 + 1, MOST), &lent, MOST)
+                                                     && refuses_file(TACKACORN_FILE_NOT_SOUND, write_file(&lent, 3, sheet_words, SIZE_MAX, MOST), &lent, MOST)
+                                                     && refuses_file(TACKACORN_FILE_NOT_SOUND, write_file(&lent, 3, sheet_words, SIZE_MAX / 9 + 1, MOST), &lent, MOST));
+    expect("a text too large for a file", refuses_file(TACKACORN_FILE_TOO_LARGE, write_file(&lent, 16777216, sheet_words, 2, MOST), &lent, MOST)
+                                              && refuses_file(TACKACORN_FILE_TOO_LARGE, write_file(&lent, SIZE_MAX, sheet_words, 2, MOST), &lent, MOST));
+    expect("no room for a file", refuses_file(TACKACORN_FILE_NO_ROOM, write_file(&lent, 3, sheet_words, 2, SHEET_BYTES - 1), &lent, SHEET_BYTES - 1)
+                                     && refuses_file(TACKACORN_FILE_NO_ROOM, write_file(&lent, 3, sheet_words, 0, TACKACORN_FILE_HEAD - 1), &lent, TACKACORN_FILE_HEAD - 1)
+                                     && refuses_file(TACKACORN_FILE_NO_ROOM, write_file(&lent, 3, sheet_words, 0, 0), &lent, 0));
+    expect("not sound before too large", refuses_file(TACKACORN_FILE_NOT_SOUND, write_file(&lent, 16777216, falling, 2, 0), &lent, 0));
+    expect("too large before no room", refuses_file(TACKACORN_FILE_TOO_LARGE, write_file(&lent, 16777216, sheet_words, 2, 0), &lent, 0));
+}
+
+/* What a read of a file is lent, with something in it, and what it tells. */
+struct lent_words {
+    uint32_t words[ROOM];
+    size_t length;
+    uint32_t count;
+};
+
+/* Reads a file into lent words that are not zero, with room for so many. */
+static uint32_t read_bytes(struct lent_words *lent, const uint8_t *file, size_t size, size_t words_lent) {
+    memset(lent, 255, sizeof *lent);
+    return tackacorn_sheet_read(file, size, lent->words, words_lent, &lent->length, &lent->count);
+}
+
+/* Reads the file of 'a=b' with another length, of which it speaks, and another byte at a place. */
+static uint32_t read_changed(struct lent_words *lent, uint8_t size, size_t at, uint8_t byte, size_t words_lent) {
+    uint8_t file[MOST] = {0};
+    memcpy(file, sheet_file, SHEET_BYTES);
+    file[3] = size;
+    file[at] = byte;
+    return read_bytes(lent, file, size, words_lent);
+}
+
+/* Whether a read left the sheet of so many tokens of 'a=b', zeros behind it up to its room, and nothing behind that. */
+static bool left_sheet(const struct lent_words *lent, size_t length, uint32_t count, size_t words_lent) {
+    const size_t taken = (size_t)TACKACORN_WORDS_PER_TOKEN * count;
+    return lent->length == length && lent->count == count && memcmp(lent->words, sheet_words, taken * sizeof lent->words[0]) == 0
+           && zero(lent->words + taken, (words_lent - taken) * sizeof lent->words[0])
+           && (words_lent == ROOM || lent->words[words_lent] == UINT32_MAX);
+}
+
+/* Files that are read: the words, the zeros behind them, and the edges of the room. */
+static void read_back(void) {
+    struct lent_words lent;
+    struct lent_bytes again;
+    expect("a file, read", read_bytes(&lent, sheet_file, SHEET_BYTES, ROOM) == TACKACORN_OK && left_sheet(&lent, 3, 2, ROOM));
+    expect("a file, read and written", write_file(&again, lent.length, lent.words, lent.count, MOST) == TACKACORN_OK
+                                           && left_file(&again, sheet_file, SHEET_BYTES, MOST));
+    expect("a file, read with just room enough", read_bytes(&lent, sheet_file, SHEET_BYTES, SHEET_WORDS) == TACKACORN_OK
+                                                     && left_sheet(&lent, 3, 2, SHEET_WORDS));
+    expect("words for a file", TACKACORN_FILE_WORDS_FOR(SHEET_BYTES) >= SHEET_WORDS && TACKACORN_FILE_WORDS_FOR(0) == 0);
+    expect("a file of no tokens, read", read_changed(&lent, TACKACORN_FILE_HEAD, 11, 0, 0) == TACKACORN_OK && left_sheet(&lent, 3, 0, 0));
+    expect("a file with an escape, read", read_changed(&lent, SHEET_BYTES, 21, TACKACORN_QUOTED_ESCAPE, ROOM) == TACKACORN_OK
+                                              && lent.words[3] == TACKACORN_QUOTED_ESCAPE);
+    expect("a longer text, read", read_changed(&lent, SHEET_BYTES, 5, 255, ROOM) == TACKACORN_OK && left_sheet(&lent, 0xff0003, 2, ROOM));
+}
+
+/* Whether a read is refused with a number, and leaves nothing. */
+static bool refuses_read(uint32_t number, uint32_t answer, const struct lent_words *lent, size_t words_lent) {
+    return answer == number && left_sheet(lent, 0, 0, words_lent);
+}
+
+/* Files that are not read, each reason before the next, and what they leave. */
+static void unread(void) {
+    struct lent_words lent;
+    const uint8_t wraps[] = {0, 0, 0, 13, 1, 0, 0, 3, 0x38, 0xe3, 0x8e, 0x39, 4}; /* 12 + 9 * 954437177 is 13 in 32 bits */
+    expect("a file of under 12 bytes", refuses_read(TACKACORN_FILE_LENGTH, read_bytes(&lent, sheet_file, 0, ROOM), &lent, ROOM)
+                                           && refuses_read(TACKACORN_FILE_LENGTH, read_changed(&lent, 11, 4, 2, ROOM), &lent, ROOM));
+    expect("a file that says another length", refuses_read(TACKACORN_FILE_LENGTH, read_bytes(&lent, sheet_file, SHEET_BYTES - 1, ROOM), &lent, ROOM)
+                                                  && refuses_read(TACKACORN_FILE_LENGTH, read_changed(&lent, SHEET_BYTES, 0, 1, ROOM), &lent, ROOM)
+                                                  && refuses_read(TACKACORN_FILE_LENGTH, read_changed(&lent, SHEET_BYTES, 3, 31, 0), &lent, 0));
+    expect("a file of another version", refuses_read(TACKACORN_UNKNOWN_VERSION, read_changed(&lent, SHEET_BYTES, 4, 2, ROOM), &lent, ROOM)
+                                            && refuses_read(TACKACORN_UNKNOWN_VERSION, read_changed(&lent, SHEET_BYTES - 1, 4, 0, 0), &lent, 0));
+    expect("a count that is not the length's", refuses_read(TACKACORN_FILE_COUNT, read_changed(&lent, SHEET_BYTES, 11, 1, ROOM), &lent, ROOM)
+                                                   && refuses_read(TACKACORN_FILE_COUNT, read_changed(&lent, SHEET_BYTES, 8, 255, ROOM), &lent, ROOM)
+                                                   && refuses_read(TACKACORN_FILE_COUNT, read_changed(&lent, SHEET_BYTES - 1, 12, 4, ROOM), &lent, ROOM)
+                                                   && refuses_read(TACKACORN_FILE_COUNT, read_changed(&lent, SHEET_BYTES + 1, 12, 0, 0), &lent, 0));
+    expect("a count that would wrap", refuses_read(TACKACORN_FILE_COUNT, read_bytes(&lent, wraps, sizeof wraps, ROOM), &lent, ROOM));
+    expect("a file that is not sound", refuses_read(TACKACORN_FILE_NOT_SOUND, read_changed(&lent, SHEET_BYTES, 12, 0, ROOM), &lent, ROOM)
+                                           && refuses_read(TACKACORN_FILE_NOT_SOUND, read_changed(&lent, SHEET_BYTES, 7, 2, ROOM), &lent, ROOM)
+                                           && refuses_read(TACKACORN_FILE_NOT_SOUND, read_changed(&lent, SHEET_BYTES, 21, 9, 0), &lent, 0));
+    expect("no room for a file's tokens", refuses_read(TACKACORN_FILE_NO_ROOM, read_bytes(&lent, sheet_file, SHEET_BYTES, SHEET_WORDS - 1), &lent, SHEET_WORDS - 1)
+                                              && refuses_read(TACKACORN_FILE_NO_ROOM, read_bytes(&lent, sheet_file, SHEET_BYTES, 0), &lent, 0));
+}
+
 /* Each refusal has words of its own, and a number that is none is told so. */
 static void words(void) {
-    const uint32_t numbers[] = {0, 1, 2, 3, 4, 5, 6, 7, 8, 9, 10, 11, 12, 21, 22, 23, 24, 41, 42, 43, 44, 45, 46};
+    const uint32_t numbers[] = {0, 1, 2, 3, 4, 5, 6, 7, 8, 9, 10, 11, 12, 21, 22, 23, 24, 31, 32, 33, 34, 35, 36, 41, 42, 43, 44, 45, 46};
     const size_t count = sizeof numbers / sizeof numbers[0];
     expect("the version", strcmp(tackacorn_version(), TACKACORN_VERSION) == 0);
     expect("words", strcmp(tackacorn_refusal_text(TACKACORN_NO_VALUE), "a '}' where a value is due") == 0);
@@ -254,6 +389,10 @@ int main(void) {
     unwritten();
     edits();
     depth();
+    filed();
+    unfiled();
+    read_back();
+    unread();
     words();
     if (!wrong) {
         puts("every call answers as it should");

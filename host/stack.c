@@ -13,14 +13,16 @@ enum {
     MOST_OF_WRITE = 64 * 1024,
     STACK = 4 * MOST_OF_WRITE,
     BYTES = 4 * TACKACORN_LEVEL_LIMIT + 8,
-    WORDS = TACKACORN_WORDS_PER_TOKEN * (3 * TACKACORN_LEVEL_LIMIT + 8)
+    TOKENS = 3 * TACKACORN_LEVEL_LIMIT + 8,
+    WORDS = TACKACORN_WORDS_PER_TOKEN * TOKENS,
+    FILE_BYTES = TACKACORN_FILE_HEAD + TACKACORN_FILE_TOKEN * TOKENS
 };
 
 static _Alignas(4096) uint8_t stack[STACK];
-static uint8_t text[BYTES], out[BYTES];
+static uint8_t text[BYTES], out[BYTES], file[FILE_BYTES];
 static uintptr_t top;
 static uint32_t tape[WORDS], scratch[WORDS], count, answer;
-static size_t length;
+static size_t length, file_length;
 
 /* Makes a text of as many containers in each other as can be written: arrays, objects, or both in turn. */
 static void nest(const char *one, const char *other) {
@@ -56,6 +58,14 @@ static void read_kind(void) {
 static void write_back(void) {
     size_t written;
     answer = tackacorn_write(text, length, tape, WORDS, count, out, sizeof out, scratch, WORDS, &written);
+}
+static void write_file(void) {
+    answer = tackacorn_sheet_write(length, tape, WORDS, count, file, FILE_BYTES, &file_length);
+}
+static void read_file(void) {
+    size_t text_length;
+    uint32_t tokens;
+    answer = tackacorn_sheet_read(file, file_length, scratch, WORDS, &text_length, &tokens);
 }
 
 /* Notes where the stack of a call begins, and calls it. */
@@ -95,7 +105,8 @@ int main(void) {
     for (size_t i = 0; i < sizeof nested / sizeof nested[0]; i++) {
         nest(nested[i][0], nested[i][1]);
         well = well && within("parse", parse, MOST) && within("check", check, MOST) && within("view", view, MOST)
-               && within("write", write_back, MOST_OF_WRITE);
+               && within("write", write_back, MOST_OF_WRITE) && within("sheet_write", write_file, MOST)
+               && within("sheet_read", read_file, MOST);
     }
     puts(well ? "stack: every call takes less than the header says" : "stack: a call takes more, or is refused");
     return well ? 0 : 1;

@@ -1,4 +1,5 @@
-/* Tackacorn: the text of a save as a tape of tokens, the readings of its scalars, and the way back to text.
+/* Tackacorn: the text of a save as a tape of tokens, the readings of its scalars, the way back to text, and
+ * sheets on file.
  *
  * BEFORE YOU BOOK FROM A SAVE
  *
@@ -17,11 +18,14 @@
  *    spaces over that line, so that every offset stays the file's; or pass the text behind the line and
  *    add the line's length to every offset and place. (The command `tackacorn` does the former.)
  *  - A call that refuses still writes: tackacorn_parse leaves the whole tape, the count and the BOM zero
- *    and tells the place, tackacorn_write leaves buffer, scratch and length zero, the readings leave their
- *    value zero. What stood there before is gone, and a 0 that is left is no number that was read. Look at
- *    the answer of every call.
+ *    and tells the place, tackacorn_write leaves buffer, scratch and length zero, tackacorn_sheet_write
+ *    buffer and length, tackacorn_sheet_read words, text length and count, the readings leave their value
+ *    zero. What stood there before is gone, and a 0 that is left is no number that was read. Look at the
+ *    answer of every call.
  *  - Not every save that parses can be written back, and what is written may be read otherwise by another
  *    program. See tackacorn_write before you hand its text to the game.
+ *  - A sheet file holds no text, and a sound one may fit another text than yours. See tackacorn_sheet_read
+ *    before you trust a sheet that somebody sent.
  *
  * WHAT IS PROMISED, AND WHAT YOU PROMISE
  *
@@ -30,14 +34,14 @@
  * is the one that the format's definition gives (docs/FORMAT.md in the sources). What C's types cannot
  * say, and nothing checks, is the caller's part:
  *
- *  - A text, a scalar, a tape, words, a buffer or a scratch are a pointer and how many elements (bytes, or
- *    32-bit words, not bytes of words) stand there. All of them must be there to read, and for a tape, a
- *    buffer and a scratch to write. The pointer is not NULL and is aligned for its type, also where the
- *    length is 0.
+ *  - A text, a scalar, a file, a tape, words, a buffer or a scratch are a pointer and how many elements (bytes,
+ *    or 32-bit words, not bytes of words) stand there. All of them must be there to read, and for a tape, a
+ *    buffer, a scratch and the words of tackacorn_sheet_read to write. The pointer is not NULL and is aligned
+ *    for its type, also where the length is 0.
  *  - A pointer to a single number points to one number of that type, which is written and never read.
- *  - What a call writes (the tape, the buffer, the scratch, each single number) overlaps nothing else that
- *    it is passed, and no other thread reads or writes it during the call. What a call only reads may be
- *    shared.
+ *  - What a call writes (the tape, the buffer, the scratch, the words of tackacorn_sheet_read, each single
+ *    number) overlaps nothing else that it is passed, and no other thread reads or writes it during the call.
+ *    What a call only reads may be shared.
  *
  * Nothing is kept and nothing is allocated: all memory is the caller's, before, during and after a call.
  * A call takes less than 2 KB of stack, but for tackacorn_write, which goes down into the containers, to
@@ -60,8 +64,8 @@ extern "C" {
 /* The version of this header, as words and as a number that rises: 10000 * first + 100 * second + third.
  * The first part rises where a program that was built with an older header would read a tape wrongly, and
  * with it the name of the shared library; the second where something is added; the third else. */
-#define TACKACORN_VERSION "2.1.0"
-#define TACKACORN_VERSION_NUMBER 20100
+#define TACKACORN_VERSION "2.2.0"
+#define TACKACORN_VERSION_NUMBER 20200
 
 /* The most bytes that a text may have. */
 #define TACKACORN_TEXT_LIMIT 16777215
@@ -81,7 +85,18 @@ extern "C" {
  * wanted. */
 #define TACKACORN_BYTES_FOR(bytes, count) ((size_t)(bytes) + 3 * (size_t)(count))
 
-/* Why a text, a view, a reading or a sheet is refused. tackacorn_refusal_text has these in words. */
+/* How many bytes of a sheet file stand before its tokens, and how many each token takes. */
+#define TACKACORN_FILE_HEAD 12
+#define TACKACORN_FILE_TOKEN 9
+
+/* The bytes of a sheet file of so many tokens. */
+#define TACKACORN_FILE_BYTES_FOR(count) (TACKACORN_FILE_HEAD + TACKACORN_FILE_TOKEN * (size_t)(count))
+
+/* Words that are room enough for the tokens of any sheet file of so many bytes: it has fewer than
+ * bytes / TACKACORN_FILE_TOKEN. */
+#define TACKACORN_FILE_WORDS_FOR(bytes) (TACKACORN_WORDS_PER_TOKEN * ((size_t)(bytes) / TACKACORN_FILE_TOKEN))
+
+/* Why a text, a view, a reading, a sheet or a file is refused. tackacorn_refusal_text has these in words. */
 enum tackacorn_refusal {
     TACKACORN_OK = 0,
     TACKACORN_TOO_LONG = 1,          /* the text has more than TACKACORN_TEXT_LIMIT bytes */
@@ -100,6 +115,12 @@ enum tackacorn_refusal {
     TACKACORN_OVERFLOW = 22,         /* the number is too large */
     TACKACORN_INVALID_BOOL = 23,     /* neither 'yes' nor 'no' */
     TACKACORN_PRECISION_LOSS = 24,   /* no double is this number: the nearest is given */
+    TACKACORN_FILE_LENGTH = 31,      /* a file has under 12 bytes, or another length than it says */
+    TACKACORN_UNKNOWN_VERSION = 32,  /* a file of another version */
+    TACKACORN_FILE_NOT_SOUND = 33,   /* tackacorn_check says no to the sheet that is written or read */
+    TACKACORN_FILE_NO_ROOM = 34,     /* the buffer is under the file, or the words are under its tokens */
+    TACKACORN_FILE_TOO_LARGE = 35,   /* the text's length or the file's own is too large for its field */
+    TACKACORN_FILE_COUNT = 36,       /* a file's length is not that of a file of so many tokens */
     TACKACORN_NOT_SOUND = 41,        /* tackacorn_check says no */
     TACKACORN_TOO_DEEP = 42,         /* containers stand in each other deeper than TACKACORN_LEVEL_LIMIT */
     TACKACORN_WRITTEN_TOO_LONG = 43, /* the text to write has more than TACKACORN_TEXT_LIMIT bytes */
@@ -260,6 +281,72 @@ uint32_t tackacorn_view(const uint8_t *text, size_t text_length, const uint32_t 
 uint32_t tackacorn_write(const uint8_t *text, size_t text_length, const uint32_t *words, size_t words_length,
                          size_t count, uint8_t *out, size_t out_length, uint32_t *scratch,
                          size_t scratch_length, size_t *written);
+
+/* Writes a sheet as a sheet file, to be kept or sent: the first count tokens of the words, of a text of
+ * text_length bytes.
+ *
+ * Reads 3 * count words, or none where there are fewer, and nothing of the text. Writes every byte of the
+ * buffer out, whatever stood there: on success the file, from the first byte on, and zeros behind it; on a
+ * refusal zeros.
+ *
+ * Answers TACKACORN_OK: *written is the file's length, which is TACKACORN_FILE_BYTES_FOR(count). From these
+ * bytes tackacorn_sheet_read reads the same text length, count and words. Or answers a refusal, and *written
+ * is 0. The first of these that holds:
+ *
+ *   FILE_NOT_SOUND  tackacorn_check(text_length, words, words_length, count) is false
+ *   FILE_TOO_LARGE  text_length is over 16777215, or the file would have more than 4294967295 bytes
+ *   FILE_NO_ROOM    out_length is under TACKACORN_FILE_BYTES_FOR(count)
+ *
+ * The check knows no limit of a text's length: a sheet may be sound and be refused by FILE_TOO_LARGE.
+ *
+ * A file has these fields, each number with its highest byte first: the file's own length in four bytes, the
+ * version, which is 1, in one, the text's length in three, the count in four; then for each token its code in
+ * one byte, a in four and b in four. The text is not in it, and not whether it began with a BOM: keep or send
+ * the text beside it. */
+uint32_t tackacorn_sheet_write(size_t text_length, const uint32_t *words, size_t words_length, size_t count,
+                               uint8_t *out, size_t out_length, size_t *written);
+
+/* Reads a sheet from a sheet file, whatever its bytes are.
+ *
+ * Reads the file. Writes every word, whatever stood there: on success the tokens, three words each, from the
+ * first word on, and zeros behind them; on a refusal zeros.
+ *
+ * Answers TACKACORN_OK: *text_length is the length of the text that the sheet is of, *count is how many tokens
+ * it has, and tackacorn_check(*text_length, words, words_length, *count) is true. tackacorn_sheet_write makes
+ * the same bytes of them again: no two files hold one sheet. Or answers a refusal, and *text_length and *count
+ * are 0. The first of these that holds:
+ *
+ *   FILE_LENGTH      file_length is under TACKACORN_FILE_HEAD, or the file says another length
+ *   UNKNOWN_VERSION  the version is not 1
+ *   FILE_COUNT       file_length is not TACKACORN_FILE_BYTES_FOR of the count that the file says
+ *   FILE_NOT_SOUND   tackacorn_check is false of what the file holds
+ *   FILE_NO_ROOM     words_length is under TACKACORN_WORDS_PER_TOKEN times the count
+ *
+ * A file that finds no room was checked before: FILE_NO_ROOM says that it is sound. For words
+ * TACKACORN_FILE_WORDS_FOR(file_length) are always enough: then FILE_NO_ROOM does not come.
+ *
+ * BEFORE YOU TRUST A SHEET FROM A FILE
+ *
+ *  - You must bring the right text. A file holds none, and nothing of its bytes: over another text of the same
+ *    length every view is a part of that one, wrong and not refused. Hold *text_length against the text that
+ *    you have, which tells a text of another length, and a checksum of the text against what was sent, which
+ *    tells the others. It is the text that was parsed: its BOM counts, and so do the spaces over a first line
+ *    like "HOI4txt".
+ *  - A sheet from a stranger may be sound and yet be no parse of any text. A Quoted may have a backslash in its
+ *    bytes, or no quotes round them; an Unquoted may have blanks in it; a flag may be set where no
+ *    MixedContainer is; a key may have no value; and operators and MixedContainers may stand by the million
+ *    over a text of no bytes. Where that matters, parse the text, and hold its words against what was read.
+ *  - A file proves nothing of who wrote it. One that was cut short, or that grew, is refused; one in which a
+ *    byte was changed may be as sound as before. Hold a checksum of the file against what was sent.
+ *  - A sheet of no tokens is sound, and its file has 12 bytes: a count of 0 is no refusal, and a refusal leaves
+ *    one. Only the answer tells.
+ *  - A file may have up to 4294967295 bytes and be sound. tackacorn_parse lays at most 2 * n + 1 tokens of a
+ *    text of n bytes, so a larger file than TACKACORN_FILE_BYTES_FOR(2 * n + 1) is no parse of it: bound what
+ *    you read into memory.
+ *  - A file of version 1 may have TACKACORN_QUOTED_ESCAPE, code 11, which is taken here. A reader of version 1
+ *    that is older than that code calls such a file not sound. */
+uint32_t tackacorn_sheet_read(const uint8_t *file, size_t file_length, uint32_t *words, size_t words_length,
+                              size_t *text_length, uint32_t *count);
 
 /* The readings of a scalar's bytes. Each reads the bytes and writes *value: what it reads, or 0 on a
  * refusal, but for PRECISION_LOSS. They answer as the Rust does, also where that surprises:

@@ -1,4 +1,5 @@
-//! bench [BYTES] [SEED]: our calls and the Rust's on one save, in MB/s, and the way back beside our parse.
+//! bench [BYTES] [SEED]: our calls and the Rust's on one save, in MB/s, the way back beside our parse, and sheet
+//! files beside a plain copy of their bytes.
 //!
 //! Each pair is run in turns, and the best round of each counts. Both sides write into memory that they
 //! have written before, so that no round pays for fresh pages: the Rust empties its `Vec` of tokens and
@@ -14,22 +15,26 @@ use jomini::TextTape;
 use std::hint::black_box;
 use std::time::{Duration, Instant};
 
-/// The best of several rounds of two pieces of work, in turns.
-fn race(mut ours: impl FnMut(), mut theirs: impl FnMut()) -> (Duration, Duration) {
-    let time = |work: &mut dyn FnMut()| {
-        let start = Instant::now();
-        work();
-        start.elapsed()
-    };
-    let mut best = (Duration::MAX, Duration::MAX);
+/// The best of several rounds of some pieces of work, in turns.
+fn in_turns<const N: usize>(mut works: [&mut dyn FnMut(); N]) -> [Duration; N] {
+    let mut best = [Duration::MAX; N];
     let began = Instant::now();
     let mut rounds = 0;
     while rounds < 7 || began.elapsed() < Duration::from_millis(1500) {
-        best.0 = best.0.min(time(&mut ours));
-        best.1 = best.1.min(time(&mut theirs));
+        for (work, best) in works.iter_mut().zip(&mut best) {
+            let start = Instant::now();
+            work();
+            *best = start.elapsed().min(*best);
+        }
         rounds += 1;
     }
     best
+}
+
+/// The best of several rounds of two pieces of work, in turns.
+fn race(mut ours: impl FnMut(), mut theirs: impl FnMut()) -> (Duration, Duration) {
+    let [ours, theirs] = in_turns([&mut ours, &mut theirs]);
+    (ours, theirs)
 }
 
 fn show(what: &str, bytes: usize, (ours, theirs): (Duration, Duration)) {
@@ -98,6 +103,53 @@ fn way_back(size: usize, seed: u64) {
     );
 }
 
+/// A save's sheet put on file and read from it, each beside a plain copy of the file's bytes; and both, and the
+/// copy, beside the check of the same words. All four take turns, each into memory of its own that was written
+/// before, with no room to spare.
+fn on_file(text_length: usize, words: &[u32]) {
+    let count = words.len() / WORDS;
+    let laid = compare::file::laid(text_length as u32, words);
+    let (mut packed, mut copied) = (vec![1u8; laid.len()], vec![1u8; laid.len()]);
+    let mut unpacked = vec![1u32; words.len()];
+    assert_eq!(ours::pack(text_length, words, count, &mut packed), Ok(laid.len()));
+    assert!(packed == laid, "the files differ");
+    assert_eq!(ours::unpack(&laid, &mut unpacked), Ok((text_length, count)));
+    assert!(unpacked == words, "the words differ");
+    // the copy comes behind the reading, so that it has no colder file than that
+    let [check, unpack, copy, pack] = in_turns([
+        &mut || assert!(ours::check(text_length, black_box(words), count)),
+        &mut || {
+            let answer = ours::unpack(black_box(&laid), &mut unpacked);
+            assert_eq!(answer, Ok((text_length, count)));
+        },
+        &mut || black_box(&mut copied).copy_from_slice(black_box(&laid)),
+        &mut || {
+            let answer = ours::pack(text_length, black_box(words), count, &mut packed);
+            assert_eq!(answer, Ok(laid.len()));
+        },
+    ]);
+    show("pack (beside it: a plain copy)", laid.len(), (pack, copy));
+    show("unpack (beside it: a plain copy)", laid.len(), (unpack, copy));
+    let milliseconds = |time: Duration| 1e3 * time.as_secs_f64();
+    println!(
+        "  of a file of {} bytes, {count} tokens: packed in {:.3} ms, unpacked in {:.3} ms; a copy of its bytes \
+         {:.3} ms, a check of its words {:.3} ms",
+        laid.len(),
+        milliseconds(pack),
+        milliseconds(unpack),
+        milliseconds(copy),
+        milliseconds(check)
+    );
+    let allowed = check + 2 * copy;
+    println!(
+        "  unpacking takes {} than a check and two copies: {:.3} ms beside {:.3} ms, {:.2} of it",
+        if unpack <= allowed { "no longer" } else { "longer" },
+        milliseconds(unpack),
+        milliseconds(allowed),
+        unpack.as_secs_f64() / allowed.as_secs_f64()
+    );
+}
+
 fn main() {
     let mut args = std::env::args().skip(1).map(|a| a.parse().expect("a number"));
     let size: u64 = args.next().unwrap_or(1_000_000);
@@ -139,8 +191,11 @@ fn main() {
         || assert_eq!(ours::parse(black_box(text), &mut small), Ok(count)),
     );
     show("check (beside it: our parse)", text.len(), times);
+    let check = times.0.as_secs_f64();
+    println!("  a check takes {:.3} ms, {:.2} ns a token", 1e3 * check, 1e9 * check / count as f64);
     drop(small);
     way_back(text.len(), seed);
+    on_file(text.len(), &tokens);
 
     let scalars = &scalars(text, &tokens)[..];
     let bytes = scalars.iter().map(|scalar| scalar.len()).sum();

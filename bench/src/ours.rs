@@ -23,6 +23,23 @@ unsafe extern "C" {
         scratch_length: usize,
         written: &mut usize,
     ) -> u32;
+    fn tackacorn_sheet_write(
+        text_length: usize,
+        words: *const u32,
+        words_length: usize,
+        count: usize,
+        out: *mut u8,
+        out_length: usize,
+        written: &mut usize,
+    ) -> u32;
+    fn tackacorn_sheet_read(
+        file: *const u8,
+        file_length: usize,
+        words: *mut u32,
+        words_length: usize,
+        text_length: &mut usize,
+        count: &mut u32,
+    ) -> u32;
     fn tackacorn_to_bool(scalar: *const u8, length: usize, value: &mut u32) -> u32;
     fn tackacorn_to_u64(scalar: *const u8, length: usize, value: &mut u64) -> u32;
     fn tackacorn_to_i64(scalar: *const u8, length: usize, value: &mut i64) -> u32;
@@ -72,6 +89,34 @@ pub fn write(
         )
     };
     if refusal == 0 { Ok(written) } else { Err(refusal) }
+}
+
+/// The length of a sheet's file, or the number of its refusal.
+pub fn pack(text_length: usize, words: &[u32], count: usize, out: &mut [u8]) -> Result<usize, u32> {
+    let mut written = 0;
+    let (bytes, length) = (out.as_mut_ptr(), out.len());
+    let refusal = unsafe {
+        tackacorn_sheet_write(
+            text_length,
+            words.as_ptr(),
+            words.len(),
+            count,
+            bytes,
+            length,
+            &mut written,
+        )
+    };
+    if refusal == 0 { Ok(written) } else { Err(refusal) }
+}
+
+/// The text length and the count of a file's sheet, or the number of its refusal.
+pub fn unpack(file: &[u8], words: &mut [u32]) -> Result<(usize, usize), u32> {
+    let (mut text_length, mut count) = (0, 0);
+    let (sheet, length) = (words.as_mut_ptr(), words.len());
+    let refusal = unsafe {
+        tackacorn_sheet_read(file.as_ptr(), file.len(), sheet, length, &mut text_length, &mut count)
+    };
+    if refusal == 0 { Ok((text_length, count as usize)) } else { Err(refusal) }
 }
 
 pub fn to_bool(scalar: &[u8]) -> (u32, u64) {

@@ -1,6 +1,7 @@
 //! Cases by seed: document 01's own at the head of a run, then the short ones in order and among
 //! them a mix.
 
+use crate::files::Files;
 use crate::numbers::{LONGEST, MOST_ROOM, MOST_SCRATCH, MOST_TOKENS, UNQUOTED, WORDS, token};
 use crate::record::Record;
 use crate::rng::Rng;
@@ -16,6 +17,7 @@ pub struct Generator {
     scalars: usize,
     sheets: usize,
     writes: Writes,
+    pub files: Files,
     pub left_out: LeftOut,
 }
 
@@ -31,13 +33,16 @@ const HEAD: usize = 16_000;
 
 /// Whether the next case, which is counted, is one of the short ones: at the head every second, later every
 /// fourth.
-fn short_is_due(made: &mut usize) -> bool {
+pub fn short_is_due(made: &mut usize) -> bool {
     let every = if *made < HEAD { 2 } else { 4 };
     *made += 1;
     made.is_multiple_of(every)
 }
 
-/// How many of a hundred cases are sheets to write out.
+/// How many of a hundred cases are sheets to put on file and files to read.
+const FILES: usize = 31;
+
+/// How many of a hundred other cases are sheets to write out.
 const WRITES: usize = 34;
 
 /// The sheets to write out of one seed. They have a chance of their own, so that they do not change which
@@ -100,8 +105,9 @@ impl Generator {
     pub fn new(seed: u64) -> Self {
         let (rng, edges) = (Rng::new(seed), edges::records().into_iter());
         let writes = Writes { rng: Rng::new(seed ^ u64::from(b'W')), made: 0, short: 0 };
+        let files = Files::new(Rng::new(seed ^ u64::from(b'F')));
         let left_out = LeftOut::default();
-        Generator { rng, edges, made: 0, texts: 0, scalars: 0, sheets: 0, writes, left_out }
+        Generator { rng, edges, made: 0, texts: 0, scalars: 0, sheets: 0, writes, files, left_out }
     }
 
     fn take(number: &mut usize) -> usize {
@@ -165,6 +171,9 @@ impl Iterator for Generator {
         if let Some(edge) = self.edges.next() {
             return Some(edge);
         }
+        if self.files.are_due(FILES) {
+            return Some(self.files.record());
+        }
         if self.writes.rng.chance(WRITES) {
             return Some(self.writes.record(&mut self.left_out.sheets));
         }
@@ -182,11 +191,14 @@ impl Iterator for Generator {
     }
 }
 
+/// Lengths of a body that is a sheet to the end and does not come out even, or has no whole head.
+const UNEVEN: [usize; 8] = [0, 1, 7, 9, 10, 11, 13, 21];
+
 /// Bytes that end in a bad record, of every way to be bad: the answer is `bad record`, whatever
 /// comes behind.
 pub fn bad(rng: &mut Rng) -> Vec<u8> {
     let good = Record::text(texts::any(rng), 100);
-    let mut bytes = match rng.below(9) {
+    let mut bytes = match rng.below(10) {
         // cut short: these end the input
         0 => {
             let mut bytes = good.bytes();
@@ -198,10 +210,10 @@ pub fn bad(rng: &mut Rng) -> Vec<u8> {
             bytes.truncate(rng.between(5, 7));
             return bytes;
         }
-        2 => Record { kind: *rng.pick(b"AUtsv\0\n"), ..good.clone() }.bytes(),
+        2 => Record { kind: *rng.pick(b"AUNtsvfr\0\n"), ..good.clone() }.bytes(),
         3 => Record { body: vec![b' '; rng.between(LONGEST + 1, 65_535)], ..good.clone() }.bytes(),
         4 => {
-            let length = *rng.pick(&[0, 1, 7, 9, 10, 11, 13, 21]);
+            let length = *rng.pick(&UNEVEN);
             Record { kind: b'C', capacity: 0, body: vec![0; length] }.bytes()
         }
         5 => Record { kind: b'V', capacity: 0, body: vec![0; rng.below(10)] }.bytes(),
@@ -210,6 +222,10 @@ pub fn bad(rng: &mut Rng) -> Vec<u8> {
             let mut record = Record::write(9, 9, 1, &token(UNQUOTED, 0, 1), b"");
             record.body.pop();
             record.bytes()
+        }
+        8 => {
+            let length = *rng.pick(&UNEVEN);
+            Record { kind: b'F', capacity: 100, body: vec![0; length] }.bytes()
         }
         _ => {
             let mut record = Record::view(0, 1, &token(UNQUOTED, 0, 1), b"");

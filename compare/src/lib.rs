@@ -3,8 +3,12 @@
 pub mod domain;
 pub mod edges;
 pub mod edits;
+pub mod file;
+pub mod file_edges;
+pub mod files;
 pub mod generate;
 pub mod model;
+pub mod model_file;
 pub mod model_writer;
 pub mod numbers;
 pub mod oracle;

@@ -21,9 +21,25 @@ pub const LONGEST: usize = 32_768;
 /// The dump's room in tokens, and the most that a record is lent: a capacity over it is taken for it.
 pub const MOST_TOKENS: u16 = 5_000;
 
-/// The most bytes of room that a record lends for a text that is written, and the most words of scratch.
+/// The most bytes of room that a record lends for a text or a file that is written, and the most words of
+/// scratch, or of room for a sheet that is read.
 pub const MOST_ROOM: usize = 32_768;
 pub const MOST_SCRATCH: usize = 16_384;
+
+/// The version of a sheet file; its bytes before the tokens: its own length in four, the version, the text's
+/// length in three, the count in four; and the bytes of a token there: its code, and two words in four each.
+pub const FILE_VERSION: u8 = 1;
+pub const FILE_HEAD: usize = 12;
+pub const FILE_TOKEN: usize = 9;
+
+/// The most that three bytes tell, and four.
+pub const MOST_OF_THREE: u32 = 0xff_ffff;
+pub const MOST_OF_FOUR: u64 = 0xffff_ffff;
+
+// No record needs more room than the most: the largest sheet that one holds has a shorter file, and the
+// largest file that one holds has fewer words. So a room over the most changes no answer.
+const _: () = assert!(FILE_HEAD + FILE_TOKEN * ((LONGEST - 8) / (4 * WORDS)) < MOST_ROOM);
+const _: () = assert!(WORDS * ((LONGEST - FILE_HEAD) / FILE_TOKEN) < MOST_SCRATCH);
 
 /// How many containers a text that is written may have one in another.
 pub const MOST_LEVELS: usize = 64;
@@ -139,6 +155,14 @@ pub const ALL_DIGITS: u8 = 21;
 pub const OVERFLOW: u8 = 22;
 pub const INVALID_BOOL: u8 = 23;
 pub const PRECISION_LOSS: u8 = 24;
+
+/// Those of request W1: reading looks in the order 31, 32, 36, 33, 34, and writing in the order 33, 35, 34.
+pub const FILE_LENGTH: u8 = 31;
+pub const UNKNOWN_VERSION: u8 = 32;
+pub const FILE_NOT_SOUND: u8 = 33;
+pub const FILE_NO_ROOM: u8 = 34;
+pub const FILE_TOO_LARGE: u8 = 35;
+pub const FILE_COUNT: u8 = 36;
 
 /// Those of request W5, which holds them against a sheet in the order 41, 46, 42, 43, 44, 45.
 pub const NOT_SOUND: u8 = 41;

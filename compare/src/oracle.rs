@@ -2,7 +2,7 @@
 
 use crate::numbers::*;
 use crate::record::{self, Question, bits, reading};
-use crate::{sheet, writer};
+use crate::{file, sheet, writer};
 use jomini::text::Operator;
 use jomini::{ErrorKind, Scalar, ScalarError, TextTape, TextToken};
 
@@ -150,5 +150,7 @@ pub fn answer(question: Question<'_>, out: &mut String) {
             record::write_view(out, sheet::view(text, &words, count, index));
         }
         Question::Write(asked) => record::write_written(out, writer::write(&asked)),
+        Question::Pack(asked) => record::write_packed(out, file::pack(&asked)),
+        Question::Unpack(asked) => record::write_unpacked(out, file::unpack(&asked)),
     }
 }

@@ -24,7 +24,7 @@ pub fn ask(command: &[String], input: &[u8]) -> io::Result<(Vec<u8>, Option<Stri
     Ok((output, (!status.success()).then(|| status.to_string())))
 }
 
-/// The answers one by one: a tape's header is followed by a line for each token.
+/// The answers one by one: the header of a tape or of a sheet is followed by a line for each token.
 pub fn answers(output: &[u8]) -> Vec<&[u8]> {
     let mut lines = output.split_inclusive(|&b| b == b'\n');
     let mut answers = Vec::new();
@@ -37,9 +37,14 @@ pub fn answers(output: &[u8]) -> Vec<&[u8]> {
     answers
 }
 
+/// How many tokens a header says that there are.
 fn tokens(line: &[u8]) -> Option<usize> {
-    let rest = std::str::from_utf8(line.strip_prefix(b"tokens ")?).ok()?;
-    rest.split(' ').next()?.parse().ok()
+    let mut words = std::str::from_utf8(line).ok()?.split_whitespace();
+    match words.next()? {
+        "tokens" => words.next()?.parse().ok(),
+        "sheet" => words.nth(1)?.parse().ok(),
+        _ => None,
+    }
 }
 
 pub fn hex(bytes: &[u8]) -> String {

@@ -44,6 +44,16 @@ impl Record {
         Record { kind: b'W', capacity: room, body }
     }
 
+    /// A sheet to put on file, with `room` bytes for the file.
+    pub fn pack(room: u16, length: u32, count: u32, words: &[u32]) -> Self {
+        Record { kind: b'F', capacity: room, ..Record::check(length, count, words) }
+    }
+
+    /// A file to read, with `room` words for its sheet.
+    pub fn unpack(room: u16, file: Vec<u8>) -> Self {
+        Record { kind: b'R', capacity: room, body: file }
+    }
+
     pub fn bytes(&self) -> Vec<u8> {
         let mut bytes = vec![self.kind];
         bytes.extend(self.capacity.to_be_bytes());
@@ -60,6 +70,8 @@ pub enum Question<'r> {
     Check { length: u32, count: u32, words: Vec<u32> },
     View { index: u32, count: u32, words: Vec<u32>, text: &'r [u8] },
     Write(ToWrite<'r>),
+    Pack(ToPack),
+    Unpack(ToUnpack<'r>),
 }
 
 /// A sheet that is to be written out: the room for its text in bytes, the scratch in words.
@@ -69,6 +81,20 @@ pub struct ToWrite<'r> {
     pub count: u32,
     pub words: Vec<u32>,
     pub text: &'r [u8],
+}
+
+/// A sheet that is to be put on file: the room for the file in bytes, the text's length.
+pub struct ToPack {
+    pub room: usize,
+    pub length: u32,
+    pub count: u32,
+    pub words: Vec<u32>,
+}
+
+/// A file that is to be read: the room for its sheet in words. It may be any bytes.
+pub struct ToUnpack<'r> {
+    pub room: usize,
+    pub file: &'r [u8],
 }
 
 fn words(bytes: &[u8]) -> Vec<u32> {
@@ -88,20 +114,32 @@ impl Record {
                 Some(Question::Text { text: body, capacity })
             }
             b'S' => Some(Question::Scalar { bytes: body }),
-            b'C' => asked_check(body),
+            b'C' => {
+                let (length, count, words) = sheet_to_end(body)?;
+                Some(Question::Check { length, count, words })
+            }
             b'V' => asked_view(body),
             b'W' => asked_write(self.capacity, body),
+            b'F' => {
+                let room = usize::from(self.capacity);
+                let (length, count, words) = sheet_to_end(body)?;
+                Some(Question::Pack(ToPack { room, length, count, words }))
+            }
+            b'R' => {
+                let room = usize::from(self.capacity);
+                Some(Question::Unpack(ToUnpack { room, file: body }))
+            }
             _ => None,
         }
     }
 }
 
-/// A sheet to check: a text length, a count, and words to the end.
-fn asked_check(body: &[u8]) -> Option<Question<'_>> {
+/// A text length, a count, and words to the end.
+fn sheet_to_end(body: &[u8]) -> Option<(u32, u32, Vec<u32>)> {
     let (head, rest) = body.split_first_chunk::<8>()?;
     let head = words(head);
     let even = rest.len() % 4 == 0;
-    even.then(|| Question::Check { length: head[0], count: head[1], words: words(rest) })
+    even.then(|| (head[0], head[1], words(rest)))
 }
 
 /// A view: an index, a count, how many words, the words, and the text to the end.
@@ -170,6 +208,11 @@ pub fn serve(
 /// The dump's lines for a tape.
 pub fn write_tape(out: &mut String, words: &[u32], bom: bool) {
     writeln!(out, "tokens {} bom {}", words.len() / WORDS, u8::from(bom)).unwrap();
+    write_tokens(out, words);
+}
+
+/// A line a token.
+fn write_tokens(out: &mut String, words: &[u32]) {
     for (i, token) in words.chunks_exact(WORDS).enumerate() {
         writeln!(out, "{i} {} {} {}", name(token[0]), token[1], token[2]).unwrap();
     }
@@ -191,7 +234,7 @@ pub fn bits(float: f64) -> String {
 /// One line for a view; the empty view is `view` and a space, with nothing after it.
 pub fn write_view<E>(out: &mut String, view: Result<&[u8], E>) {
     match view {
-        Err(_) => writeln!(out, "refused {NO_SCALAR}").unwrap(),
+        Err(_) => write_number(out, NO_SCALAR),
         Ok(bytes) => write_hex(out, "view", bytes),
     }
 }
@@ -199,9 +242,34 @@ pub fn write_view<E>(out: &mut String, view: Result<&[u8], E>) {
 /// One line for a sheet's text, or for the refusal to write it.
 pub fn write_written(out: &mut String, written: Result<Vec<u8>, u8>) {
     match written {
-        Err(number) => writeln!(out, "refused {number}").unwrap(),
+        Err(number) => write_number(out, number),
         Ok(bytes) => write_hex(out, "text", &bytes),
     }
+}
+
+/// One line for a sheet's file, or for the refusal to make it.
+pub fn write_packed(out: &mut String, packed: Result<Vec<u8>, u8>) {
+    match packed {
+        Err(number) => write_number(out, number),
+        Ok(bytes) => write_hex(out, "file", &bytes),
+    }
+}
+
+/// The text length and the words that a file holds, as a line for the length and the count and a line a
+/// token; or the refusal to read it.
+pub fn write_unpacked(out: &mut String, unpacked: Result<(u32, Vec<u32>), u8>) {
+    match unpacked {
+        Err(number) => write_number(out, number),
+        Ok((length, words)) => {
+            writeln!(out, "sheet {length} {}", words.len() / WORDS).unwrap();
+            write_tokens(out, &words);
+        }
+    }
+}
+
+/// A refusal that has no place.
+fn write_number(out: &mut String, number: u8) {
+    writeln!(out, "refused {number}").unwrap();
 }
 
 /// A word, a space, and the bytes in hex: none leave the space at the line's end.
@@ -233,11 +301,17 @@ mod tests {
             Record::check(0, 0, &[]),
             Record::view(0, 0, &[1], b""),
             Record::write(0, 0, u32::MAX, &[1], b""),
+            Record::pack(0, u32::MAX, u32::MAX, &[1]),
+            Record::unpack(0, Vec::new()),
+            Record::unpack(u16::MAX, vec![0; 13]),
             Record { capacity: 65_535, ..Record::scalar(Vec::new()) },
         ];
         let input: Vec<u8> = good.iter().flat_map(Record::bytes).collect();
         assert_eq!(served(&input), "answer\n".repeat(good.len()));
-        assert_eq!(served(&input[..input.len() - 1]), "answer\n".repeat(5) + "bad record\n");
+        assert_eq!(
+            served(&input[..input.len() - 1]),
+            "answer\n".repeat(good.len() - 1) + "bad record\n"
+        );
     }
 
     #[test]
@@ -260,6 +334,9 @@ mod tests {
             body(b'C', 9),
             body(b'V', 9),
             body(b'W', 7),
+            body(b'F', 7),
+            body(b'F', 9),
+            body(b'R', LONGEST + 1),
             Record { body: vec![0, 0, 0, 0, 0, 0, 0, 0, 0, 1, 0, 0, 0], ..body(b'V', 0) },
             Record { body: vec![0, 0, 0, 0, 0, 0, 0, 1, 0, 0, 0], ..body(b'W', 0) },
         ] {

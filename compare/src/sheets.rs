@@ -1,10 +1,9 @@
 //! Sheets to check and views to ask for: made by parsing, whole and with something changed.
 
 use crate::numbers::*;
-use crate::oracle;
 use crate::record::Record;
 use crate::rng::Rng;
-use crate::texts;
+use crate::{oracle, texts};
 
 #[derive(Clone)]
 pub struct Sheet {
@@ -25,17 +24,35 @@ pub fn parsed(rng: &mut Rng) -> Sheet {
     }
 }
 
-/// The small sheets in order: every lone token with small words, over texts of up to two bytes. Codes
-/// and operators go from none to past the last.
+/// How many codes, first words, second words and text lengths the lone tokens have: codes and operators go
+/// from none to past the last.
+const LONE: [usize; 4] = [LAST_CODE as usize + 3, EXISTS as usize + 2, 4, 3];
+
+/// How many lone tokens there are.
+pub const LONE_TOKENS: usize = LONE[0] * LONE[1] * LONE[2] * LONE[3];
+
+/// The small sheets in order: every lone token with small words, over texts of up to two bytes.
+pub fn lone_token(number: usize) -> Option<(u32, [u32; WORDS])> {
+    let mut left = number;
+    let [code, a, b, length] = LONE.map(|numbers| {
+        let digit = left % numbers;
+        left /= numbers;
+        digit as u32
+    });
+    (number < LONE_TOKENS).then_some((length, token(code, a, b)))
+}
+
 pub fn short(number: usize) -> Option<Record> {
-    let (codes, links) = (LAST_CODE as usize + 3, EXISTS as usize + 2);
-    let (code, a, b) = (number % codes, number / codes % links, number / (codes * links) % 4);
-    let length = number / (codes * links * 4);
-    let words = token(code as u32, a as u32, b as u32);
-    (length < 3).then(|| Record::check(length as u32, 1, &words))
+    lone_token(number).map(|(length, words)| Record::check(length, 1, &words))
 }
 
 pub fn check(rng: &mut Rng) -> Record {
+    let (length, sheet) = any(rng);
+    Record::check(length, sheet.count, &sheet.words)
+}
+
+/// A sheet and the length of its text, whole or with something changed.
+pub fn any(rng: &mut Rng) -> (u32, Sheet) {
     let mut sheet = parsed(rng);
     let mut length = sheet.text.len() as u32;
     match rng.weighted(&[16, 18, 8, 6, 6, 6, 6, 6, 3, 35]) {
@@ -54,7 +71,7 @@ pub fn check(rng: &mut Rng) -> Record {
         _ => bend(rng, &mut sheet),
     }
     spare(rng, &mut sheet);
-    Record::check(length, sheet.count, &sheet.words)
+    (length, sheet)
 }
 
 pub fn view(rng: &mut Rng) -> Record {

@@ -1,6 +1,7 @@
 //! The model's answers, for testing the comparison, and the faults that it can be given.
 
 use crate::model::{self, F64Refusal, Refusal};
+use crate::model_file::{self, Fault as FileFault};
 use crate::model_writer::{self, Fault as WriterFault};
 use crate::numbers::*;
 use crate::record::{self, Question, bits, reading};
@@ -18,9 +19,10 @@ fn readings(bytes: &[u8]) -> String {
 
 /// The model's answer, or that of a wrong program.
 pub fn answer(question: Question<'_>, fault: Option<Fault>, out: &mut String) {
-    let writer_fault = match fault {
-        Some((_, Wrong::Writer(fault))) => Some(fault),
-        _ => None,
+    let (writer_fault, file_fault) = match fault {
+        Some((_, Wrong::Writer(fault))) => (Some(fault), None),
+        Some((_, Wrong::File(fault))) => (None, Some(fault)),
+        _ => (None, None),
     };
     match question {
         Question::Text { text, capacity } => {
@@ -40,17 +42,23 @@ pub fn answer(question: Question<'_>, fault: Option<Fault>, out: &mut String) {
         Question::Write(asked) => {
             record::write_written(out, model_writer::write(&asked, writer_fault));
         }
+        Question::Pack(asked) => record::write_packed(out, model_file::pack(&asked, file_fault)),
+        Question::Unpack(asked) => {
+            record::write_unpacked(out, model_file::unpack(&asked, file_fault));
+        }
     }
     if let Some((_, Wrong::Answer(spoilt))) = fault {
         *out = spoilt(out);
     }
 }
 
-/// What is wrong with a program: what it makes of a right answer, or how it writes a sheet.
+/// What is wrong with a program: what it makes of a right answer, how it writes a sheet, or how it
+/// puts one on file and reads it.
 #[derive(Clone, Copy)]
 pub enum Wrong {
     Answer(fn(&str) -> String),
     Writer(WriterFault),
+    File(FileFault),
 }
 
 /// A wrong program and its name.
@@ -61,7 +69,7 @@ pub fn fault(name: &str) -> Option<Fault> {
     FAULTS.into_iter().find(|fault| fault.0 == name)
 }
 
-pub const FAULTS: [Fault; 24] = [
+pub const FAULTS: [Fault; 49] = [
     ("exists_is_equal", Wrong::Answer(|right| right.replace(&operator(EXISTS), &operator(EQUAL)))),
     (
         "not_equal_is_exact",
@@ -98,6 +106,31 @@ pub const FAULTS: [Fault; 24] = [
     ("empty_is_no_level", Wrong::Writer(WriterFault::EmptyIsNoLevel)),
     ("operator_7_is_none", Wrong::Writer(WriterFault::SevenIsNone)),
     ("scratch_not_measured", Wrong::Writer(WriterFault::ScratchForgotten)),
+    ("pack_room_before_sound", Wrong::File(FileFault::PackRoomBeforeSound)),
+    ("pack_field_before_sound", Wrong::File(FileFault::PackFieldBeforeSound)),
+    ("pack_room_before_field", Wrong::File(FileFault::PackRoomBeforeField)),
+    ("pack_little_endian", Wrong::File(FileFault::PackLittleEndian)),
+    ("total_one_off", Wrong::File(FileFault::TotalOneOff)),
+    ("text_length_cut", Wrong::File(FileFault::TextLengthCut)),
+    ("text_length_one_less", Wrong::File(FileFault::TextLengthOneLess)),
+    ("spare_tokens_written", Wrong::File(FileFault::SpareTokens)),
+    ("count_signed", Wrong::File(FileFault::CountSigned)),
+    ("checked_for_any_text", Wrong::File(FileFault::AnyText)),
+    ("unpack_room_before_sound", Wrong::File(FileFault::UnpackRoomBeforeSound)),
+    ("sound_before_count", Wrong::File(FileFault::SoundBeforeCount)),
+    ("count_before_version", Wrong::File(FileFault::CountBeforeVersion)),
+    ("version_before_total", Wrong::File(FileFault::VersionBeforeTotal)),
+    ("version_not_looked_at", Wrong::File(FileFault::AnyVersion)),
+    ("first_word_not_looked_at", Wrong::File(FileFault::AnyTotal)),
+    ("empty_file_too_short", Wrong::File(FileFault::EmptyTooShort)),
+    ("a_byte_longer_taken", Wrong::File(FileFault::ByteLonger)),
+    ("count_in_32_bits", Wrong::File(FileFault::CountIn32Bits)),
+    ("unpack_little_endian", Wrong::File(FileFault::UnpackLittleEndian)),
+    ("text_length_of_four_bytes", Wrong::File(FileFault::TextLengthOfFour)),
+    ("code_of_four_bits", Wrong::File(FileFault::CodeOfFourBits)),
+    ("codes_alone_checked", Wrong::File(FileFault::CodesAlone)),
+    ("code_11_refused", Wrong::File(FileFault::EscapeRefused)),
+    ("room_in_tokens", Wrong::File(FileFault::RoomInTokens)),
 ];
 
 /// A name as it stands in a line of the dump.

@@ -1,8 +1,10 @@
 //! What a run reached: cases by kind, refusals, token codes, operators, escapes, readings, faults of
-//! sheets, and what sheets that were to be written out came to.
+//! sheets, what sheets that were to be written out came to, and what became of sheets to put on file and of
+//! files to read.
 
+use crate::file::{self, Cause};
 use crate::numbers::*;
-use crate::record::{Question, Record, ToWrite};
+use crate::record::{Question, Record, ToPack, ToUnpack, ToWrite};
 use crate::sheet::{self, FAULTS, NoScalar};
 use crate::writer::{self, Judged};
 use std::collections::BTreeMap;
@@ -68,7 +70,7 @@ const CAUSES: [NoScalar; 4] = [
 /// All that records can reach. Refusal 1 needs a text longer than a record holds.
 fn expected() -> Vec<Feature> {
     let mut all: Vec<Feature> = Vec::new();
-    all.extend(["T", "S", "C", "V", "W"].map(|kind| ("cases", kind.to_string())));
+    all.extend(["T", "S", "C", "V", "W", "F", "R"].map(|kind| ("cases", kind.to_string())));
     all.extend((EOF..=FULL).map(|number| ("refusals", number.to_string())));
     all.extend(NAMES.map(|(_, name)| ("tokens", name.to_string())));
     all.extend((LESS_THAN..=EXISTS).map(|kind| ("operators", kind.to_string())));
@@ -100,8 +102,62 @@ fn expected() -> Vec<Feature> {
         let answer = if levels > MOST_LEVELS { "refused" } else { "written" };
         all.push(("levels", format!("{levels} {answer}")));
     }
+    all.extend(expected_of_files());
     all
 }
+
+/// All that sheets to put on file and files to read can reach. A file has the words that its count asks
+/// for, so that its sheet cannot fail for them.
+fn expected_of_files() -> Vec<Feature> {
+    let mut all: Vec<Feature> = Vec::new();
+    for heading in ["files written", "files read"] {
+        all.extend(["no tokens", "tokens"].map(|tokens| (heading, tokens.to_string())));
+    }
+    all.extend(file::PACK_CAUSES.map(|cause| ("no file for", format!("{cause:?}"))));
+    all.extend(file::UNPACK_CAUSES.map(|cause| ("not read for", format!("{cause:?}"))));
+    all.push(("not read for", IN_32_BITS.to_string()));
+    let numbers = [FILE_NOT_SOUND, FILE_TOO_LARGE, FILE_NO_ROOM];
+    all.extend(numbers.map(|number| ("writing refused", number.to_string())));
+    let numbers = [FILE_LENGTH, UNKNOWN_VERSION, FILE_COUNT, FILE_NOT_SOUND, FILE_NO_ROOM];
+    all.extend(numbers.map(|number| ("reading refused", number.to_string())));
+    let two = |(first, then): (u8, u8)| format!("{first} and {then}");
+    all.extend(AT_ONCE_IN_WRITING.map(|pair| ("two refusals in writing", two(pair))));
+    all.extend(AT_ONCE_IN_READING.map(|pair| ("two refusals in reading", two(pair))));
+    for (_, name) in NAMES {
+        all.extend(["tokens on file", "tokens read"].map(|heading| (heading, name.to_string())));
+    }
+    let faults = FAULTS.into_iter().filter(|fault| *fault != sheet::Fault::CountOverWords);
+    all.extend(faults.map(|fault| ("in a file failing this alone", format!("{fault:?}"))));
+    for rooms in ["room for a file", "room for a sheet"] {
+        all.extend(["one less", "the need", "one more"].map(|room| (rooms, room.to_string())));
+    }
+    all.extend(TEXT_LENGTHS.map(|length| ("text lengths to file", length.to_string())));
+    all
+}
+
+/// Refusals to write a file that are looked for together, the one that is given first.
+const AT_ONCE_IN_WRITING: [(u8, u8); 3] = [
+    (FILE_NOT_SOUND, FILE_TOO_LARGE),
+    (FILE_NOT_SOUND, FILE_NO_ROOM),
+    (FILE_TOO_LARGE, FILE_NO_ROOM),
+];
+
+/// Refusals to read a file that are looked for together, the one that is given first.
+const AT_ONCE_IN_READING: [(u8, u8); 7] = [
+    (FILE_LENGTH, UNKNOWN_VERSION),
+    (FILE_LENGTH, FILE_COUNT),
+    (FILE_LENGTH, FILE_NOT_SOUND),
+    (UNKNOWN_VERSION, FILE_COUNT),
+    (UNKNOWN_VERSION, FILE_NOT_SOUND),
+    (FILE_COUNT, FILE_NOT_SOUND),
+    (FILE_NOT_SOUND, FILE_NO_ROOM),
+];
+
+/// The name of a file whose count agrees with its length in 32 bits and not in whole numbers.
+const IN_32_BITS: &str = "OtherCount that agrees in 32 bits";
+
+/// The text lengths that are looked for in sheets to put on file.
+const TEXT_LENGTHS: [u32; 4] = [0, MOST_OF_THREE, MOST_OF_THREE + 1, u32::MAX];
 
 /// Refusals to write that are looked for together, the one that is given first.
 const AT_ONCE: [(u8, u8); 6] = [
@@ -138,8 +194,96 @@ pub fn features(record: &Record, answer: &str) -> Vec<Feature> {
             });
         }
         Some(Question::Write(asked)) => found.extend(write_features(&asked)),
+        Some(Question::Pack(asked)) => found.extend(pack_features(&asked)),
+        Some(Question::Unpack(asked)) => found.extend(unpack_features(&asked, answer)),
     }
     found
+}
+
+/// What a sheet that is to be put on file shows: that it was, or why it was not and what else stood against
+/// it, how near the room came to the need, and the text length where it is one that is looked for.
+fn pack_features(asked: &ToPack) -> Vec<Feature> {
+    let causes = file::against_packing(asked);
+    let mut found: Vec<Feature> = Vec::new();
+    match causes.first() {
+        None => {
+            let names = asked.words.chunks_exact(WORDS).take(asked.count as usize);
+            let names = names.map(|token| name(token[0]).to_string());
+            found.push(("files written", some_tokens(asked.count)));
+            found.extend(names.map(|name| ("tokens on file", name)));
+        }
+        Some(first) => {
+            found.push(("no file for", format!("{first:?}")));
+            found.push(("writing refused", first.number().to_string()));
+            found.extend(others(&causes).map(|two| ("two refusals in writing", two)));
+        }
+    }
+    if !causes.contains(&Cause::NotSound) {
+        let room = beside(asked.room, file::length_of(asked.count) as usize);
+        found.extend(room.map(|room| ("room for a file", room.to_string())));
+    }
+    let length = TEXT_LENGTHS.contains(&asked.length);
+    found.extend(length.then(|| ("text lengths to file", asked.length.to_string())));
+    found
+}
+
+/// What a file that is to be read shows: that it was, or why it was not and what else stood against it, and how
+/// near the room came to the need; which sentence alone an unsound one fails.
+fn unpack_features(asked: &ToUnpack<'_>, answer: &str) -> Vec<Feature> {
+    let causes = file::against_unpacking(asked);
+    let mut found: Vec<Feature> = Vec::new();
+    match causes.first() {
+        None => {
+            let names = answer.lines().skip(1).filter_map(|line| line.split(' ').nth(1));
+            found.push(("files read", some_tokens(file::count(asked.file).unwrap_or(0))));
+            found.extend(names.map(|name| ("tokens read", name.to_string())));
+        }
+        Some(first) => {
+            found.push(("not read for", format!("{first:?}")));
+            found.push(("reading refused", first.number().to_string()));
+            found.extend(others(&causes).map(|two| ("two refusals in reading", two)));
+        }
+    }
+    match causes.first() {
+        Some(Cause::OtherCount) if file::agrees_in_32_bits_alone(asked.file) => {
+            found.push(("not read for", IN_32_BITS.to_string()));
+        }
+        Some(Cause::NotSound) => {
+            let (length, words) = file::sheet_in(asked.file);
+            if let [fault] = sheet::faults(length, &words, (words.len() / WORDS) as u32)[..] {
+                found.push(("in a file failing this alone", format!("{fault:?}")));
+            }
+        }
+        None | Some(Cause::NoRoom) => {
+            let need = WORDS * file::count(asked.file).unwrap_or(0) as usize;
+            let room = beside(asked.room, need);
+            found.extend(room.map(|room| ("room for a sheet", room.to_string())));
+        }
+        _ => {}
+    }
+    found
+}
+
+/// Whether there are tokens, in words.
+fn some_tokens(count: u32) -> String {
+    if count == 0 { "no tokens" } else { "tokens" }.to_string()
+}
+
+/// The refusal that was given with each other one that held as well.
+fn others(causes: &[Cause]) -> impl Iterator<Item = String> {
+    let first = causes[0].number();
+    let others = causes.iter().map(|cause| cause.number()).filter(move |&number| number != first);
+    others.map(move |number| format!("{first} and {number}"))
+}
+
+/// A room that is what is needed, or one beside it.
+fn beside(room: usize, need: usize) -> Option<&'static str> {
+    match (room + 1).checked_sub(need) {
+        Some(0) => Some("one less"),
+        Some(1) => Some("the need"),
+        Some(2) => Some("one more"),
+        _ => None,
+    }
 }
 
 /// What a sheet that is to be written out shows: what was written, or why it was not and what else stood
@@ -180,12 +324,6 @@ fn written_tokens(asked: &ToWrite<'_>) -> Vec<Feature> {
 
 /// A buffer, a scratch or a depth that is just at its limit or beside it.
 fn near_limits(asked: &ToWrite<'_>, judged: &Judged) -> Vec<Feature> {
-    let beside = |room: usize, need: usize| match (room + 1).checked_sub(need) {
-        Some(0) => Some("one less"),
-        Some(1) => Some("the need"),
-        Some(2) => Some("one more"),
-        _ => None,
-    };
     let bytes = judged.text.as_ref().and_then(|text| beside(asked.room, text.len()));
     let words =
         judged.text.as_ref().and_then(|_| beside(asked.scratch, WORDS * asked.count as usize));

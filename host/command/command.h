@@ -10,7 +10,7 @@
 /* How the command ends. Of several files the greatest counts. */
 enum status {
     STATUS_WELL = 0,      /* all was well */
-    STATUS_REFUSED = 1,   /* a save is refused, or cannot be written */
+    STATUS_REFUSED = 1,   /* a save or a sheet file is refused, or cannot be written */
     STATUS_CALL = 2,      /* the command was called wrongly */
     STATUS_SYSTEM = 3,    /* the system refused: a missing file, no memory, a full disk */
     STATUS_NOT_FOUND = 4  /* get: the save is well, and has no such value */
@@ -32,6 +32,7 @@ struct subcommand {
     const char *help;  /* the rest that a person wants to know */
     size_t least;      /* how many words it takes */
     size_t most;
+    bool parses;       /* whether it parses saves, and takes --raw */
     enum status (*run)(const struct call *call);
 };
 
@@ -45,8 +46,15 @@ enum status wrong_call(const char *word, const char *what);
 void print_overview(void);
 void print_subcommand(const struct subcommand *subcommand);
 
+/* What was read of a file: its name, for a person to read, and its bytes. */
+struct input {
+    const char *name;
+    uint8_t *bytes;
+    size_t length;
+};
+
 /* A save: its bytes, the tape that is lent to the parser, and what the parser answered; or the writer, whose
- * refusals have no place. */
+ * refusals have no place. A sheet that was read from a file is one without the bytes: of its text it has the length. */
 struct save {
     const char *name;
     uint8_t *text;
@@ -66,13 +74,20 @@ struct token {
     uint32_t b;
 };
 
+/* input.c */
+enum status read_input(struct input *input, const char *file, size_t limit, const char *no_memory);
+
 /* save.c */
 enum status load(struct save *save, const char *file, const struct call *call);
 void drop(struct save *save);
 struct token token_at(const struct save *save, size_t index);
 
+/* sheet.c */
+enum status load_sheet(struct save *sheet, const char *file);
+
 /* look.c */
 const char *name_of(uint32_t code);
+void print_tokens(const struct save *save);
 
 /* say.c */
 enum status complain(const char *name, const char *what);
@@ -87,6 +102,9 @@ enum status look(const struct call *call);
 enum status check(const struct call *call);
 enum status get(const struct call *call);
 enum status write_back(const struct call *call); /* `write` is the C library's */
+enum status pack(const struct call *call);
+enum status unpack(const struct call *call);
+enum status verify(const struct call *call);
 enum status help(const struct call *call);
 
 #endif

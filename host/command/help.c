@@ -14,25 +14,29 @@ static void print_usage(const struct subcommand *subcommand) {
     printf("usage: tackacorn %s %s\n", subcommand->name, subcommand->usage);
 }
 
-/* What holds of every subcommand that reads saves. */
+/* What holds of every subcommand that reads files. */
 static void print_common(void) {
-    printf("FILE is read whole; '-' is standard input, and so is no FILE at all. It may have %d\n"
-           "bytes. A first line of letters and digits that ends in 'txt', as HOI4txt, is no part of\n"
-           "the save and is passed over. Lines, columns and offsets are the file's: lines and columns\n"
+    printf("FILE and SAVE are saves, SHEET is a sheet file. Each is read whole; '-' is standard input,\n"
+           "and so is no file at all. A save may have %d bytes, a sheet file as many as such a\n"
+           "save can give. A first line of letters and digits that ends in 'txt', as HOI4txt, is no part\n"
+           "of the save and is passed over. Lines, columns and offsets are the file's: lines and columns\n"
            "count from 1, a column is a byte, and a BOM has none. Options come before the file, and\n"
            "'--' ends them:\n"
            "  --raw      leave the first line to the parser, which takes it for a key\n"
            "  --numbers  print a refusal as 'refused NUMBER PLACE' on standard output, not in words\n\n"
            "A refusal is one line of standard error: FILE:LINE:COLUMN: refusal NUMBER: WORDS, and of\n"
-           "write, where the save parses, FILE: refusal NUMBER: WORDS\n\n"
-           "Status: 0 all was well; 1 a save is refused; 2 a wrong call; 3 the system refused (a file\n"
-           "is missing or unreadable, no memory, the output cannot be written); 4 get found nothing.\n",
+           "write, where the save parses, and of a sheet file FILE: refusal NUMBER: WORDS\n\n"
+           "Status: 0 all was well; 1 a save or a sheet file is refused; 2 a wrong call; 3 the system\n"
+           "refused (a file is missing, unreadable or too large, no memory, the output cannot be\n"
+           "written); 4 get found nothing.\n",
            TACKACORN_TEXT_LIMIT);
 }
 
 /* Prints what the command does. */
 void print_overview(void) {
-    fputs("tackacorn looks at text saves, checks them, gets values out of them, and writes them back.\n\n", stdout);
+    fputs("tackacorn looks at text saves, checks them, gets values out of them, writes them back, and keeps\n"
+          "their tokens on file.\n\n",
+          stdout);
     print_warning();
     for (size_t i = 0; i < subcommand_count; i++) {
         printf("  tackacorn %s %s\n      %s\n", subcommands[i].name, subcommands[i].usage, subcommands[i].about);

@@ -13,9 +13,8 @@ const char *name_of(uint32_t code) {
     return code < sizeof names / sizeof names[0] ? names[code] : "";
 }
 
-/* Prints the header and a line for each token, until nobody takes them any more. */
-static void print_tokens(const struct save *save) {
-    printf("tokens %" PRIu32 " bom %" PRIu32 "\n", save->count, save->bom);
+/* Prints a line for each token, until nobody takes them any more. */
+void print_tokens(const struct save *save) {
     for (uint32_t i = 0; i < save->count && !ferror(stdout); i++) {
         const struct token token = token_at(save, i);
         printf("%" PRIu32 " %s %" PRIu32 " %" PRIu32 "\n", i, name_of(token.code), token.a, token.b);
@@ -27,6 +26,7 @@ enum status look(const struct call *call) {
     struct save save;
     const enum status status = load(&save, call->count == 0 ? "-" : call->words[0], call);
     if (status == STATUS_WELL) {
+        printf("tokens %" PRIu32 " bom %" PRIu32 "\n", save.count, save.bom);
         print_tokens(&save);
     } else if (status == STATUS_REFUSED) {
         tell_refusal(&save, call);

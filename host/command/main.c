@@ -1,4 +1,4 @@
-/* tackacorn: looks at saves, checks them, gets values out of them, and writes them back.
+/* tackacorn: looks at saves, checks them, gets values out of them, writes them back, and keeps their tokens on file.
  *
  * A call is 'tackacorn SUBCOMMAND [OPTION..] [WORD..]'. The table below has a line for each subcommand. */
 #include "command.h"
@@ -6,6 +6,7 @@
 #include <string.h>
 
 #define OPTIONS "[--numbers] [--raw]"
+#define OF_SHEETS "[--numbers]"
 #define ANY_NUMBER ((size_t)-1)
 #define QUOTE(macro) #macro
 #define WORDS_OF(macro) QUOTE(macro)
@@ -16,12 +17,12 @@ const struct subcommand subcommands[] = {
      "scalar its offset and length in the file, for a container the index of its End and whether it\n"
      "is mixed, for an End the index of its opener, for an operator its number. The save may have\n"
      "any size up to the limit.\n",
-     0, 1, look},
+     0, 1, true, look},
     {"check", OPTIONS " [FILE..]", "say of each save whether it parses",
      "Prints a line for each file: 'FILE: sound, COUNT tokens', or on standard error why it is\n"
      "refused. The status is that of the worst file. With --numbers each line is 'refused NUMBER\n"
      "PLACE FILE', with 0 and 0 where the save is well.\n",
-     0, ANY_NUMBER, check},
+     0, ANY_NUMBER, true, check},
     {"get", OPTIONS " FILE KEY..", "print the values that stand at a path of keys",
      "The keys are a path: 'get save.txt GER equipment amount' looks in every GER, there in every\n"
      "equipment, and prints every amount, one a line: its kind (Bool, Whole, Decimal, Name, Quoted,\n"
@@ -30,7 +31,7 @@ const struct subcommand subcommands[] = {
      "many entries it has: 'Array 3 entries', 'Header rgb Array 3 entries'. A key is compared byte for\n"
      "byte, without the quotes if it has some. A control byte is printed as \\x0a. Status 4 says that\n"
      "the save is well and nothing stands there.\n",
-     2, ANY_NUMBER, get},
+     2, ANY_NUMBER, true, get},
     {"write", OPTIONS " [FILE]", "write a save's tokens as save text again",
      "Prints the text and nothing more: keys, '=' or an operator, values and braces, one space between\n"
      "them and no line ends of its own, not at the end either. Comments, blanks, a BOM and a first line\n"
@@ -43,8 +44,27 @@ const struct subcommand subcommands[] = {
      "header or at the begin of an array ('a=b{{}}', 'a={{{}}}'); a second BOM. Parameters are 46,\n"
      "containers over " WORDS_OF(TACKACORN_LEVEL_LIMIT) " deep 42, and 43 is a text that would pass the limit, as that of many quoted\n"
      "entries side by side. A save that was cut short is written as if it were whole.\n",
-     0, 1, write_back},
-    {"help", "[SUBCOMMAND]", "print this, or more about a subcommand", "", 0, 1, help},
+     0, 1, true, write_back},
+    {"pack", OPTIONS " [SAVE]", "write a save's tokens as a sheet file",
+     "Prints the bytes of the file and nothing more. They hold the tokens and the length of the text,\n"
+     "which is the save's own, a BOM and a first line counted. They do not hold the text: who gets the\n"
+     "sheet must have the very same save. Look at the status: without --numbers nothing is printed on\n"
+     "a refusal, and an empty file is no sheet. Never write onto the file that is read.\n",
+     0, 1, true, pack},
+    {"unpack", OF_SHEETS " [SHEET]", "print the tokens of a sheet file",
+     "Prints 'sheet LENGTH COUNT', the length of the text that the sheet is of and how many tokens it\n"
+     "has, then a line for each token as look does. Offsets are those of the text, which is not there.\n"
+     "Any file may be tried: what is printed is sound, or nothing is printed. A sound sheet may still\n"
+     "be no parse of any text, and the file does not prove who wrote it: see verify.\n",
+     0, 1, false, unpack},
+    {"verify", OF_SHEETS " SHEET [SAVE]", "say whether a sheet file is sound, and fits a save in length",
+     "Prints 'sound', or on standard error why the file is refused. With a save, its length must be the\n"
+     "text's length of the sheet, too, or a line on standard error says that it is not, and the status\n"
+     "is 1. No more is known: another save of the same length fits as well, with wrong values, and a\n"
+     "stranger's sheet may be sound and be no parse of any text. Hold a checksum of both against what\n"
+     "was sent; or pack the save yourself, and compare the files.\n",
+     1, 2, false, verify},
+    {"help", "[SUBCOMMAND]", "print this, or more about a subcommand", "", 0, 1, false, help},
 };
 const size_t subcommand_count = sizeof subcommands / sizeof subcommands[0];
 
@@ -66,13 +86,13 @@ enum status wrong_call(const char *word, const char *what) {
     return STATUS_CALL;
 }
 
-/* Takes an option in; false where there is none of that name. */
-static bool take_option(struct call *call, const char *word) {
-    if (strcmp(word, "--numbers") == 0) {
+/* Takes an option in; false where the subcommand has none of that name. */
+static bool take_option(const struct subcommand *subcommand, struct call *call, const char *word) {
+    if (subcommand->run != help && strcmp(word, "--numbers") == 0) {
         call->numbers = true;
         return true;
     }
-    if (strcmp(word, "--raw") == 0) {
+    if (subcommand->parses && strcmp(word, "--raw") == 0) {
         call->raw = true;
         return true;
     }
@@ -94,7 +114,7 @@ static enum status run(const struct subcommand *subcommand, char **words, size_t
             return STATUS_WELL;
         }
         const bool last = strcmp(word, "--") == 0;
-        if (!last && (subcommand->run == help || !take_option(&call, word))) {
+        if (!last && !take_option(subcommand, &call, word)) {
             return wrong_call(word, "no such option");
         }
         call.words++;
@@ -114,7 +134,7 @@ static enum status run(const struct subcommand *subcommand, char **words, size_t
 /* Finds the subcommand that is called. */
 static enum status dispatch(char **words, size_t count) {
     if (count == 0) {
-        return wrong_call("no subcommand", "look, check, get, write or help is wanted");
+        return wrong_call("no subcommand", "look, check, get, write, pack, unpack, verify or help is wanted");
     }
     if (asks_for_help(words[0])) {
         print_overview();

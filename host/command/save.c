@@ -1,55 +1,10 @@
 /* Reads a save and parses it. */
 #include "command.h"
 
-#include <errno.h>
 #include <stdlib.h>
 #include <string.h>
 
-/* Makes room for more of the text: twice as much, up to one byte over the limit. */
-static bool grow(struct save *save, size_t *room) {
-    const size_t most = (size_t)TACKACORN_TEXT_LIMIT + 1;
-    const size_t wanted = *room == 0 ? 65536 : *room > most / 2 ? most : 2 * *room;
-    uint8_t *moved = realloc(save->text, wanted);
-    if (moved == NULL) {
-        return false;
-    }
-    save->text = moved;
-    *room = wanted;
-    return true;
-}
-
-/* Reads the input to its end, or to one byte over the limit. */
-static enum status read_whole(FILE *input, struct save *save) {
-    size_t room = 0;
-    while (save->length <= TACKACORN_TEXT_LIMIT) {
-        if (save->length == room && !grow(save, &room)) {
-            return complain(save->name, "no memory for the text");
-        }
-        size_t got = fread(save->text + save->length, 1, room - save->length, input);
-        save->length += got;
-        if (got == 0) {
-            return ferror(input) ? complain(save->name, strerror(errno)) : STATUS_WELL;
-        }
-    }
-    return STATUS_WELL;
-}
-
-/* Reads a file, or standard input for '-'. */
-static enum status read_file(struct save *save, const char *file) {
-    if (strcmp(file, "-") == 0) {
-        save->name = "standard input";
-        return read_whole(stdin, save);
-    }
-    FILE *input = fopen(file, "rb");
-    if (input == NULL) {
-        return complain(file, strerror(errno));
-    }
-    enum status status = read_whole(input, save);
-    fclose(input);
-    return status;
-}
-
-/* Whether a byte may stand in such a first line. */
+/* Whether a byte may stand in a first line like HOI4txt. */
 static bool letter_or_digit(uint8_t byte) {
     return (byte >= '0' && byte <= '9') || (byte >= 'A' && byte <= 'Z') || (byte >= 'a' && byte <= 'z');
 }
@@ -98,8 +53,9 @@ static enum status parse(struct save *save) {
 
 /* Reads a save and parses it. STATUS_SYSTEM was said; STATUS_REFUSED is for the caller to say. */
 enum status load(struct save *save, const char *file, const struct call *call) {
-    *save = (struct save){.name = file};
-    enum status status = read_file(save, file);
+    struct input input;
+    const enum status status = read_input(&input, file, TACKACORN_TEXT_LIMIT, "no memory for the text");
+    *save = (struct save){.name = input.name, .text = input.bytes, .length = input.length};
     if (status != STATUS_WELL) {
         return status;
     }

@@ -49,18 +49,16 @@ enum status finish(enum status status) {
  * the operator itself where the place is told as one before it. */
 static bool place_shown(const struct save *save, size_t *place) {
     switch (save->refusal) {
-    case TACKACORN_TOO_LONG:
-    case TACKACORN_FULL:
-    case TACKACORN_NOT_SOUND:
-    case TACKACORN_TOO_DEEP:
-    case TACKACORN_WRITTEN_TOO_LONG:
-    case TACKACORN_NO_ROOM:
-    case TACKACORN_READS_OTHERWISE:
-    case TACKACORN_OTHER_FORM: return false;
     case TACKACORN_EOF: *place = save->length; return true;
     case TACKACORN_NOTHING_PRECEDES:
     case TACKACORN_UNKNOWN_OPERATOR: *place = save->place + 1; return true;
-    default: *place = save->place; return true;
+    case TACKACORN_STACK_EMPTY:
+    case TACKACORN_NO_HEADER:
+    case TACKACORN_NO_VALUE:
+    case TACKACORN_MIXED_PARAMETER:
+    case TACKACORN_NO_PARAMETER:
+    case TACKACORN_OPEN_NAME: *place = save->place; return true;
+    default: return false; /* too long, and all that is no fault of the text */
     }
 }
 
@@ -76,7 +74,7 @@ static void show_place(FILE *out, const struct save *save, size_t place) {
     fprintf(out, ":%zu:%zu", line, place < begin ? 1 : place - begin + 1);
 }
 
-/* Says why a save is refused: "fleet.txt:12:7: refusal 5: a '}' where a value is due". */
+/* Says why a save or a sheet file is refused: "fleet.txt:12:7: refusal 5: a '}' where a value is due". */
 static void tell_words(const struct save *save) {
     size_t place;
     fflush(stdout);
@@ -87,7 +85,7 @@ static void tell_words(const struct save *save) {
     fprintf(stderr, ": refusal %" PRIu32 ": %s\n", save->refusal, tackacorn_refusal_text(save->refusal));
 }
 
-/* Says why a save is refused, in words on standard error, or with --numbers as the program `dump` does. */
+/* Says why a save or a sheet file is refused, in words on standard error, or with --numbers as the program `dump` does. */
 void tell_refusal(const struct save *save, const struct call *call) {
     if (call->numbers) {
         printf("refused %" PRIu32 " %zu\n", save->refusal, save->place);

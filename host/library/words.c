@@ -30,6 +30,12 @@ const char *tackacorn_refusal_text(uint32_t number) {
     case TACKACORN_OVERFLOW: return "the number is too large";
     case TACKACORN_INVALID_BOOL: return "neither 'yes' nor 'no'";
     case TACKACORN_PRECISION_LOSS: return "no double is this number: the nearest is given";
+    case TACKACORN_FILE_LENGTH: return "the file is cut short or has another length than it says";
+    case TACKACORN_UNKNOWN_VERSION: return "the file is of a version that is not known";
+    case TACKACORN_FILE_NOT_SOUND: return "the sheet of the file is not sound";
+    case TACKACORN_FILE_NO_ROOM: return "no room for the file, or for its tokens";
+    case TACKACORN_FILE_TOO_LARGE: return "the text or the file is too large for a sheet file";
+    case TACKACORN_FILE_COUNT: return "the file's length disagrees with its count of tokens";
     case TACKACORN_NOT_SOUND: return "the sheet is not sound";
     case TACKACORN_TOO_DEEP: return "containers stand in each other over " WORDS_OF(TACKACORN_LEVEL_LIMIT) " deep";
     case TACKACORN_WRITTEN_TOO_LONG: return "the text to write has more than " WORDS_OF(TACKACORN_TEXT_LIMIT) " bytes";

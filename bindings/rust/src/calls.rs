@@ -53,6 +53,23 @@ mod library {
             scratch_length: usize,
             written: *mut usize,
         ) -> u32;
+        pub fn tackacorn_sheet_write(
+            text_length: usize,
+            words: *const u32,
+            words_length: usize,
+            count: usize,
+            out: *mut u8,
+            out_length: usize,
+            written: *mut usize,
+        ) -> u32;
+        pub fn tackacorn_sheet_read(
+            file: *const u8,
+            file_length: usize,
+            words: *mut u32,
+            words_length: usize,
+            text_length: *mut usize,
+            count: *mut u32,
+        ) -> u32;
         pub fn tackacorn_to_bool(scalar: *const u8, length: usize, value: *mut u32) -> u32;
         pub fn tackacorn_to_u64(scalar: *const u8, length: usize, value: *mut u64) -> u32;
         pub fn tackacorn_to_i64(scalar: *const u8, length: usize, value: *mut i64) -> u32;
@@ -141,6 +158,48 @@ pub(crate) fn write(
     (refusal, written)
 }
 
+/// A refusal's number, and the length of the file written.
+pub(crate) fn sheet_write(
+    text_length: usize,
+    words: &[u32],
+    count: usize,
+    out: &mut [u8],
+) -> (u32, usize) {
+    let mut written = 0;
+    // SAFETY: `words` may be read, and `out` read and written, for as many elements as are passed; of the
+    // text only the length is. The number is ours alone and lives through the call.
+    let refusal = unsafe {
+        library::tackacorn_sheet_write(
+            text_length,
+            words.as_ptr(),
+            words.len(),
+            count,
+            out.as_mut_ptr(),
+            out.len(),
+            &mut written,
+        )
+    };
+    (refusal, written)
+}
+
+/// A refusal's number, the text's length and the count of the sheet that a file holds.
+pub(crate) fn sheet_read(file: &[u8], words: &mut [u32]) -> (u32, usize, u32) {
+    let (mut text_length, mut count) = (0, 0);
+    // SAFETY: `file` may be read, and `words` read and written, for as many elements as are passed; the
+    // two numbers are ours alone and live through the call.
+    let refusal = unsafe {
+        library::tackacorn_sheet_read(
+            file.as_ptr(),
+            file.len(),
+            words.as_mut_ptr(),
+            words.len(),
+            &mut text_length,
+            &mut count,
+        )
+    };
+    (refusal, text_length, count)
+}
+
 pub(crate) fn to_bool(scalar: &[u8]) -> (u32, bool) {
     let mut value = 0;
     // SAFETY: `scalar` may be read for its length; `value` is ours alone and lives through the call.
@@ -180,7 +239,7 @@ pub(crate) fn refusal_text(number: u32) -> &'static str {
     unsafe { words_at(library::tackacorn_refusal_text(number)) }
 }
 
-/// The version of the library that this crate is linked with, as `2.1.0`.
+/// The version of the library that this crate is linked with, as `2.2.0`.
 pub fn version() -> &'static str {
     // SAFETY: it takes nothing, and the words that answer stay and end in a zero.
     unsafe { words_at(library::tackacorn_version()) }

@@ -1,4 +1,4 @@
-//! Why a text, a view or a sheet is refused.
+//! Why a text, a view, a sheet or a sheet file is refused.
 
 use crate::calls;
 use std::fmt;
@@ -228,3 +228,68 @@ impl fmt::Display for WriteError {
 }
 
 impl std::error::Error for WriteError {}
+
+/// Why a sheet is not put on file, or a file is not read. The first that holds is told, in this order.
+///
+/// ```
+/// use tackacorn::{FileError, sheet};
+///
+/// let file = sheet::pack(3, &[4, 0, 1, 4, 2, 1], 2).unwrap();
+/// let refused = |file: &[u8]| sheet::unpack(file, &mut Vec::new()).unwrap_err();
+/// assert_eq!(refused(&file[..29]), FileError::Length);
+/// assert_eq!(refused(b"").number(), 31);
+/// let words = "refusal 31: the file is cut short or has another length than it says";
+/// assert_eq!(refused(b"").to_string(), words);
+/// ```
+#[derive(Clone, Copy, Debug, PartialEq, Eq, Hash)]
+#[non_exhaustive]
+pub enum FileError {
+    /// A file has fewer bytes than any, or another length than it says.
+    Length = 31,
+    /// A file is of a version that is not known.
+    UnknownVersion = 32,
+    /// A file's length is not that of a file of so many tokens.
+    Count = 36,
+    /// The sheet is not sound: see [`sheet::is_sound`](crate::sheet::is_sound).
+    NotSound = 33,
+    /// The text or the file is too large for a sheet file: over 16,777,215 and 4,294,967,295 bytes.
+    TooLarge = 35,
+    /// A buffer that was lent is under the file, or words under its tokens. Memory of the crate's own is
+    /// always enough.
+    NoRoom = 34,
+}
+
+const FILE_ERRORS: [FileError; 6] = [
+    FileError::Length,
+    FileError::UnknownVersion,
+    FileError::Count,
+    FileError::NotSound,
+    FileError::TooLarge,
+    FileError::NoRoom,
+];
+
+impl FileError {
+    /// The refusal of this number, which the library has answered.
+    pub(crate) fn new(number: u32) -> Self {
+        let error = FILE_ERRORS.into_iter().find(|error| error.number() == number);
+        error.unwrap_or_else(|| unknown(number))
+    }
+
+    /// The refusal's number, from 31 to 36.
+    pub fn number(self) -> u32 {
+        self as u32
+    }
+
+    /// The refusal in words, without a full stop.
+    pub fn words(self) -> &'static str {
+        calls::refusal_text(self.number())
+    }
+}
+
+impl fmt::Display for FileError {
+    fn fmt(&self, f: &mut fmt::Formatter<'_>) -> fmt::Result {
+        write!(f, "refusal {}: {}", self.number(), self.words())
+    }
+}
+
+impl std::error::Error for FileError {}

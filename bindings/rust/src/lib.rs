@@ -14,8 +14,9 @@ pub mod text;
 mod token;
 
 pub use calls::version;
-pub use error::{Error, ErrorKind, WriteError};
-pub use numbers::{LEVEL_LIMIT, TEXT_LIMIT, WORDS_PER_TOKEN, bytes_for, words_for};
+pub use error::{Error, ErrorKind, FileError, WriteError};
+pub use numbers::{FILE_HEAD, FILE_TOKEN, LEVEL_LIMIT, TEXT_LIMIT, WORDS_PER_TOKEN};
+pub use numbers::{bytes_for, file_bytes_for, file_words_for, words_for};
 pub use scalar::{ReadingKind, Scalar, ScalarError};
 pub use tape::{TextTape, TextTapeParser};
 pub use token::TextToken;

@@ -23,6 +23,22 @@ pub const fn bytes_for(bytes: usize, count: usize) -> usize {
     bytes + 3 * count
 }
 
+/// How many bytes of a sheet file stand before its tokens.
+pub const FILE_HEAD: usize = 12;
+
+/// How many bytes a token takes in a sheet file.
+pub const FILE_TOKEN: usize = 9;
+
+/// How many bytes the sheet file of so many tokens has.
+pub const fn file_bytes_for(count: usize) -> usize {
+    FILE_HEAD + FILE_TOKEN * count
+}
+
+/// How many words are room for the tokens of every sheet file of so many bytes.
+pub const fn file_words_for(bytes: usize) -> usize {
+    WORDS_PER_TOKEN * (bytes / FILE_TOKEN)
+}
+
 pub(crate) const ARRAY: u32 = 1;
 pub(crate) const OBJECT: u32 = 2;
 pub(crate) const MIXED_CONTAINER: u32 = 3;
@@ -52,7 +68,7 @@ pub(crate) const PRECISION_LOSS: u32 = 24;
 #[cfg(test)]
 mod tests {
     use super::*;
-    use crate::{ErrorKind, ReadingKind, WriteError};
+    use crate::{ErrorKind, FileError, ReadingKind, WriteError};
 
     /// Every `TACKACORN_NAME = NUMBER` and `#define TACKACORN_NAME NUMBER` of the header.
     fn header() -> Vec<(String, u64)> {
@@ -77,6 +93,8 @@ mod tests {
         same("TEXT_LIMIT", TEXT_LIMIT as u64);
         same("LEVEL_LIMIT", LEVEL_LIMIT as u64);
         same("WORDS_PER_TOKEN", WORDS_PER_TOKEN as u64);
+        same("FILE_HEAD", FILE_HEAD as u64);
+        same("FILE_TOKEN", FILE_TOKEN as u64);
         let codes = [
             ("ARRAY", ARRAY),
             ("OBJECT", OBJECT),
@@ -124,6 +142,14 @@ mod tests {
             ("READS_OTHERWISE", WriteError::ReadsOtherwise),
             ("OTHER_FORM", WriteError::OtherForm),
         ];
+        let files = [
+            ("FILE_LENGTH", FileError::Length),
+            ("UNKNOWN_VERSION", FileError::UnknownVersion),
+            ("FILE_NOT_SOUND", FileError::NotSound),
+            ("FILE_NO_ROOM", FileError::NoRoom),
+            ("FILE_TOO_LARGE", FileError::TooLarge),
+            ("FILE_COUNT", FileError::Count),
+        ];
         let readings = [
             ("BOOL", ReadingKind::Bool),
             ("WHOLE", ReadingKind::Whole),
@@ -133,9 +159,10 @@ mod tests {
         codes.iter().for_each(|&(name, number)| same(name, number.into()));
         kinds.iter().for_each(|&(name, kind)| same(name, kind.number().into()));
         writes.iter().for_each(|&(name, error)| same(name, error.number().into()));
+        files.iter().for_each(|&(name, error)| same(name, error.number().into()));
         readings.iter().for_each(|&(name, kind)| same(name, kind as u64));
-        // and it has no other besides the version: the three sizes, OK and NOTHING
-        let known = 5 + codes.len() + kinds.len() + writes.len() + readings.len();
+        // and it has no other besides the version: the five sizes, OK and NOTHING
+        let known = 7 + codes.len() + kinds.len() + writes.len() + files.len() + readings.len();
         let others = header.iter().filter(|named| !named.0.starts_with("VERSION"));
         assert_eq!(others.count(), known, "{header:?}");
     }

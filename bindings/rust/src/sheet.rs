@@ -1,9 +1,10 @@
 //! Tapes of words, as the library lays them: three words a token, in memory of the caller. A *sheet* is
-//! the words of some tokens beside the text that they view. Sheets can be stored and exchanged; the check
+//! the words of some tokens beside the text that they view. Sheets can be put on file and exchanged; the check
 //! says whether one that comes from elsewhere is sound, and one that is can be written as text again.
 
-use crate::numbers::{TEXT_LIMIT, WORDS_PER_TOKEN, bytes_for, words_for};
-use crate::{Error, ErrorKind, Scalar, TextToken, WriteError, calls};
+use crate::numbers::{TEXT_LIMIT, WORDS_PER_TOKEN};
+use crate::numbers::{bytes_for, file_bytes_for, file_words_for, words_for};
+use crate::{Error, ErrorKind, FileError, Scalar, TextToken, WriteError, calls};
 
 /// What a parse answers: how many tokens it laid, and whether the text began with the bytes ef bb bf.
 #[derive(Clone, Copy, Debug, PartialEq, Eq)]
@@ -182,6 +183,119 @@ pub fn write(text: &[u8], words: &[u32], count: usize) -> Result<Vec<u8>, WriteE
     Ok(out)
 }
 
+/// Puts the sheet of the first `count` tokens of the words, of a text of so many bytes, on file, into a
+/// buffer that is lent, and answers how many bytes the file has, which is [`file_bytes_for`] of the count.
+///
+/// Writes every byte of the buffer, whatever stood there: the file and zeros behind it, or zeros after a
+/// refusal, which is [`FileError::NotSound`], [`TooLarge`](FileError::TooLarge) or
+/// [`NoRoom`](FileError::NoRoom), in that order.
+///
+/// ```
+/// use tackacorn::{FileError, sheet};
+///
+/// let mut out = [7; 14];
+/// assert_eq!(sheet::pack_into(3, &[], 0, &mut out), Ok(12));
+/// assert_eq!(out, [0, 0, 0, 12, 1, 0, 0, 3, 0, 0, 0, 0, 0, 0]);
+///
+/// assert_eq!(sheet::pack_into(3, &[], 0, &mut out[..11]), Err(FileError::NoRoom));
+/// assert_eq!(out[..11], [0; 11]);
+/// ```
+pub fn pack_into(
+    text_length: usize,
+    words: &[u32],
+    count: usize,
+    out: &mut [u8],
+) -> Result<usize, FileError> {
+    match calls::sheet_write(text_length, words, count, out) {
+        (0, written) => Ok(written),
+        (number, _) => Err(FileError::new(number)),
+    }
+}
+
+/// The sheet file of the first `count` tokens of the words, of a text of so many bytes. [`unpack`] reads the
+/// same text length, count and words from it. The text is not in it.
+///
+/// ```
+/// use tackacorn::sheet;
+///
+/// let file = sheet::pack(3, &[4, 0, 1, 4, 2, 1], 2).unwrap();
+/// assert_eq!(file[..12], [0, 0, 0, 30, 1, 0, 0, 3, 0, 0, 0, 2]);
+/// assert_eq!(file[12..], [4, 0, 0, 0, 0, 0, 0, 0, 1, 4, 0, 0, 0, 2, 0, 0, 0, 1]);
+/// ```
+pub fn pack(text_length: usize, words: &[u32], count: usize) -> Result<Vec<u8>, FileError> {
+    // where the words of so many tokens are not there, the library says so, and needs no room for that
+    let tokens = if count <= words.len() / WORDS_PER_TOKEN { count } else { 0 };
+    let mut out = vec![0; file_bytes_for(tokens)];
+    let written = pack_into(text_length, words, count, &mut out)?;
+    out.truncate(written);
+    Ok(out)
+}
+
+/// What a sheet file tells beside its tokens.
+#[derive(Clone, Copy, Debug, PartialEq, Eq)]
+pub struct Unpacked {
+    /// How many bytes the text has that the sheet is of
+    pub text_length: usize,
+    /// How many tokens the sheet has
+    pub count: usize,
+}
+
+/// Reads a sheet file, whatever its bytes are, into words that are lent.
+///
+/// Writes every word, whatever stood there: the tokens and zeros behind them, or zeros after a refusal, which
+/// is [`FileError::Length`], [`UnknownVersion`](FileError::UnknownVersion), [`Count`](FileError::Count),
+/// [`NotSound`](FileError::NotSound) or [`NoRoom`](FileError::NoRoom), in that order: a file that finds no
+/// room is sound. [`file_words_for`] says how many words are room enough.
+///
+/// ```
+/// use tackacorn::{FileError, sheet};
+///
+/// let file = sheet::pack(3, &[4, 0, 1, 4, 2, 1], 2).unwrap();
+/// let mut words = [7; 8];
+/// let unpacked = sheet::unpack_into(&file, &mut words).unwrap();
+/// assert_eq!((unpacked.text_length, unpacked.count), (3, 2));
+/// assert_eq!(words, [4, 0, 1, 4, 2, 1, 0, 0]);
+///
+/// assert_eq!(sheet::unpack_into(&file, &mut words[..5]), Err(FileError::NoRoom));
+/// assert_eq!(words[..5], [0; 5]);
+/// ```
+pub fn unpack_into(file: &[u8], words: &mut [u32]) -> Result<Unpacked, FileError> {
+    match calls::sheet_read(file, words) {
+        (0, text_length, count) => Ok(Unpacked { text_length, count: count as usize }),
+        (number, ..) => Err(FileError::new(number)),
+    }
+}
+
+/// Reads a sheet file, whatever its bytes are, and leaves just the tokens' words, or none after a refusal.
+///
+/// # Before you trust a sheet from a file
+///
+/// The sheet is sound, and no more is known. The file has nothing of the text: over another text of the same
+/// length every view is a part of that one, wrong and not refused. Hold the length against the text that you
+/// have, and a checksum of the text and of the file against what was sent. A stranger's sheet may be sound and
+/// be no parse of any text; where that matters, parse the text and compare the words. `tackacorn.h` has more,
+/// under 'Before you trust a sheet from a file'.
+///
+/// ```
+/// use tackacorn::sheet::{self, Sheet};
+///
+/// # let (save, words) = (b"a=rgb{1}", [4, 0, 1, 10, 2, 3, 1, 4, 0, 4, 6, 1, 9, 2, 0]);
+/// # let sent = sheet::pack(save.len(), &words, 5).unwrap();
+/// // the save, and the sheet file that was sent along
+/// let mut words = Vec::new();
+/// let unpacked = sheet::unpack(&sent, &mut words).expect("it is a sound sheet");
+/// assert_eq!(unpacked.text_length, save.len(), "it is of a text of this length");
+/// let sheet = Sheet::new(save, &words, unpacked.count).expect("and so it fits this one");
+/// assert_eq!(sheet.write().unwrap(), b"a=rgb {1}");
+/// ```
+pub fn unpack(file: &[u8], words: &mut Vec<u32>) -> Result<Unpacked, FileError> {
+    words.clear();
+    words.resize(file_words_for(file.len()), 0);
+    let unpacked = unpack_into(file, words);
+    words.truncate(WORDS_PER_TOKEN * unpacked.map_or(0, |unpacked| unpacked.count));
+    unpacked
+}
+
 /// The tokens of words that are known to be a sound sheet of this text.
 pub(crate) fn tokens_of<'t>(
     text: &'t [u8],
@@ -271,5 +385,21 @@ impl<'t, 'w> Sheet<'t, 'w> {
     /// ```
     pub fn write(&self) -> Result<Vec<u8>, WriteError> {
         write(self.text, self.words, self.len())
+    }
+
+    /// The sheet as a sheet file: see [`pack()`]. It is refused where the text has more than 16,777,215 bytes.
+    ///
+    /// ```
+    /// use tackacorn::sheet::{self, Sheet};
+    ///
+    /// let (text, words) = (b"a=rgb{1}", [4, 0, 1, 10, 2, 3, 1, 4, 0, 4, 6, 1, 9, 2, 0]);
+    /// let file = Sheet::new(text, &words, 5).expect("it is sound").pack().unwrap();
+    ///
+    /// let mut again = Vec::new();
+    /// assert_eq!(sheet::unpack(&file, &mut again).unwrap().text_length, text.len());
+    /// assert_eq!(again, words);
+    /// ```
+    pub fn pack(&self) -> Result<Vec<u8>, FileError> {
+        pack(self.text.len(), self.words, self.len())
     }
 }

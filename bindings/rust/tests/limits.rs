@@ -1,8 +1,11 @@
 //! What a user meets at the limits: of a text, of a tape, of words from elsewhere.
 
 use tackacorn::sheet::{self, Sheet};
-use tackacorn::{Error, ErrorKind, Scalar, ScalarError, TextTape, TextToken, WriteError};
-use tackacorn::{LEVEL_LIMIT, TEXT_LIMIT, WORDS_PER_TOKEN, bytes_for, words_for};
+use tackacorn::{
+    Error, ErrorKind, FileError, Scalar, ScalarError, TextTape, TextToken, WriteError,
+};
+use tackacorn::{FILE_HEAD, LEVEL_LIMIT, TEXT_LIMIT, WORDS_PER_TOKEN};
+use tackacorn::{bytes_for, file_bytes_for, file_words_for, words_for};
 
 #[test]
 fn the_text_limit_from_both_sides() {
@@ -199,6 +202,102 @@ fn an_edited_tape() {
     assert_eq!(edited(1, TextToken::Object { end: usize::MAX, mixed: false }), Err(41));
     assert_eq!(edited(1, TextToken::Object { end: 4, mixed: true }), Err(45), "a flag of nothing");
     assert_eq!(edited(2, TextToken::MixedContainer), Err(45));
+}
+
+/// The sheet of `a=b`, and its file.
+const PAIR: [u32; 6] = [4, 0, 1, 4, 2, 1];
+const PAIR_FILE: [u8; 30] =
+    [0, 0, 0, 30, 1, 0, 0, 3, 0, 0, 0, 2, 4, 0, 0, 0, 0, 0, 0, 0, 1, 4, 0, 0, 0, 2, 0, 0, 0, 1];
+
+#[test]
+fn there_and_back_on_file() {
+    for text in ["", "a=b", "a=\"\" b={\"c\\\"\" 1=2}", "a=rgb{1} [[x] y]", "\u{feff}a<{b c={}}"] {
+        let mut words = Vec::new();
+        let parsed = sheet::parse(text.as_bytes(), &mut words).unwrap();
+        let file = sheet::pack(text.len(), &words, parsed.count).unwrap();
+        assert_eq!(file.len(), file_bytes_for(parsed.count));
+        assert_eq!(
+            Sheet::new(text.as_bytes(), &words, parsed.count).unwrap().pack(),
+            Ok(file.clone())
+        );
+        let mut again = vec![7; 5];
+        let unpacked = sheet::unpack(&file, &mut again).unwrap();
+        assert_eq!((unpacked.text_length, unpacked.count), (text.len(), parsed.count));
+        assert_eq!(again, words);
+    }
+    assert_eq!(sheet::pack(3, &PAIR, 2), Ok(PAIR_FILE.to_vec()));
+    let most = sheet::pack(TEXT_LIMIT, &[], 0).unwrap();
+    assert_eq!(sheet::unpack(&most, &mut Vec::new()).unwrap().text_length, TEXT_LIMIT);
+}
+
+/// What is lent to either call holds the file or the tokens and zeros, or zeros alone.
+#[test]
+fn what_the_calls_on_files_leave() {
+    for bytes in 0..=32 {
+        let mut out = vec![7; bytes];
+        let answer = sheet::pack_into(3, &PAIR, 2, &mut out);
+        assert_eq!(answer, if bytes >= 30 { Ok(30) } else { Err(FileError::NoRoom) });
+        assert!(bytes < 30 || out.starts_with(&PAIR_FILE));
+        assert!(out[answer.unwrap_or(0)..].iter().all(|&byte| byte == 0));
+    }
+    assert!(file_words_for(PAIR_FILE.len()) >= PAIR.len());
+    for room in 0..=8 {
+        let mut words = vec![7; room];
+        let answer = sheet::unpack_into(&PAIR_FILE, &mut words);
+        let taken = if room >= 6 { 6 } else { 0 };
+        assert_eq!(answer.map(|unpacked| unpacked.count).ok(), (room >= 6).then_some(2));
+        assert!(room >= 6 || answer == Err(FileError::NoRoom));
+        assert!(words[..taken] == PAIR[..taken] && words[taken..].iter().all(|&word| word == 0));
+    }
+}
+
+#[test]
+fn sheets_that_are_not_put_on_file() {
+    for count in [3, usize::MAX / 9 + 1, usize::MAX / 3 + 1, usize::MAX] {
+        assert_eq!(sheet::pack(3, &PAIR, count), Err(FileError::NotSound));
+    }
+    assert_eq!(sheet::pack(2, &PAIR, 2), Err(FileError::NotSound), "a view out of the text");
+    for length in [TEXT_LIMIT + 1, usize::MAX] {
+        assert_eq!(sheet::pack(length, &PAIR, 2), Err(FileError::TooLarge));
+        assert_eq!(
+            sheet::pack_into(length, &PAIR, 2, &mut []),
+            Err(FileError::TooLarge),
+            "no room"
+        );
+        assert_eq!(sheet::pack(length, &PAIR, 3), Err(FileError::NotSound), "before too large");
+    }
+}
+
+/// The refusal of the file of a pair with other bytes in it, from a place on, which says its own length.
+fn unread(at: usize, bytes: &[u8], length: usize) -> Result<usize, u32> {
+    let mut file = PAIR_FILE.to_vec();
+    file.resize(length.max(FILE_HEAD), 0);
+    file[3] = length as u8;
+    file[at..at + bytes.len()].copy_from_slice(bytes);
+    let mut words = vec![7; 3];
+    let answer = sheet::unpack(&file[..length], &mut words);
+    assert!(answer.is_ok() || words.is_empty());
+    answer.map(|unpacked| unpacked.text_length).map_err(FileError::number)
+}
+
+#[test]
+fn files_that_are_not_read() {
+    assert_eq!(unread(4, &[1], 30), Ok(3));
+    assert_eq!(unread(4, &[2], 11), Err(31), "before the version");
+    assert_eq!((unread(0, &[1], 30), unread(3, &[31], 30)), (Err(31), Err(31)));
+    assert_eq!((unread(4, &[0], 30), unread(4, &[2], 31)), (Err(32), Err(32)));
+    assert_eq!((unread(4, &[1], 29), unread(4, &[1], 31)), (Err(36), Err(36)));
+    assert_eq!(unread(8, &[255; 4], 30), Err(36));
+    assert_eq!(unread(8, &954_437_177_u32.to_be_bytes(), 13), Err(36), "13 modulo 2^32");
+    assert_eq!((unread(7, &[2], 30), unread(12, &[12], 30)), (Err(33), Err(33)));
+    assert_eq!(unread(21, &[11], 30), Ok(3), "code 11 is taken");
+    assert_eq!(unread(5, &[255, 255, 255], 30), Ok(TEXT_LIMIT), "of another text, and as sound");
+    let mut unsound = PAIR_FILE;
+    unsound[12] = 0;
+    assert_eq!(sheet::unpack_into(&unsound, &mut []), Err(FileError::NotSound), "before no room");
+    for length in 0..30 {
+        assert_eq!(sheet::unpack(&PAIR_FILE[..length], &mut Vec::new()), Err(FileError::Length));
+    }
 }
 
 /// The table of [`Scalar`]: numbers that have no digit.

@@ -10,7 +10,7 @@ use compare::record::{Question, Record, serve};
 use compare::rng::Rng;
 use compare::tally::{Tally, features};
 use compare::tree::{self, scalar};
-use compare::{edges, oracle};
+use compare::{edges, file, oracle};
 use std::collections::{BTreeSet, HashMap};
 use std::path::Path;
 use std::{env, fs, io};
@@ -64,7 +64,26 @@ fn limits() -> Vec<Record> {
         let (room, scratch) = (MOST_ROOM as u16, MOST_SCRATCH as u16);
         Record::write(room, scratch, sheet.count, &sheet.words, &sheet.text)
     });
-    texts.into_iter().chain(sheets).collect()
+    texts.into_iter().chain(sheets).chain(file_limits()).collect()
+}
+
+/// The largest sheet to put on file and the largest file, each with just room, and a file as long as a record
+/// may be, which has bytes over.
+fn file_limits() -> [Record; 3] {
+    let scalars = |count: u32| (0..count).flat_map(|i| token(UNQUOTED, i, 1)).collect::<Vec<u32>>();
+    let head = 8;
+    let sheet = ((LONGEST - head) / (4 * WORDS)) as u32;
+    let count = ((LONGEST - FILE_HEAD) / FILE_TOKEN) as u32;
+    let words = scalars(count);
+    let largest = file::laid(count, &words);
+    let mut longest = largest.clone();
+    longest.resize(LONGEST, 0);
+    file::put_total(&mut longest);
+    [
+        Record::pack(file::length_of(sheet) as u16, sheet, sheet, &scalars(sheet)),
+        Record::unpack(words.len() as u16, largest),
+        Record::unpack(words.len() as u16, longest),
+    ]
 }
 
 fn answer(record: &Record) -> String {
@@ -78,18 +97,24 @@ fn answer(record: &Record) -> String {
 fn shown(record: &Record) -> BTreeSet<(String, usize)> {
     let answer = answer(record);
     let found = features(record, &answer);
-    let forms = if record.kind == b'S' {
-        vec![found.iter().map(|(_, name)| name.as_str()).collect::<Vec<_>>().join(" ")]
-    } else {
-        let tokens: Vec<&str> = answer.lines().filter_map(|line| line.split(' ').nth(1)).collect();
-        tokens
-            .windows(2)
-            .map(|pair| pair.join(" then "))
-            .chain(written_forms(record, &answer))
-            .collect()
+    let forms = match record.kind {
+        b'S' => vec![found.iter().map(|(_, name)| name.as_str()).collect::<Vec<_>>().join(" ")],
+        // a file's sheet has a line before its tokens
+        b'R' => pairs(answer.lines().skip(1), "read "),
+        _ => {
+            let mut forms = pairs(answer.lines(), "");
+            forms.extend(written_forms(record, &answer));
+            forms
+        }
     };
     let features = found.iter().map(|(heading, name)| (format!("{heading} {name}"), ENOUGH));
     features.chain(forms.into_iter().map(|form| (form, ENOUGH_OF_A_FORM))).collect()
+}
+
+/// The second words of lines that stand beside each other: those of token lines are names.
+fn pairs<'a>(lines: impl Iterator<Item = &'a str>, before: &str) -> Vec<String> {
+    let names: Vec<&str> = lines.filter_map(|line| line.split(' ').nth(1)).collect();
+    names.windows(2).map(|pair| format!("{before}{}", pair.join(" then "))).collect()
 }
 
 /// Which tokens stand beside each other in a sheet whose text was written.

@@ -101,7 +101,7 @@ fn first_difference(
     seed: u64,
     cases: usize,
     tally: &mut Tally,
-) -> io::Result<(LeftOut, Option<(usize, Difference)>)> {
+) -> io::Result<(Generator, Option<(usize, Difference)>)> {
     let mut generator = Generator::new(seed);
     let mut chance = Rng::new(!seed);
     let mut done = 0;
@@ -112,20 +112,20 @@ fn first_difference(
         records.push(generate::bad(&mut chance));
         let (output, difference) = ask_both(ours, &records)?;
         if let Some(difference) = difference {
-            return Ok((generator.left_out, Some((done + difference.case + 1, difference))));
+            return Ok((generator, Some((done + difference.case + 1, difference))));
         }
         for (record, answer) in asked.iter().zip(answers(&output)) {
             tally.count(record, &String::from_utf8_lossy(answer));
         }
         done += batch;
     }
-    Ok((generator.left_out, None))
+    Ok((generator, None))
 }
 
 fn compare(ours: &[String], seed: u64, cases: usize) -> io::Result<bool> {
     let start = Instant::now();
     let mut tally = Tally::default();
-    let (left_out, found) = first_difference(ours, seed, cases, &mut tally)?;
+    let (generator, found) = first_difference(ours, seed, cases, &mut tally)?;
     if let Some((case, difference)) = &found {
         println!("seed {seed}: case {case} of {cases} differs");
         show(difference);
@@ -137,7 +137,8 @@ fn compare(ours: &[String], seed: u64, cases: usize) -> io::Result<bool> {
     }
     let seconds = start.elapsed().as_secs();
     println!("seed {seed}: {cases} cases, no difference, {seconds} s");
-    let LeftOut { texts, sheets } = left_out;
+    println!("files to read: {}", generator.files.how);
+    let LeftOut { texts, sheets } = generator.left_out;
     println!(
         "a bad record after each {BATCH}; left out as outside the domain: {texts} texts to parse, {sheets} \
          sheets by the text that they write"

@@ -1,15 +1,15 @@
 //! The crate beside the Rust's own types, on the records of the comparison: every token and its place in
-//! the text, every reading bit for bit, every refusal by number and place, every sheet and view, and what
-//! is written of a text.
+//! the text, every reading bit for bit, every refusal by number and place, every sheet and view, what is
+//! written of a text, and sheets on file.
 //! `SEED` and `CASES` choose others than are tried by themselves.
 
 use compare::generate::Generator;
-use compare::record::{Question, ToWrite};
+use compare::record::{Question, ToPack, ToUnpack, ToWrite};
 use compare::rng::Rng;
 use compare::{oracle, texts};
 use std::env;
 use tackacorn::sheet::{self, Sheet};
-use tackacorn::{Scalar, ScalarError, TextTape, TextToken, WORDS_PER_TOKEN, WriteError};
+use tackacorn::{FileError, Scalar, ScalarError, TextTape, TextToken, WORDS_PER_TOKEN, WriteError};
 
 fn number(name: &str, default: u64) -> u64 {
     env::var(name).map_or(default, |word| word.parse().expect("a number"))
@@ -178,13 +178,35 @@ fn same_write(asked: ToWrite<'_>) {
     assert!(out[size..].iter().all(|&byte| byte == 0) && tape.iter().all(|&word| word == 0));
 }
 
+/// A sheet put on file, with just the room that a record lends: the file or the refusal, and zeros behind it.
+fn same_pack(asked: &ToPack) {
+    let theirs = compare::file::pack(asked).map_err(u32::from);
+    let mut out = vec![255u8; asked.room];
+    let (length, count) = (asked.length as usize, asked.count as usize);
+    let ours = sheet::pack_into(length, &asked.words, count, &mut out);
+    let size = ours.unwrap_or(0);
+    assert_eq!(ours.map(|size| out[..size].to_vec()).map_err(FileError::number), theirs);
+    assert!(out[size..].iter().all(|&byte| byte == 0));
+}
+
+/// A file, read with just the room that a record lends: the sheet or the refusal, and zeros behind it.
+fn same_unpack(asked: &ToUnpack<'_>) {
+    let theirs = compare::file::unpack(asked).map_err(u32::from);
+    let mut words = vec![u32::MAX; asked.room];
+    let ours = sheet::unpack_into(asked.file, &mut words);
+    let taken = WORDS_PER_TOKEN * ours.map_or(0, |sheet| sheet.count);
+    let told = ours.map(|sheet| (sheet.text_length as u32, words[..taken].to_vec()));
+    assert_eq!(told.map_err(FileError::number), theirs, "{:?}", asked.file);
+    assert!(words[taken..].iter().all(|&word| word == 0));
+}
+
 // ---- what is tried ----
 
 #[test]
 fn the_records_of_the_comparison() {
     let (seed, cases) = (number("SEED", 2026), number("CASES", 500_000));
-    let (mut parses, mut written, mut scalars, mut sheets, mut views, mut writes) =
-        (0, 0, 0, 0, 0, 0);
+    let (mut parses, mut written, mut scalars, mut sheets) = (0, 0, 0, 0);
+    let (mut views, mut writes, mut files) = (0, 0, 0);
     for record in Generator::new(seed).take(cases as usize) {
         match record.question().expect("a good record") {
             Question::Text { text, capacity } => {
@@ -213,11 +235,19 @@ fn the_records_of_the_comparison() {
                 same_write(asked);
                 writes += 1;
             }
+            Question::Pack(asked) => {
+                same_pack(&asked);
+                files += 1;
+            }
+            Question::Unpack(asked) => {
+                same_unpack(&asked);
+                files += 1;
+            }
         }
     }
     println!(
         "seed {seed}: {parses} texts, {written} of them written back, {scalars} scalars, {sheets} sheets, \
-         {views} views and {writes} sheets to write, no difference"
+         {views} views, {writes} sheets to write and {files} on file, no difference"
     );
 }
 
