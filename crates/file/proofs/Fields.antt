@@ -68,13 +68,13 @@ module _ (bytes : List ℕ) where
 
     pub count-other : (length bytes ≡ size → ⊥) → Refused OtherCount ≡ open-as v bytes
     unfolding open-as
-    count-other h = rw (open-as, ne-eqb (length bytes) (file-size v (count-in v bytes)) (λ e. h (e ∙ sym size-found)))
+    count-other h = rw (open-as, ne-eqb (file-size v (count-in v bytes)) (length bytes) (λ e. h (sym e ∙ sym size-found)))
 
     pub count-agrees : {width : Width} {text-length : ℕ} → length bytes ≡ size → width ≡ text-field v
         → text-length ≡ field bytes text-at (width-of width) → Holds v text-length n ≡ open-as v bytes
     unfolding open-as
     count-agrees e f g =
-        rw (open-as, eq-eqb (length bytes) (file-size v (count-in v bytes)) (e ∙ size-found), g, f, ← count-found)
+        rw (open-as, eq-eqb (file-size v (count-in v bytes)) (length bytes) (sym (e ∙ size-found)), g, f, ← count-found)
 
   -- ---- 31, 32, and then the rest
   module _ {other : Bool} (told : other ≡ other-length bytes) where
@@ -101,12 +101,12 @@ holds-not r e f = let z : _≡_ {A = ℕ} 0 1 = cc in omega arith
 as-sized : (v w : Version) (bytes : List ℕ) {text-length count : ℕ} → open-as w bytes ≡ Holds v text-length count → length bytes ≡ file-size v count
 unfolding open-as
 as-sized v w bytes {text-length} {count} e =
-    by-bool (eqb (length bytes) (file-size w (count-in w bytes)))
+    by-bool (eqb (file-size w (count-in w bytes)) (length bytes))
     (λ t.
     let same : Holds w (text-length-in w bytes) (count-in w bytes) ≡ Holds v text-length count = rw (open-as, t) at e in
     let is : w ≡ v = cc in
     let counted : count-in w bytes ≡ count = cc in
-    rw (← is, ← counted) (eqb-true (length bytes) (file-size w (count-in w bytes)) t))
+    rw (← is, ← counted) (sym (eqb-true (file-size w (count-in w bytes)) (length bytes) t)))
     (λ t. absurd (holds-not {why = OtherCount} (open-as w bytes) e (rw (open-as, t))))
 
 named-sized : (v : Version) (named : VersionNamed) (bytes : List ℕ) {text-length count : ℕ} → open-named named bytes ≡ Holds v text-length count

@@ -63,10 +63,7 @@ write-of v text-length ts room sound =
 -- ---- reading
 -- 33 sheet not sound, 34 no room, in that order: by whether it is sound
 abbrev pub read-reasons : List Token → ℕ → Bool → List (Reason Refusal)
-read-reasons ts room sound =
-    if-so (not sound) NotSound
-    ∷ if-so (ltb room (words-for (length ts))) NoRoom
-    ∷ []
+read-reasons ts room sound = if-so (not sound) NotSound ∷ if-so (ltb room (words-for (length ts))) NoRoom ∷ []
 
 -- each leaving the lent words zero
 abbrev pub refuse-read : ℕ → Refusal → Left Found

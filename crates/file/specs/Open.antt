@@ -49,7 +49,7 @@ other-length bytes = ltb (length bytes) least-size || not (eqb (total-in bytes) 
 -- 36 length disagrees with the count
 unfoldable pub open-as : Version → List ℕ → Opened
 open-as v bytes =
-    elim (eqb (length bytes) (file-size v (count-in v bytes))) [
+    elim (eqb (file-size v (count-in v bytes)) (length bytes)) [
       | true ↦ Holds v (text-length-in v bytes) (count-in v bytes)
       | false ↦ Refused OtherCount
     ]

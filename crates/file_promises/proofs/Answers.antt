@@ -138,7 +138,7 @@ opened-fields bytes text-length count e =
     let well = neither (ltb (length bytes) least-size) (not (eqb (total-in bytes) (length bytes))) t in
     by-bool (eqb (version-in bytes) 1)
     (λ n.
-    by-bool (eqb (length bytes) (file-size V1 (count-in V1 bytes)))
+    by-bool (eqb (file-size V1 (count-in V1 bytes)) (length bytes))
     (λ s.
     let same : Holds V1 (text-length-in V1 bytes) (count-in V1 bytes) ≡ Holds V1 text-length count = rw (open-file, t, version-named, n, open-as, s) at e in
     record {

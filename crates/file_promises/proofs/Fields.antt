@@ -112,7 +112,7 @@ module _ (text-length : ℕ) (ts : List Token) (small : too-large V1 text-length
   unfolding file-of head-of open-file version-named open-as
   written-opens =
       rw (open-file, le-ltb (length file) least-size (omega (arith, whole)), eq-eqb (total-in file) (length file) (total-back ∙ sym whole),
-      version-back, open-as, eq-eqb (length file) (file-size V1 (count-in V1 file)) (whole ∙ ap (file-size V1) (sym count-back)), text-back, count-back)
+      version-back, open-as, eq-eqb (file-size V1 (count-in V1 file)) (length file) (sym (whole ∙ ap (file-size V1) (sym count-back))), text-back, count-back)
 
   pub written-tokens : ((i : ℕ) → i < length ts → Small (nth ts i)) → tokens-of V1 (file-of V1 text-length ts) ≡ ts
   unfolding file-of head-of tokens-of

@@ -3,3 +3,4 @@ pub mod Fields
 pub mod Answers
 pub mod Kept
 pub mod Listed
+pub mod Contracts

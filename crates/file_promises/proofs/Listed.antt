@@ -80,14 +80,14 @@ module _ (bytes : List ℕ) (room : ℕ) (found : Left Found) (reads : Reads byt
         unfolding open-file version-named open-as
         count-refused h =
             let other : length bytes ≡ file-size V1 (count-in V1 bytes) → ⊥ = λ e. h (e ∙ ap (file-size V1) count-is) in
-            refused OtherCount (rw (open-file, well, version-named, version-is ∙ first, open-as, ne-eqb (length bytes) (file-size V1 (count-in V1 bytes)) other))
+            refused OtherCount (rw (open-file, well, version-named, version-is ∙ first, open-as, ne-eqb (file-size V1 (count-in V1 bytes)) (length bytes) (λ e. other (sym e))))
 
         module _ (measured : Measured bytes) where
           opens : open-file bytes ≡ Holds V1 (listed.text-length bytes) (listed.count bytes)
           unfolding open-file version-named open-as
           opens =
               rw (open-file, well, version-named, version-is ∙ first, open-as,
-              eq-eqb (length bytes) (file-size V1 (count-in V1 bytes)) (measured ∙ ap (file-size V1) (sym count-is)), text-is, count-is)
+              eq-eqb (file-size V1 (count-in V1 bytes)) (length bytes) (sym (measured ∙ ap (file-size V1) (sym count-is))), text-is, count-is)
 
           told : Decided (Sheet (listed.text-length bytes) (tokens-of V1 bytes)) (read-of (listed.text-length bytes) (tokens-of V1 bytes) room) found
           told = subst (λ (o : Opened). Read-opened (λ (answer : Left Found). answer) bytes room o found) opens reads

@@ -7,6 +7,12 @@ use mathlib.Core.List.{List}
 use mathlib.Core.Logic.{_↔_}
 use Prim.Native.Nat.{ℕ}
 use Rattle.sheet.specs.Decided.{Decided}
+use Rattle.file.specs.declared.Opened.{Opened}
+use Rattle.file.specs.declared.Opened.the-variants.{Holds}
+use Rattle.file.specs.declared.Opened.the-variants as Opened
+use Rattle.file.specs.declared.Found.{Found}
+use Rattle.file.specs.Open.{open-file}
+use Rattle.file.specs.Files.{Left, Read-opened, Reads-as}
 use Rattle.put.specs.Append.{Wrote, wrote}
 use Rattle.promises.specs.Unique.{One-result, One-left, One-line}
 use Rattle.data.proofs.character_class.Reads as character-class
@@ -86,7 +92,18 @@ use Rattle.machine.proofs.start.start.Reads as start
 use Rattle.machine.proofs.finish.refuse.Reads as refuse
 use Rattle.machine.proofs.finish.finish.Reads as finish
 use Rattle.parse.proofs.parse.Reads as parse
+use Rattle.packed.proofs.numbers.Width.bytes.Reads as width-bytes
+use Rattle.packed.proofs.numbers.Width.greatest.Reads as width-greatest
+use Rattle.packed.proofs.numbers.fits.Reads as fits
+use Rattle.packed.proofs.numbers.number_at.Reads as number-at
+use Rattle.packed.proofs.numbers.put_number.Reads as put-number
+use Rattle.packed.proofs.tokens.bytes_for.Reads as bytes-for
+use Rattle.packed.proofs.tokens.token_of.Reads as packed-token-of
+use Rattle.packed.proofs.tokens.pack.Reads as pack
+use Rattle.packed.proofs.source.token_of.Reads as source-token-of
+use Rattle.packed.proofs.source.holds.Reads as source-holds
 use Rattle.sheet.proofs.check.Reads as check
+use Rattle.sheet.proofs.check_packed.Reads as check-packed
 use Rattle.sheet.proofs.views.Viewed.refusal.Reads as viewed-refusal
 use Rattle.sheet.proofs.views.code.Reads as code
 use Rattle.sheet.proofs.views.link.Reads as link
@@ -98,6 +115,11 @@ use Rattle.put.proofs.front.Reads as front
 use Rattle.put.proofs.part.Reads as part
 use Rattle.put.proofs.clear_from.Reads as zeroed
 use Rattle.put.proofs.equal.equal_bytes.Reads as equal-bytes
+use Rattle.file.proofs.Refusal.number.Reads as file-refusal-number
+use Rattle.file.proofs.layout.head_size.Reads as head-size
+use Rattle.file.proofs.layout.file_size.Reads as file-size
+use Rattle.file.proofs.write.Reads as file-write
+use Rattle.file.proofs.read.Reads as file-read
 use Rattle.alike.proofs.comes_back.Reads as comes-back
 use Rattle.writer.proofs.Refusal.number.Reads as write-refusal-number
 use Rattle.writer.proofs.write.Reads as write
@@ -127,6 +149,8 @@ use Rattle.capi.proofs.tackacorn_check.Reads as tackacorn-check
 use Rattle.capi.proofs.tackacorn_view.Reads as tackacorn-view
 use Rattle.capi.proofs.tackacorn_token.Reads as tackacorn-token
 use Rattle.capi.proofs.tackacorn_write.Reads as tackacorn-write
+use Rattle.capi.proofs.tackacorn_sheet_write.Reads as tackacorn-sheet-write
+use Rattle.capi.proofs.tackacorn_sheet_read.Reads as tackacorn-sheet-read
 use Rattle.capi.proofs.tackacorn_to_bool.Reads as tackacorn-to-bool
 use Rattle.capi.proofs.tackacorn_to_u64.Reads as tackacorn-to-u64
 use Rattle.capi.proofs.tackacorn_to_i64.Reads as tackacorn-to-i64
@@ -153,6 +177,16 @@ by-bytes out definition = (λ κs args r s xs ys p q. cc, λ κs args r s xs ys 
 -- and one that names what is answered by whether a claim holds allows one answer, with all that it leaves
 one-decided : {Answer : Type 0} (P : Type 0) (answer : Bool → Answer) (x y : Answer) → Decided P answer x → Decided P answer y → x ≡ y
 one-decided P answer x y p q = p .gives ∙ ap answer (one-verdict P (p .yes) (q .yes) (p .holds) (q .holds)) ∙ sym (q .gives)
+
+-- and so does one that names what a file is read as, by what stands before its tokens
+one-opened : {Told : Type 0} (tell : Left Found → Told) (bytes : List ℕ) (room : ℕ) (o : Opened) (x y : Told)
+    → Read-opened tell bytes room o x → Read-opened tell bytes room o y → x ≡ y
+one-opened tell bytes room (Holds v text-length count) x y p q = one-decided _ _ x y p q
+one-opened tell bytes room (Opened.Refused r) x y p q = p ∙ sym q
+
+one-read : {Told : Type 0} (tell : Left Found → Told) (bytes : List ℕ) (room : ℕ) (x y : Told)
+    → Reads-as tell bytes room x → Reads-as tell bytes room y → x ≡ y
+one-read tell bytes room x y p q = one-opened tell bytes room (open-file bytes) x y p q
 
 pub record Data : Type 0 where
   pub character-class : One-result character-class.Post
@@ -389,8 +423,57 @@ parse-calls =
       parse-tape = λ κs args r s xs ys p q. cc;
     }
 
+pub record Packed : Type 0 where
+  pub width-bytes : One-result width-bytes.Post
+  pub width-greatest : One-result width-greatest.Post
+  pub fits : One-result fits.Post
+  pub number-at : One-result number-at.Post
+  pub put-number-buffer : One-left put-number.Post (λ κs xs. xs .0 .now)
+  pub bytes-for : One-result bytes-for.Post
+  pub packed-token-of : One-result packed-token-of.Post
+  pub pack-buffer : One-left pack.Post (λ κs xs. xs .1 .1 .0 .now)
+  pub source-token-of : One-result source-token-of.Post
+  pub source-holds : One-result source-holds.Post
+
+pub packed-calls : Packed
+packed-calls =
+    record {
+      width-bytes = by-definition _ _;
+      width-greatest = by-definition _ _;
+      fits = by-definition _ _;
+      number-at = by-definition _ _;
+      put-number-buffer = λ κs args r s xs ys p q. p ∙ sym q;
+      bytes-for = by-definition _ _;
+      packed-token-of = by-definition _ _;
+      pack-buffer = λ κs args r s xs ys p q. p ∙ sym q;
+      source-token-of = by-definition _ _;
+      source-holds = by-definition _ _;
+    }
+
+pub record File : Type 0 where
+  pub file-refusal-number : One-result file-refusal-number.Post
+  pub head-size : One-result head-size.Post
+  pub file-size : One-result file-size.Post
+  pub file-write-result : One-result file-write.Post
+  pub file-write-buffer : One-left file-write.Post (λ κs xs. xs .1 .1 .1 .0 .now)
+  pub file-read-result : One-result file-read.Post
+  pub file-read-words : One-left file-read.Post (λ κs xs. xs .1 .0 .now)
+
+pub file-calls : File
+file-calls =
+    record {
+      file-refusal-number = by-definition _ _;
+      head-size = by-definition _ _;
+      file-size = by-definition _ _;
+      file-write-result = λ κs args r s xs ys p q. let e = one-decided _ _ _ _ p q in cc;
+      file-write-buffer = λ κs args r s xs ys p q. let e = one-decided _ _ _ _ p q in cc;
+      file-read-result = λ κs args r s xs ys p q. let e = one-read _ _ _ _ _ p q in cc;
+      file-read-words = λ κs args r s xs ys p q. let e = one-read _ _ _ _ _ p q in cc;
+    }
+
 pub record Sheet : Type 0 where
   pub check : One-result check.Post
+  pub check-packed : One-result check-packed.Post
   pub viewed-refusal : One-result viewed-refusal.Post
   pub code : One-result code.Post
   pub link : One-result link.Post
@@ -402,6 +485,7 @@ pub sheet-calls : Sheet
 sheet-calls =
     record {
       check = λ κs args r s xs ys p q. one-verdict _ r s p q;
+      check-packed = λ κs args r s xs ys p q. one-verdict _ r s p q;
       viewed-refusal = by-definition _ _;
       code = by-definition _ _;
       link = by-definition _ _;
@@ -517,6 +601,13 @@ pub record Capi : Type 0 where
   pub tackacorn-write-buffer : One-left tackacorn-write.Post (λ κs xs. xs .1 .1 .1 .0 .now)
   pub tackacorn-write-scratch : One-left tackacorn-write.Post (λ κs xs. xs .1 .1 .1 .1 .0 .now)
   pub tackacorn-write-size : One-left tackacorn-write.Post (λ κs xs. xs .1 .1 .1 .1 .1 .0 .now)
+  pub tackacorn-sheet-write-result : One-result tackacorn-sheet-write.Post
+  pub tackacorn-sheet-write-buffer : One-left tackacorn-sheet-write.Post (λ κs xs. xs .1 .1 .1 .0 .now)
+  pub tackacorn-sheet-write-size : One-left tackacorn-sheet-write.Post (λ κs xs. xs .1 .1 .1 .1 .0 .now)
+  pub tackacorn-sheet-read-result : One-result tackacorn-sheet-read.Post
+  pub tackacorn-sheet-read-words : One-left tackacorn-sheet-read.Post (λ κs xs. xs .1 .0 .now)
+  pub tackacorn-sheet-read-length : One-left tackacorn-sheet-read.Post (λ κs xs. xs .1 .1 .0 .now)
+  pub tackacorn-sheet-read-count : One-left tackacorn-sheet-read.Post (λ κs xs. xs .1 .1 .1 .0 .now)
   pub tackacorn-to-bool-result : One-result tackacorn-to-bool.Post
   pub tackacorn-to-bool-value : One-left tackacorn-to-bool.Post (λ κs xs. xs .1 .0 .now)
   pub tackacorn-to-u64-result : One-result tackacorn-to-u64.Post
@@ -546,6 +637,13 @@ capi-calls =
       tackacorn-write-buffer = λ κs args r s xs ys p q. let e = one-decided _ _ _ _ p q in cc;
       tackacorn-write-scratch = λ κs args r s xs ys p q. let e = one-decided _ _ _ _ p q in cc;
       tackacorn-write-size = λ κs args r s xs ys p q. let e = one-decided _ _ _ _ p q in cc;
+      tackacorn-sheet-write-result = λ κs args r s xs ys p q. let e = one-decided _ _ _ _ p q in cc;
+      tackacorn-sheet-write-buffer = λ κs args r s xs ys p q. let e = one-decided _ _ _ _ p q in cc;
+      tackacorn-sheet-write-size = λ κs args r s xs ys p q. let e = one-decided _ _ _ _ p q in cc;
+      tackacorn-sheet-read-result = λ κs args r s xs ys p q. let e = one-read _ _ _ _ _ p q in cc;
+      tackacorn-sheet-read-words = λ κs args r s xs ys p q. let e = one-read _ _ _ _ _ p q in cc;
+      tackacorn-sheet-read-length = λ κs args r s xs ys p q. let e = one-read _ _ _ _ _ p q in cc;
+      tackacorn-sheet-read-count = λ κs args r s xs ys p q. let e = one-read _ _ _ _ _ p q in cc;
       tackacorn-to-bool-result = λ κs args r s xs ys p q. cc;
       tackacorn-to-bool-value = λ κs args r s xs ys p q. cc;
       tackacorn-to-u64-result = λ κs args r s xs ys p q. cc;
