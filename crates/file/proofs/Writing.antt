@@ -30,7 +30,7 @@ use Rattle.file.specs.declared.Refusal.{Refusal}
 use Rattle.file.specs.declared.Refusal.the-variants.{NotSound, NoRoom, TooLarge}
 use Rattle.file.specs.declared.Written.{Written}
 use Rattle.file.specs.declared.Written.the-variants.{File}
-use Rattle.file.specs.Layout.{version-number, total-field, version-field, text-field, count-field, version-at, text-at, count-at, head-size, file-size, head-of, file-of}
+use Rattle.file.specs.Layout.{version-number, total-field, version-field, text-field, count-field, version-at, text-at, count-at, head-size, file-size, total-of, head-of, file-of}
 use Rattle.file.specs.Files.{Left, left, zeros, too-large, refuse-write, accept-write, write-of}
 
 -- ---- 35
@@ -77,7 +77,7 @@ store-next out place xs ys {mid} e h f g =
 
 module _ (v : Version) (text-length count : ℕ) where
   abbrev total-part : List ℕ
-  total-part = spelled (width-of total-field) (file-size v count)
+  total-part = spelled (width-of total-field) (total-of v count)
 
   abbrev version-part : List ℕ
   version-part = spelled (width-of version-field) (version-number v)
@@ -92,7 +92,7 @@ module _ (v : Version) (text-length count : ℕ) where
   to-version : length (total-part ++ version-part) ≡ text-at
   to-version =
       length-append total-part version-part
-      ∙ omega (arith, spelled-length (width-of total-field) (file-size v count), spelled-length (width-of version-field) (version-number v))
+      ∙ omega (arith, spelled-length (width-of total-field) (total-of v count), spelled-length (width-of version-field) (version-number v))
 
   to-text : length (total-part ++ version-part ++ text-part) ≡ count-at v
   to-text = length-append (total-part ++ version-part) text-part ∙ omega (arith, to-version, spelled-length (width-of (text-field v)) text-length)
@@ -113,7 +113,7 @@ file-length v text-length ts =
 -- the four fields, stored one behind the other
 pub head-put : (v : Version) (text-length count : ℕ) (out : List ℕ) {size number place : ℕ} {width : Width} {one two three four : List ℕ}
     → head-size v ≤ length out
-    → size ≡ file-size v count → one ≡ store out 0 (spelled (width-of total-field) size)
+    → size ≡ total-of v count → one ≡ store out 0 (spelled (width-of total-field) size)
     → number ≡ version-number v → two ≡ store one version-at (spelled (width-of version-field) number)
     → width ≡ text-field v → three ≡ store two text-at (spelled (width-of width) text-length)
     → place ≡ count-at v → four ≡ store three place (spelled (width-of count-field) count)
@@ -124,7 +124,7 @@ head-put v text-length count out {one = one} {two = two} {three = three} {four =
     let version : List ℕ = version-part v text-length count in
     let text : List ℕ = text-part v text-length count in
     let counted : List ℕ = count-part v text-length count in
-    let long : length total ≡ version-at = spelled-length (width-of total-field) (file-size v count) in
+    let long : length total ≡ version-at = spelled-length (width-of total-field) (total-of v count) in
     let first : one ≡ sets out 0 total =
     e ∙ ap (λ (k : ℕ). store out 0 (spelled (width-of total-field) k)) whole ∙ sym (store-there out 0 total (omega (arith, long, room))) in
     let second : two ≡ sets out 0 (total ++ version) =

@@ -46,10 +46,14 @@ head-size v = count-at v + width-of count-field
 abbrev pub file-size : Version → ℕ → ℕ
 file-size v count = head-size v + bytes-for count
 
+-- the total length that it says
+abbrev pub total-of : Version → ℕ → ℕ
+total-of v count = file-size v count
+
 -- ---- the file of a sheet
 unfoldable pub head-of : Version → ℕ → ℕ → List ℕ
 head-of v text-length count =
-    spelled (width-of total-field) (file-size v count)
+    spelled (width-of total-field) (total-of v count)
     ++ spelled (width-of version-field) (version-number v)
     ++ spelled (width-of (text-field v)) text-length
     ++ spelled (width-of count-field) count

@@ -22,7 +22,7 @@ use Rattle.file.specs.declared.layout.Version.the-variants.{V1}
 use Rattle.file.specs.declared.Refusal.the-variants.{FileLength, UnknownVersion, OtherCount}
 use Rattle.file.specs.declared.Opened.{Opened}
 use Rattle.file.specs.declared.Opened.the-variants.{Holds, Refused}
-use Rattle.file.specs.Layout.{version-number, total-field, version-field, text-field, count-field, version-at, text-at, count-at, head-size, file-size, head-of, file-of}
+use Rattle.file.specs.Layout.{version-number, total-field, version-field, text-field, count-field, version-at, text-at, count-at, head-size, file-size, total-of, head-of, file-of}
 use Rattle.file.specs.Open.{least-size, version-named, total-in, version-in, text-length-in, count-in, tokens-of, other-length, open-as, open-named, open-file}
 use Rattle.file.specs.Files.{too-large}
 use Rattle.file.proofs.Writing.{small-text, small-total, file-length}
@@ -45,7 +45,7 @@ module _ (text-length : ℕ) (ts : List Token) (small : too-large V1 text-length
   n = length ts
 
   abbrev total : List ℕ
-  total = spelled (width-of total-field) (file-size V1 n)
+  total = spelled (width-of total-field) (total-of V1 n)
 
   abbrev named : List ℕ
   named = spelled (width-of version-field) (version-number V1)
@@ -60,7 +60,7 @@ module _ (text-length : ℕ) (ts : List Token) (small : too-large V1 text-length
   file = total ++ named ++ text ++ counted ++ packed ts
 
   tl : length total ≡ 4
-  tl = spelled-length 4 (file-size V1 n)
+  tl = spelled-length 4 (total-of V1 n)
 
   tv : length (total ++ named) ≡ 5
   tv = length-append total named ∙ omega (arith, tl, spelled-length 1 1)
