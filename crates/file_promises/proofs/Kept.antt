@@ -67,6 +67,13 @@ small-tokens text-length words count all s i h =
       b = rw is (omega (arith, all (b-word i)));
     }
 
+-- the words that were left hold the file's tokens
+held : {bytes : List ℕ} {room text-length count : ℕ} {words : List ℕ} → Took bytes room text-length count words
+    → tokens-in words count ≡ tokens-of V1 bytes
+held {bytes} {room} {count = count} t =
+    let ts : List Token = tokens-of V1 bytes in
+    ap (λ (x : List ℕ). tokens-in x count) (t .lays) ∙ ap (tokens-in (padded room ts)) (sym (t .counted)) ∙ padded-tokens room ts
+
 -- ---- what is read is sound
 pub read-sound : Read-sound
 read-sound r d text-length count words e =
@@ -120,8 +127,7 @@ read-write r w reads writes all e room =
     took-sheet bytes (r .room) (w .text-length) (w .count) (w .words) (subst (λ (g : Left Found). Reads bytes (r .room) g) e reads) in
     let fields = opened-fields bytes (w .text-length) (w .count) (took .opens) in
     let ts : List Token = tokens-of V1 bytes in
-    let same : tokens-in (w .words) (w .count) ≡ ts =
-    ap (λ (x : List ℕ). tokens-in x (w .count)) (took .lays) ∙ ap (tokens-in (padded (r .room) ts)) (sym (took .counted)) ∙ padded-tokens (r .room) ts in
+    let same : tokens-in (w .words) (w .count) ≡ ts = held took in
     let yes : writes .yes ≡ true = writes .holds .1 (read-sound r reads (w .text-length) (w .count) (w .words) e) in
     let file : file-of V1 (w .text-length) ts ≡ bytes = read-again bytes all (w .text-length) (w .count) fields (took .counted) in
     writes .gives ∙ ap (write-of V1 (w .text-length) (tokens-in (w .words) (w .count)) (w .room)) yes
@@ -137,14 +143,8 @@ one-file r s reads others all alls text-length count words more e f same =
     took-sheet (r .bytes) (r .room) text-length count words (subst (λ (g : Left Found). Reads (r .bytes) (r .room) g) e reads) in
     let took′ : Took (s .bytes) (s .room) text-length count more =
     took-sheet (s .bytes) (s .room) text-length count more (subst (λ (g : Left Found). Reads (s .bytes) (s .room) g) f others) in
-    let held : tokens-in words count ≡ tokens-of V1 (r .bytes) =
-    ap (λ (x : List ℕ). tokens-in x count) (took .lays) ∙ ap (tokens-in (padded (r .room) (tokens-of V1 (r .bytes)))) (sym (took .counted))
-    ∙ padded-tokens (r .room) (tokens-of V1 (r .bytes)) in
-    let held′ : tokens-in more count ≡ tokens-of V1 (s .bytes) =
-    ap (λ (x : List ℕ). tokens-in x count) (took′ .lays) ∙ ap (tokens-in (padded (s .room) (tokens-of V1 (s .bytes)))) (sym (took′ .counted))
-    ∙ padded-tokens (s .room) (tokens-of V1 (s .bytes)) in
     let tokens : tokens-of V1 (r .bytes) ≡ tokens-of V1 (s .bytes) =
-    sym held ∙ sym (tokens-first words count) ∙ ap (λ (x : List ℕ). tokens-in x count) same ∙ tokens-first more count ∙ held′ in
+    sym (held took) ∙ sym (tokens-first words count) ∙ ap (λ (x : List ℕ). tokens-in x count) same ∙ tokens-first more count ∙ held took′ in
     sym (read-again (r .bytes) all text-length count (opened-fields (r .bytes) text-length count (took .opens)) (took .counted))
     ∙ ap (file-of V1 text-length) tokens
     ∙ read-again (s .bytes) alls text-length count (opened-fields (s .bytes) text-length count (took′ .opens)) (took′ .counted)
