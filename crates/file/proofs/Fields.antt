@@ -1,7 +1,7 @@
 -- The fields of a file: what the code computes of them, by version, and what a file says before its tokens.
 -- Assumes nothing.
 use mathlib.Core.Path.{_≡_, refl, sym, _∙_, ap}
-use mathlib.Core.Bool.{Bool, true, false, not, _||_}
+use mathlib.Core.Bool.{Bool, true, false, not}
 use mathlib.Core.List.{List}
 use Prim.Native.Nat.{ℕ, _≤_, _<_}
 use native.Mathlib.Omega.{arith}
@@ -21,7 +21,7 @@ use Rattle.file.specs.declared.Refusal.{Refusal}
 use Rattle.file.specs.declared.Refusal.the-variants.{FileLength, UnknownVersion, OtherCount}
 use Rattle.file.specs.declared.Opened.{Opened}
 use Rattle.file.specs.declared.Opened.the-variants.{Holds, Refused}
-use Rattle.file.specs.Layout.{version-number, total-field, version-field, text-field, count-field, version-at, text-at, count-at, head-size, file-size}
+use Rattle.file.specs.Layout.{version-number, text-field, count-field, text-at, count-at, head-size, file-size}
 use Rattle.file.specs.Open.{least-size, version-named, total-in, version-in, text-length-in, count-in, other-length, open-as, open-named, open-file}
 
 -- ---- by version

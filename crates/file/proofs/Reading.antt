@@ -1,23 +1,22 @@
 -- What the tokens of a file are, once its fields are known, and what is answered for them.
 -- Assumes nothing.
-use mathlib.Core.Path.{_≡_, refl, sym, _∙_, ap, subst}
+use mathlib.Core.Path.{_≡_, sym, _∙_, ap, subst}
 use mathlib.Core.Bool.{Bool, true, false, not}
-use mathlib.Core.List.{List, [], _∷_}
+use mathlib.Core.List.{List}
 use mathlib.Core.Logic.{_↔_}
-use Prim.Native.Nat.{ℕ, _+_, _-_, _/_, _≤_, _<_}
+use Prim.Native.Nat.{ℕ, _-_, _≤_, _<_}
 use native.Mathlib.Omega.{arith}
 use borrow.Author.Tests.{lt-ltb, le-ltb, leb-true, leb-false}
 use lib.Dec.{leb}
 use lib.ListN.{length, take, drop, length-drop}
 use lib.Seq.{take-all}
 use Rattle.data.proofs.Reasons.{first-here, first-later, first-none}
-use Rattle.tape.specs.declared.token.Token.{Token}
-use Rattle.tape.specs.Words.{words-for, greatest-word, room-of, tokens-in, words-of, padded}
+use Rattle.tape.specs.Words.{words-for, greatest-word, room-of, tokens-in, padded}
 use Rattle.tape.proofs.Views.{words-length}
 use Rattle.sheet.specs.Decided.{Decided}
 use Rattle.sheet.specs.Sound.{Sheet, Sound}
 use Rattle.sheet.proofs.Decisions.{decided-as}
-use Rattle.packed.specs.Packed.{bytes-per-token, bytes-for, unpacked, words-packed}
+use Rattle.packed.specs.Packed.{unpacked, words-packed}
 use Rattle.packed.proofs.Packing.{unpacked-length, words-hold}
 use Rattle.file.specs.declared.layout.Version.{Version}
 use Rattle.file.specs.declared.Refusal.the-variants.{NotSound, NoRoom}
@@ -39,12 +38,13 @@ held-tokens body count e = words-hold (unpacked body) count ∙ take-all count (
 pub sound-tokens : (text-length : ℕ) (body : List ℕ) (count : ℕ) → length (unpacked body) ≡ count
     → Sound text-length (words-packed body) count ↔ Sheet text-length (unpacked body)
 unfolding words-packed
-sound-tokens text-length body count e =
-    (λ s. subst (Sheet text-length) (held-tokens body count e) (s .tokens),
-    λ s. record {
-      fits = omega (arith, words-length (unpacked body));
-      tokens = subst (Sheet text-length) (sym (held-tokens body count e)) s;
-    })
+sound-tokens text-length body count e = (
+  λ s. subst (Sheet text-length) (held-tokens body count e) (s .tokens),
+  λ s. record {
+    fits = omega (arith, words-length (unpacked body));
+    tokens = subst (Sheet text-length) (sym (held-tokens body count e)) s;
+  },
+)
 
 module _ (v : Version) (bytes : List ℕ) (text-length count room : ℕ) (size : length bytes ≡ file-size v count) where
   -- as many as the file says

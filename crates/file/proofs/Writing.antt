@@ -1,14 +1,14 @@
 -- What is said of a sheet before it is written, and what the file's parts come to, put one behind the other.
 -- Assumes nothing.
-use mathlib.Core.Path.{_≡_, refl, sym, _∙_, ap}
-use mathlib.Core.Bool.{Bool, true, false, not, _||_}
-use mathlib.Core.List.{List, [], _∷_, _++_}
+use mathlib.Core.Path.{_≡_, sym, _∙_, ap}
+use mathlib.Core.Bool.{Bool, true, false, not}
+use mathlib.Core.List.{List, _∷_, _++_}
 use mathlib.Core.Logic.{_↔_}
-use Prim.Native.Nat.{ℕ, _+_, _-_, _/_, _^_, _≤_, _<_}
+use Prim.Native.Nat.{ℕ, _+_, _-_, _/_, _≤_, _<_}
 use native.Mathlib.Omega.{arith}
 use borrow.Author.Tests.{lt-ltb, le-ltb, ltb-true, ltb-false}
 use lib.Dec.{ltb}
-use lib.ListN.{length, take, drop, replicate, length-append, length-drop}
+use lib.ListN.{length, take, drop, length-append}
 use lib.Seq.{sets, sets-eq, length-sets, take-append-seam}
 use Rattle.data.specs.Reasons.{Reason, if-so, first-of}
 use Rattle.data.proofs.Cases.{by-bool, neither}
@@ -20,9 +20,8 @@ use Rattle.put.specs.Append.{zeroed}
 use Rattle.sheet.specs.Decided.{Decided}
 use Rattle.sheet.specs.Sound.{Sound}
 use Rattle.packed.specs.declared.numbers.Width.{Width}
-use Rattle.packed.specs.declared.numbers.Width.the-variants.{Three}
 use Rattle.packed.specs.Numbers.{width-of, greatest, spelled, store}
-use Rattle.packed.specs.Packed.{bytes-per-token, bytes-for, packed}
+use Rattle.packed.specs.Packed.{bytes-per-token, packed}
 use Rattle.packed.proofs.Spelling.{spelled-length, store-there, sets-more}
 use Rattle.packed.proofs.Packing.{packed-length}
 use Rattle.file.specs.declared.layout.Version.{Version}

@@ -11,7 +11,6 @@ use Rattle.file.specs.declared.layout.Version.{Version}
 use Rattle.file.specs.declared.layout.Version.the-variants.{V1}
 use Rattle.file.specs.declared.layout.VersionNamed.{VersionNamed}
 use Rattle.file.specs.declared.layout.VersionNamed.the-variants.{Known, Unknown}
-use Rattle.file.specs.declared.Refusal.{Refusal}
 use Rattle.file.specs.declared.Refusal.the-variants.{FileLength, UnknownVersion, OtherCount}
 use Rattle.file.specs.declared.Opened.{Opened}
 use Rattle.file.specs.declared.Opened.the-variants.{Holds, Refused}

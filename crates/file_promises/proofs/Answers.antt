@@ -1,24 +1,20 @@
 -- What an answer tells of the call that gave it: what a file that was written is, and what one that was read says.
 -- Assumes nothing.
-use mathlib.Core.Path.{_≡_, refl, sym, _∙_, ap, subst}
-use mathlib.Core.Bool.{Bool, true, false, not, _||_}
-use mathlib.Core.List.{List, [], _∷_, _++_}
-use Prim.Native.Nat.{ℕ, _+_, _-_, _≤_, _<_}
+use mathlib.Core.Path.{_≡_, refl, sym, _∙_, subst}
+use mathlib.Core.Bool.{Bool, true, false, not}
+use mathlib.Core.List.{List}
+use Prim.Native.Nat.{ℕ, _-_, _≤_}
 use native.Mathlib.Omega.{arith}
-use borrow.Author.Tests.{ltb-true, ltb-false, eqb-true, not-true, not-false}
+use borrow.Author.Tests.{ltb-true, ltb-false, eqb-true, not-false}
 use lib.Dec.{ltb, eqb}
-use lib.ListN.{length, take, drop}
+use lib.ListN.{length}
 use Rattle.data.specs.Reasons.{first-of}
 use Rattle.data.proofs.Cases.{by-bool, neither}
 use Rattle.tape.specs.declared.token.Token.{Token}
 use Rattle.tape.specs.Words.{words-for, padded}
-use Rattle.sheet.specs.Sound.{Sheet, Sound}
-use Rattle.sheet.specs.Decided.{Decided}
-use Rattle.packed.specs.Numbers.{width-of, field}
+use Rattle.sheet.specs.Sound.{Sheet}
 use Rattle.file.specs.declared.layout.Version.{Version}
 use Rattle.file.specs.declared.layout.Version.the-variants.{V1}
-use Rattle.file.specs.declared.layout.VersionNamed.{VersionNamed}
-use Rattle.file.specs.declared.layout.VersionNamed.the-variants.{Known, Unknown}
 use Rattle.file.specs.declared.Refusal.{Refusal}
 use Rattle.file.specs.declared.Refusal.the-variants.{FileLength, UnknownVersion, NotSound, NoRoom, TooLarge, OtherCount}
 use Rattle.file.specs.declared.Opened.{Opened}
@@ -29,7 +25,7 @@ use Rattle.file.specs.declared.Written.the-variants.{File}
 use Rattle.file.specs.declared.Found.{Found}
 use Rattle.file.specs.declared.Found.the-variants as Found
 use Rattle.file.specs.Layout.{file-size, file-of}
-use Rattle.file.specs.Open.{least-size, version-named, total-in, version-in, text-length-in, count-in, tokens-of, other-length, open-as, open-named, open-file}
+use Rattle.file.specs.Open.{least-size, version-named, total-in, version-in, text-length-in, count-in, tokens-of, other-length, open-as, open-file}
 use Rattle.file.specs.Files.{Left, left, too-large, refuse-write, accept-write, write-of, refuse-read, accept-read, read-of, Read-opened, Reads}
 use Rattle.file.proofs.Fields.{opened-sized}
 use Rattle.file.proofs.Reading.{tokens-counted}

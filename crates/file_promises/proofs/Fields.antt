@@ -1,31 +1,26 @@
 -- The fields of a file that was written, read again, and the bytes of a file that was read, written again.
 -- Assumes nothing.
 use mathlib.Core.Path.{_≡_, refl, sym, _∙_, ap}
-use mathlib.Core.Bool.{Bool, true, false, not, _||_}
-use mathlib.Core.List.{List, [], _∷_, _++_, append-assoc}
-use Prim.Native.Nat.{ℕ, zero, suc, _+_, _-_, _*_, _^_, _≤_, _<_}
+use mathlib.Core.Bool.{false}
+use mathlib.Core.List.{List, [], _∷_, _++_}
+use Prim.Native.Nat.{ℕ, suc, _+_, _-_, _*_, _^_, _≤_, _<_}
 use native.Mathlib.Nat.{mul-assoc, mul-le-mul-right, pow-succ'}
 use native.Mathlib.Omega.{arith}
-use borrow.Author.Tests.{le-leb, le-ltb, eq-eqb, leb-true}
-use lib.Dec.{leb, eqb, ltb}
-use lib.ListN.{length, getD, take, drop, length-append, length-drop, take-append-drop}
+use borrow.Author.Tests.{le-leb, le-ltb, eq-eqb}
+use lib.ListN.{length, take, drop, length-append, length-drop, take-append-drop}
 use lib.Seq.{drop-at, length-take-le, getD-drop}
-use Rattle.data.proofs.Cases.{by-bool, neither}
 use Rattle.tape.specs.declared.token.Token.{Token}
 use Rattle.tape.specs.Token.{nth}
 use Rattle.packed.specs.Numbers.{byte-values, width-of, greatest, spelled, number-on, number-of, spelt, field}
-use Rattle.packed.specs.Packed.{bytes-per-token, bytes-for, packed, unpacked}
+use Rattle.packed.specs.Packed.{packed, unpacked}
 use Rattle.packed.proofs.Spelling.{spelled-length, read-back}
 use Rattle.packed.proofs.Packing.{packed-length}
-use Rattle.file.specs.declared.layout.Version.{Version}
 use Rattle.file.specs.declared.layout.Version.the-variants.{V1}
-use Rattle.file.specs.declared.Refusal.the-variants.{FileLength, UnknownVersion, OtherCount}
-use Rattle.file.specs.declared.Opened.{Opened}
-use Rattle.file.specs.declared.Opened.the-variants.{Holds, Refused}
-use Rattle.file.specs.Layout.{version-number, total-field, version-field, text-field, count-field, version-at, text-at, count-at, head-size, file-size, total-of, head-of, file-of}
-use Rattle.file.specs.Open.{least-size, version-named, total-in, version-in, text-length-in, count-in, tokens-of, other-length, open-as, open-named, open-file}
+use Rattle.file.specs.declared.Opened.the-variants.{Holds}
+use Rattle.file.specs.Layout.{version-number, total-field, version-field, text-field, count-field, text-at, file-size, total-of, head-of, file-of}
+use Rattle.file.specs.Open.{least-size, version-named, total-in, version-in, text-length-in, count-in, tokens-of, open-as, open-file}
 use Rattle.file.specs.Files.{too-large}
-use Rattle.file.proofs.Writing.{small-text, small-total, file-length}
+use Rattle.file.proofs.Writing.{small-text, small-total}
 use Rattle.file_promises.specs.Calls.{Bytes}
 use Rattle.file_promises.proofs.Answers.{Fields}
 use Rattle.file_promises.proofs.Spells.{part-bytes, spelt-again, joined, unpacked-again, Small, spelt-within, spelt-last, packed-back}
@@ -111,8 +106,16 @@ module _ (text-length : ℕ) (ts : List Token) (small : too-large V1 text-length
   pub written-opens : open-file (file-of V1 text-length ts) ≡ Holds V1 text-length n
   unfolding file-of head-of open-file version-named open-as
   written-opens =
-      rw (open-file, le-ltb (length file) least-size (omega (arith, whole)), eq-eqb (total-in file) (length file) (total-back ∙ sym whole),
-      version-back, open-as, eq-eqb (file-size V1 (count-in V1 file)) (length file) (sym (whole ∙ ap (file-size V1) (sym count-back))), text-back, count-back)
+      rw (
+        open-file,
+        le-ltb (length file) least-size (omega (arith, whole)),
+        eq-eqb (total-in file) (length file) (total-back ∙ sym whole),
+        version-back,
+        open-as,
+        eq-eqb (file-size V1 (count-in V1 file)) (length file) (sym (whole ∙ ap (file-size V1) (sym count-back))),
+        text-back,
+        count-back,
+      )
 
   pub written-tokens : ((i : ℕ) → i < length ts → Small (nth ts i)) → tokens-of V1 (file-of V1 text-length ts) ≡ ts
   unfolding file-of head-of tokens-of

@@ -1,11 +1,11 @@
 -- Sheets on file are sound, and there and back: of whatever answers the contracts of `write` and `read` allow.
 -- Assumes nothing.
-use mathlib.Core.Path.{_≡_, refl, sym, _∙_, ap, subst}
-use mathlib.Core.Bool.{Bool, true, false}
-use mathlib.Core.List.{List, [], _∷_, _++_}
-use Prim.Native.Nat.{ℕ, suc, _+_, _-_, _*_, _^_, _≤_, _<_}
+use mathlib.Core.Path.{_≡_, sym, _∙_, ap, subst}
+use mathlib.Core.Bool.{true}
+use mathlib.Core.List.{List, _++_}
+use Prim.Native.Nat.{ℕ, _+_, _-_, _≤_, _<_}
 use native.Mathlib.Omega.{arith}
-use lib.ListN.{length, getD, take, replicate}
+use lib.ListN.{length, take}
 use lib.Seq.{take-append-seam}
 use Rattle.tape.specs.declared.token.Token.{Token}
 use Rattle.tape.specs.declared.token.ContainerKind.{ContainerKind}
@@ -13,8 +13,8 @@ use Rattle.tape.specs.declared.token.ContainerKind.the-variants.{Array, Object}
 use Rattle.tape.specs.declared.token.ScalarKind.{ScalarKind}
 use Rattle.tape.specs.declared.token.ScalarKind.the-variants.{Unquoted, Quoted, Parameter, UndefinedParameter, Header, QuotedEscape}
 use Rattle.tape.specs.Token.{nth, container-code, scalar-code}
-use Rattle.tape.specs.Words.{words-for, greatest-word, code-word, a-word, b-word, tokens-in, words-of, padded}
-use Rattle.tape.proofs.Views.{token-from, tokens-at, tokens-counted, tokens-first, tokens-length, words-length, words-taken, padded-tokens}
+use Rattle.tape.specs.Words.{words-for, a-word, b-word, tokens-in, words-of, padded}
+use Rattle.tape.proofs.Views.{token-from, tokens-at, tokens-counted, tokens-first, words-length, words-taken, padded-tokens}
 use Rattle.sheet.specs.Sound.{Form, container, mixed-container, scalar, operator, closing, Sheet, Sound}
 use Rattle.sheet.proofs.Sheets.{padded-sound}
 use Rattle.packed.specs.Numbers.{byte-values}
@@ -23,12 +23,10 @@ use Rattle.file.specs.declared.Opened.{Opened}
 use Rattle.file.specs.declared.Opened.the-variants.{Holds}
 use Rattle.file.specs.declared.Written.the-variants.{File}
 use Rattle.file.specs.declared.Found.{Found}
-use Rattle.file.specs.declared.Found.the-variants as Found
-use Rattle.file.specs.Layout.{file-size, file-of}
+use Rattle.file.specs.Layout.{file-of}
 use Rattle.file.specs.Open.{tokens-of, open-file}
 use Rattle.file.specs.Files.{Left, left, zeros, accept-write, write-of, accept-read, read-of, Read-opened, Reads}
-use Rattle.file.proofs.Writing.{file-length}
-use Rattle.file_promises.specs.Calls.{Bytes, Words, Write-call, Writes, Read-call, Reads-so}
+use Rattle.file_promises.specs.Calls.{Words}
 use Rattle.file_promises.specs.Kept.{Read-sound, Write-read, Read-write, One-file}
 use Rattle.file_promises.proofs.Answers.{Wrote, wrote-file, writes-file, Took, took-sheet, takes-tokens, opened-fields}
 use Rattle.file_promises.proofs.Fields.{written-opens, written-tokens, read-small, read-again}

@@ -1,21 +1,20 @@
 -- Every file's refusal is as listed: of whatever answers the contract of `read` allows.
 -- Assumes nothing.
 use mathlib.Core.Path.{_≡_, refl, sym, _∙_, ap, subst}
-use mathlib.Core.Bool.{Bool, true, false, not, _||_}
-use mathlib.Core.List.{List, [], _∷_, _++_}
-use Prim.Native.Nat.{ℕ, _+_, _-_, _*_, _≤_, _<_}
+use mathlib.Core.Bool.{true, false}
+use mathlib.Core.List.{List}
+use Prim.Native.Nat.{ℕ, _+_, _-_, _≤_, _<_}
 use native.Mathlib.Omega.{arith}
 use borrow.Author.Tests.{lt-ltb, le-ltb, ltb-true, ltb-false, eq-eqb, ne-eqb}
-use lib.Dec.{ltb, eqb}
-use lib.ListN.{length, take, drop, length-append}
+use lib.Dec.{ltb}
+use lib.ListN.{length, length-append}
 use lib.Seq.{length-take-le, take-take, take-append-le}
 use Rattle.data.specs.Reasons.{first-of}
 use Rattle.data.proofs.Cases.{by-bool}
-use Rattle.tape.specs.declared.token.Token.{Token}
 use Rattle.tape.specs.Words.{words-for}
 use Rattle.sheet.specs.Sound.{Sheet}
 use Rattle.sheet.specs.Decided.{Decided}
-use Rattle.packed.specs.Numbers.{number-of, spelt, field}
+use Rattle.packed.specs.Numbers.{number-of, spelt}
 use Rattle.file.specs.declared.layout.Version.the-variants.{V1}
 use Rattle.file.specs.declared.Refusal.{Refusal}
 use Rattle.file.specs.declared.Refusal.the-variants.{FileLength, UnknownVersion, NotSound, NoRoom, OtherCount}
@@ -86,8 +85,16 @@ module _ (bytes : List ℕ) (room : ℕ) (found : Left Found) (reads : Reads byt
           opens : open-file bytes ≡ Holds V1 (listed.text-length bytes) (listed.count bytes)
           unfolding open-file version-named open-as
           opens =
-              rw (open-file, well, version-named, version-is ∙ first, open-as,
-              eq-eqb (file-size V1 (count-in V1 bytes)) (length bytes) (sym (measured ∙ ap (file-size V1) (sym count-is))), text-is, count-is)
+              rw (
+                open-file,
+                well,
+                version-named,
+                version-is ∙ first,
+                open-as,
+                eq-eqb (file-size V1 (count-in V1 bytes)) (length bytes) (sym (measured ∙ ap (file-size V1) (sym count-is))),
+                text-is,
+                count-is,
+              )
 
           told : Decided (Sheet (listed.text-length bytes) (tokens-of V1 bytes)) (read-of (listed.text-length bytes) (tokens-of V1 bytes) room) found
           told = subst (λ (o : Opened). Read-opened (λ (answer : Left Found). answer) bytes room o found) opens reads

@@ -6,12 +6,11 @@ use Prim.Native.Nat.{ℕ, zero, suc, _+_, _-_, _*_, _/_, _%_, _^_, _≤_, _<_}
 use native.Mathlib.Omega.{arith}
 use borrow.Author.Tests.{ltb-true, ltb-false}
 use lib.Dec.{ltb}
-use lib.ListN.{length, getD, take, drop, length-take, length-drop, length-append, List·getD-eq-default}
-use lib.Seq.{getD-take, getD-drop, length-take-le, take-all, take-length, take-add, drop-drop, take-append-le, drop-append-le, drop-at, append-snoc}
+use lib.ListN.{length, take, drop, length-take, length-drop, length-append, List·getD-eq-default}
+use lib.Seq.{getD-take, getD-drop, length-take-le, take-all, take-add, drop-drop, take-append-le, drop-append-le, drop-at, append-snoc}
 use Rattle.data.proofs.Cases.{by-bool}
 use Rattle.tape.specs.declared.token.Token.{Token}
 use Rattle.tape.specs.Token.{nth}
-use Rattle.tape.specs.Words.{greatest-word}
 use Rattle.packed.specs.Numbers.{byte-values, spelled, number-on, number-of, spelt}
 use Rattle.packed.specs.Packed.{code-bytes, word-bytes, bytes-per-token, bytes-for, token-bytes, packed, token-spelled, spelled-from, unpacked}
 use Rattle.packed.proofs.Spelling.{spelled-length, read-back}
@@ -63,8 +62,11 @@ token-again : (bytes : List ℕ) (at : ℕ) → Bytes bytes → at + bytes-per-t
     → token-bytes (token-spelled bytes at) ≡ take bytes-per-token (drop at bytes)
 unfolding token-spelled
 token-again bytes at h fits =
-    rw (spelt-again bytes at code-bytes h (omega arith), spelt-again bytes (at + code-bytes) word-bytes h (omega arith),
-    spelt-again bytes (at + (code-bytes + word-bytes)) word-bytes h (omega arith))
+    rw (
+      spelt-again bytes at code-bytes h (omega arith),
+      spelt-again bytes (at + code-bytes) word-bytes h (omega arith),
+      spelt-again bytes (at + (code-bytes + word-bytes)) word-bytes h (omega arith),
+    )
     (ap (λ (x : List ℕ). x ++ take word-bytes (drop (at + (code-bytes + word-bytes)) bytes)) (joined bytes at code-bytes word-bytes)
     ∙ joined bytes at (code-bytes + word-bytes) word-bytes)
 

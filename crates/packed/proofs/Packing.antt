@@ -1,15 +1,14 @@
 -- Tokens as bytes: how many there are, which bytes each has, and what reading and putting them one by one comes to.
 -- Assumes nothing.
 use mathlib.Core.Path.{_≡_, refl, sym, _∙_, ap}
-use mathlib.Core.Bool.{Bool, true, false}
 use mathlib.Core.List.{List, [], _∷_, _++_, append-nil, append-assoc}
-use Prim.Native.Nat.{ℕ, zero, suc, _+_, _-_, _*_, _/_, _≤_, _<_, min}
+use Prim.Native.Nat.{ℕ, zero, suc, _+_, _-_, _/_, _≤_, _<_}
 use native.Mathlib.Omega.{arith}
 use native.Mathlib.Numerals.{add-one}
 use borrow.Author.Tests.{eq-eqb, ne-eqb, eqb-true, eqb-false, le-leb, lt-leb, leb-true, leb-false, ltb-true, ltb-false}
 use lib.Dec.{leb, ltb, eqb}
-use lib.ListN.{length, getD, take, drop, length-append, length-take, List·getD-eq-default}
-use lib.Seq.{sets, getD-take, length-take-le, take-all, take-suc, length-sets}
+use lib.ListN.{length, take, length-append, length-take, List·getD-eq-default}
+use lib.Seq.{sets, getD-take, length-take-le, take-all, take-suc}
 use Rattle.data.proofs.Cases.{by-bool}
 use Rattle.tape.specs.declared.token.Token.{Token}
 use Rattle.tape.specs.Token.{no-token, nth}
@@ -189,8 +188,13 @@ unpack-done ws us n e f = rw (cleared, e, f)
 pub token-length : (t : Token) → length (token-bytes t) ≡ bytes-per-token
 token-length t =
     length-append (spelled code-bytes (t .code) ++ spelled word-bytes (t .a)) (spelled word-bytes (t .b))
-    ∙ omega (arith, length-append (spelled code-bytes (t .code)) (spelled word-bytes (t .a)),
-    spelled-length code-bytes (t .code), spelled-length word-bytes (t .a), spelled-length word-bytes (t .b))
+    ∙ omega (
+      arith,
+      length-append (spelled code-bytes (t .code)) (spelled word-bytes (t .a)),
+      spelled-length code-bytes (t .code),
+      spelled-length word-bytes (t .a),
+      spelled-length word-bytes (t .b),
+    )
 
 pub packed-length : (ts : List Token) → length (packed ts) ≡ bytes-for (length ts)
 unfolding packed

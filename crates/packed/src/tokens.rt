@@ -100,7 +100,11 @@ fn put_all(words: &[u32], count: usize, n: usize, out: &mut [u8], at: usize)
 {
     let mut i = 0;
     while i < n {
-        put_token(out, at + i * BYTES_PER_TOKEN, words::token_of(words, count, i));
+        put_token(
+            out,
+            at + i * BYTES_PER_TOKEN,
+            words::token_of(words, count, i),
+        );
         i += 1;
     }
 }

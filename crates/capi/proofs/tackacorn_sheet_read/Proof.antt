@@ -24,7 +24,7 @@ same-length : tie.Need-same-length
 same-length c = search needs
 
 returns : tie.Need-returns
-returns c = 
+returns c =
     let at-sheet = c .before in
     let at-read = at-sheet .before .before .before .before in
     tells-sheet _ _ (at-read .read .result) (at-read .read .last .1 .0) (at-read .read .ensures) (at-sheet .length .given .1)
@@ -33,7 +33,7 @@ same-length-2 : tie.Need-same-length-2
 same-length-2 c = search needs
 
 returns-2 : tie.Need-returns-2
-returns-2 c = 
+returns-2 c =
     let at-refusal = c .before .before in
     let at-read = at-refusal .before .before .before .before in
     tells-unread _ _ (at-read .read .result) (at-read .read .last .1 .0) (at-read .read .ensures) (at-refusal .refusal .given .1) (c .number .ensures)

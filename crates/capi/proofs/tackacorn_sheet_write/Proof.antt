@@ -21,7 +21,7 @@ same-length : tie.Need-same-length
 same-length c = search needs
 
 returns : tie.Need-returns
-returns c = 
+returns c =
     let at-size = c .before in
     let at-write = at-size .before .before .before .before in
     tells-file _ (at-write .write .ensures) (at-size .size .given .1)
@@ -30,7 +30,7 @@ same-length-2 : tie.Need-same-length-2
 same-length-2 c = search needs
 
 returns-2 : tie.Need-returns-2
-returns-2 c = 
+returns-2 c =
     let at-refusal = c .before .before in
     let at-write = at-refusal .before .before .before .before in
     tells-unfiled _ (at-write .write .ensures) (at-refusal .refusal .given .1) (c .number .ensures)

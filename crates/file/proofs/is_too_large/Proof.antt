@@ -35,7 +35,7 @@ sub-result : tie.Need-sub-result
 sub-result c = omega (arith, c .head-size .ensures, c .before .greatest2 .ensures, head-told (c .before .before .before .before .before .args .v))
 
 returns-2 : tie.Need-returns-2
-returns-2 c = 
+returns-2 c =
     let start = c .before .before .before .before .before in
     let wide = c .before .before .before in
     total-told (start .args .v) _ _ (wide .greatest .ensures ∙ ap (λ (w : Width). greatest (width-of w)) (wide .before .text-width .ensures))

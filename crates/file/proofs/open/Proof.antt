@@ -27,7 +27,7 @@ enum-told : tie.Need-enum-told
 enum-told c = search needs
 
 returns-2 : tie.Need-returns-2
-returns-2 c = 
+returns-2 c =
     let named = c .before .before .before .before in
     let number = named .before in
     let asked = number .before .before in
@@ -35,7 +35,7 @@ returns-2 c =
     (c .before .before .v .given .1) (c .open-as .ensures)
 
 returns-3 : tie.Need-returns-3
-returns-3 c = 
+returns-3 c =
     let named = c .before .before in
     let number = named .before in
     let asked = number .before .before in

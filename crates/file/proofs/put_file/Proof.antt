@@ -1,7 +1,7 @@
 -- `file::put_file` meets its contract: the fields, the tokens and zeros, one behind the other.
 -- Assumes nothing.
 use mathlib.Core.List.{List}
-use Prim.Native.Nat.{ℕ, _≤_}
+use Prim.Native.Nat.{_≤_}
 use native.Mathlib.Omega.{arith}
 use denote.Ref.{now}
 use lib.ListN.{length}
@@ -32,7 +32,7 @@ same-length : tie.Need-same-length
 same-length c = search needs
 
 returns : tie.Need-returns
-returns c = 
+returns c =
     let cleared = c .before .before in
     let packed = cleared .before .before .before .before in
     let put = packed .before .before .before .before in

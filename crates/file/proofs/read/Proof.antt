@@ -18,7 +18,7 @@ enum-known-version : tie.Need-enum-known-version
 enum-known-version c = search needs
 
 read-tokens-requires : tie.Need-read-tokens-requires
-read-tokens-requires c κs = 
+read-tokens-requires c κs =
     let told = c .before .before in
     opened-sized _ (sym (told .before .before .open .ensures) ∙ told .version .given .1)
 
@@ -32,7 +32,7 @@ same-length : tie.Need-same-length
 same-length c = search needs
 
 returns : tie.Need-returns
-returns c = 
+returns c =
     let read = c .before .before in
     let told = read .before .before .before in
     let start = told .before .before .before .before .before in
@@ -43,7 +43,7 @@ same-length-2 : tie.Need-same-length-2
 same-length-2 c = search needs
 
 returns-2 : tie.Need-returns-2
-returns-2 c = 
+returns-2 c =
     let read = c .before .before in
     let told = read .before .before .before in
     let start = told .before .before .before .before .before in

@@ -31,7 +31,7 @@ same-length : tie.Need-same-length
 same-length c = search needs
 
 returns : tie.Need-returns
-returns c = 
+returns c =
     let checked = c .before .before .before .before .before in
     let sized = checked .before .before in
     let start = checked .before .before .before .before .before in
@@ -48,7 +48,7 @@ same-length-2 : tie.Need-same-length-2
 same-length-2 c = search needs
 
 returns-2 : tie.Need-returns-2
-returns-2 c = 
+returns-2 c =
     let checked = c .before .before .before .before .before .before .before .before in
     let sized = checked .before .before in
     let start = checked .before .before .before .before .before in
@@ -64,7 +64,7 @@ same-length-3 : tie.Need-same-length-3
 same-length-3 c = search needs
 
 returns-3 : tie.Need-returns-3
-returns-3 c = 
+returns-3 c =
     let checked = c .before .before .before .before .before .before .before .before in
     let sized = checked .before .before in
     let start = checked .before .before .before .before .before in

@@ -16,7 +16,7 @@ same-length : tie.Need-same-length
 same-length c = search needs
 
 returns : tie.Need-returns
-returns c = 
+returns c =
     let start = c .before .before .before .before .before in
     ap (left (Found.Refused (start .args .r))) (c .before .before .clear-from .ensures ∙ cleared-whole (now (start .args .words)))
 

@@ -16,7 +16,7 @@ same-length : tie.Need-same-length
 same-length c = search needs
 
 returns : tie.Need-returns
-returns c = 
+returns c =
     let start = c .before .before .before .before .before in
     ap (left (Written.Refused (start .args .r))) (buffer-cleared (now (start .args .out)) (c .before .before .clear-from .ensures) refl)
 

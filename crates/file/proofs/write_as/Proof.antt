@@ -21,7 +21,7 @@ same-length : tie.Need-same-length
 same-length c = search needs
 
 returns : tie.Need-returns
-returns c = 
+returns c =
     let checked = c .before .before .before .before .before in
     let start = checked .before .before .before in
     write-unsound (start .args .v) (start .args .text-length) (now (start .args .words)) (start .args .count) _ (checked .check .ensures) (not-true _ (c .before .before .before .before .if1 .taken)) (c .before .before .refuse-write .ensures)
@@ -36,7 +36,7 @@ same-length-2 : tie.Need-same-length-2
 same-length-2 c = search needs
 
 returns-2 : tie.Need-returns-2
-returns-2 c = 
+returns-2 c =
     let measured = c .before .before .before .before .before in
     let checked = measured .before .before in
     let start = checked .before .before .before in
@@ -44,7 +44,7 @@ returns-2 c =
     (measured .is-too-large .ensures) (c .before .before .before .before .if2 .taken) (c .before .before .refuse-write2 .ensures)
 
 cast-tokens : tie.Need-cast-tokens
-cast-tokens c = 
+cast-tokens c =
     let start = c .before .before .before .before .before .before in
     omega (arith, small-total (start .args .v) (start .args .text-length) (start .args .count) (sym (c .before .is-too-large .ensures) ∙ c .if2 .left))
 
@@ -58,7 +58,7 @@ same-length-3 : tie.Need-same-length-3
 same-length-3 c = search needs
 
 returns-3 : tie.Need-returns-3
-returns-3 c = 
+returns-3 c =
     let sized = c .before .before .before .before .before in
     let small = sized .before in
     let measured = small .before in
@@ -68,20 +68,22 @@ returns-3 c =
     (measured .is-too-large .ensures) (small .if2 .left) (sized .file-size .ensures) (c .before .before .before .before .if3 .taken) (c .before .before .refuse-write3 .ensures)
 
 cast-put-file : tie.Need-cast-put-file
-cast-put-file c = 
+cast-put-file c =
     let small = c .before .before in
     let start = small .before .before .before .before .before .before in
-    omega (arith, small-text (start .args .v) (start .args .text-length) (start .args .count) (sym (small .before .is-too-large .ensures) ∙ small .if2 .left),
-    text-word (start .args .v))
+    omega (
+      arith,
+      small-text (start .args .v) (start .args .text-length) (start .args .count) (sym (small .before .is-too-large .ensures) ∙ small .if2 .left),
+      text-word (start .args .v),
+    )
 
 put-file-requires : tie.Need-put-file-requires
-put-file-requires c κs = 
+put-file-requires c κs =
     let sized = c .before .before in
     let small = sized .before in
     let measured = small .before in
     let checked = measured .before .before in
-    let start = checked .before .before .before in
-    (
+    let start = checked .before .before .before in (
       sound-counted (start .args .v) (start .args .text-length) (now (start .args .words)) (start .args .count) (length (now (start .args .out))) (checked .check .ensures) (not-false _ (measured .before .if1 .left)),
       sym (measured .is-too-large .ensures) ∙ small .if2 .left,
       omega (arith, sized .file-size .ensures, c .before .if3 .left),
@@ -91,7 +93,7 @@ same-length-4 : tie.Need-same-length-4
 same-length-4 c = search needs
 
 returns-4 : tie.Need-returns-4
-returns-4 c = 
+returns-4 c =
     let sized = c .before .before .before .before .before in
     let small = sized .before in
     let measured = small .before in

@@ -1,7 +1,6 @@
 -- `file::layout::count_at` meets its contract.
 -- Assumes nothing.
 use Rattle.file.proofs.Fields.{count-told}
-use borrow.Author.Needs.{needs}
 use Rattle.file.proofs.layout.count_at.Statement.{statement}
 use Rattle.file.proofs.layout.count_at.Tie as tie
 

@@ -1,7 +1,6 @@
 -- `file::layout::head_size` meets its contract.
 -- Assumes nothing.
 use Rattle.file.proofs.Fields.{head-told}
-use borrow.Author.Needs.{needs}
 use Rattle.file.proofs.layout.head_size.Statement.{statement}
 use Rattle.file.proofs.layout.head_size.Tie as tie
 

@@ -1,7 +1,6 @@
 -- `file::layout::text_width` meets its contract.
 -- Assumes nothing.
 use Rattle.file.proofs.Fields.{text-told}
-use borrow.Author.Needs.{needs}
 use Rattle.file.proofs.layout.text_width.Statement.{statement}
 use Rattle.file.proofs.layout.text_width.Tie as tie
 

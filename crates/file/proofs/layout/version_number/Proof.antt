@@ -1,7 +1,6 @@
 -- `file::layout::version_number` meets its contract.
 -- Assumes nothing.
 use Rattle.file.proofs.Fields.{number-told}
-use borrow.Author.Needs.{needs}
 use Rattle.file.proofs.layout.version_number.Statement.{statement}
 use Rattle.file.proofs.layout.version_number.Tie as tie
 

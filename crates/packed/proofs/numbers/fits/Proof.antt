@@ -1,7 +1,6 @@
 -- `packed::numbers::fits` meets its contract.
 -- Assumes nothing.
 use Rattle.packed.proofs.Spelling.{fits-not, fits-told}
-use borrow.Author.Needs.{needs}
 use Rattle.packed.proofs.numbers.fits.Statement.{statement}
 use Rattle.packed.proofs.numbers.fits.Tie as tie
 

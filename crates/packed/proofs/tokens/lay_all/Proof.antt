@@ -1,7 +1,7 @@
 -- `packed::tokens::lay_all` meets its contract. The invariant: the first so many of the tokens stand on the tape.
 -- Assumes nothing.
 use mathlib.Core.Path.{_≡_, refl, sym, _∙_, ap}
-use Prim.Native.Nat.{ℕ, _+_, _-_, _≤_}
+use Prim.Native.Nat.{_-_, _≤_}
 use native.Mathlib.Omega.{arith}
 use lib.ListN.{length, take}
 use Rattle.tape.specs.declared.words.Pushed.{Pushed}
@@ -47,7 +47,7 @@ same-length : tie.Need-same-length Inv-loop μ-loop
 same-length c = search needs
 
 returns : tie.Need-returns Inv-loop μ-loop
-returns c = 
+returns c =
     let pushed = c .before .before .before .before in
     let at-loop = pushed .before .before .before .before in
     let inv = at-loop .loop .inv in
@@ -55,14 +55,14 @@ returns c =
     (ap (λ (r : Pushed). written r (pushed .push .last .0)) (sym (c .enum-told .given .1)) ∙ pushed .push .ensures .0)
 
 loop-less : tie.Need-loop-less Inv-loop μ-loop
-loop-less c = 
+loop-less c =
     let pushed = c .before .before .before .before .before in
     let next = push-laid _ _ _ _ _
     (ap (λ (r : Pushed). written r (pushed .push .last .0)) (sym (c .before .next .given .1)) ∙ pushed .push .ensures .0) in
     omega (arith, next .0)
 
 loop-again : tie.Need-loop-again Inv-loop μ-loop
-loop-again c = 
+loop-again c =
     let pushed = c .before .before .before .before .before in
     let at-loop = pushed .before .before .before .before in
     let inv = at-loop .loop .inv in
@@ -74,7 +74,7 @@ same-length-2 : tie.Need-same-length-2 Inv-loop μ-loop
 same-length-2 c = c .before .loop .inv .1
 
 returns-2 : tie.Need-returns-2 Inv-loop μ-loop
-returns-2 c = 
+returns-2 c =
     let at-loop = c .before in
     let inv = at-loop .loop .inv in
     (lay-done _ _ _ _ (inv .0) (inv .2) (inv .3) (c .loop-test .left), inv .1)

@@ -25,7 +25,7 @@ same-length : tie.Need-same-length
 same-length c = search needs
 
 returns-3 : tie.Need-returns-3
-returns-3 c = 
+returns-3 c =
     let put = c .before .before in
     pack-there _ _ _ (omega (arith, put .before .before .before .before .held .ensures)) (put .put-all .ensures)
 

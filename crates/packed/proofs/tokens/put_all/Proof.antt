@@ -1,8 +1,8 @@
 -- `packed::tokens::put_all` meets its contract. The invariant: the first so many of the tokens stand in the buffer.
 -- Assumes nothing.
 use mathlib.Core.List.{List}
-use mathlib.Core.Path.{_≡_, refl, sym, _∙_, ap}
-use Prim.Native.Nat.{ℕ, _+_, _-_, _≤_}
+use mathlib.Core.Path.{_≡_, refl, _∙_, ap}
+use Prim.Native.Nat.{_-_, _≤_}
 use native.Mathlib.Omega.{arith}
 use denote.Ref.{now}
 use lib.ListN.{length, take}
@@ -46,7 +46,7 @@ loop-less c = omega arith
 
 loop-again : tie.Need-loop-again Inv-loop μ-loop
 unfolding token-in
-loop-again c = 
+loop-again c =
     let put = c .before .before in
     let at-loop = put .before .before .before .before in
     let start = at-loop .before .before .before in
@@ -60,7 +60,7 @@ same-length : tie.Need-same-length Inv-loop μ-loop
 same-length c = c .before .loop .inv .1
 
 returns : tie.Need-returns Inv-loop μ-loop
-returns c = 
+returns c =
     let at-loop = c .before in
     let start = at-loop .before .before .before in
     let ts : List Token = tokens-in (now (start .args .words)) (start .args .count) in

@@ -17,7 +17,7 @@ same-length : tie.Need-same-length
 same-length c = search needs
 
 returns : tie.Need-returns
-returns c = 
+returns c =
     let cleared = c .before .before in
     let laid = cleared .before .before .before .before in
     let start = laid .before .before .before .before in
