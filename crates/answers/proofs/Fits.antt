@@ -7,6 +7,10 @@ use Prim.Native.Nat.{ℕ, _+_, _≤_, min}
 use native.Mathlib.Omega.{arith}
 use lib.ListN.{length, take, drop, length-take, length-drop}
 use Rattle.sheet.specs.Decided.{Decided}
+use Rattle.file.specs.declared.Written.{Written}
+use Rattle.file.specs.declared.Found.{Found}
+use Rattle.file.specs.Files as files
+use Rattle.file.specs.Files.{Reads-as, Reads}
 use Rattle.sheet.specs.Views.{viewed}
 use Rattle.writer.specs.Write as sheet
 use Rattle.tape.specs.Words.{words-for}
@@ -17,9 +21,12 @@ use Rattle.report.specs.Room.{most-input, most-tokens, Held}
 use Rattle.report.specs.Sheets as sheets
 use Rattle.report.proofs.Room.{put-whole}
 use Rattle.report.proofs.Lengths.{readings-short, verdict-short, view-short, written-short}
+use Rattle.file_lines.specs.Lines as lines
+use Rattle.file_lines.proofs.Told.{reads-given}
+use Rattle.file_lines.proofs.Room.{file-short}
 use Rattle.answers.specs.declared.Answer.{Answer}
 use Rattle.answers.specs.declared.Answer.the-variants.{Put}
-use Rattle.answers.specs.Whole.{most-answer, Answers, dump, readings, verdict, view, written, All, Left, Whole}
+use Rattle.answers.specs.Whole.{most-answer, most-words, Answers, dump, readings, verdict, view, written, filed, found, All, Left, Whole}
 
 -- what was put, and the buffer of a text that was written back
 abbrev put-of : sheets.Reported → Wrote
@@ -27,6 +34,13 @@ put-of (sheets.reported put buffer scratch) = put
 
 abbrev buffer-of : sheets.Reported → List ℕ
 buffer-of (sheets.reported put buffer scratch) = buffer
+
+-- what was put for a file, and what was lent for it
+abbrev line-of : lines.Reported → Wrote
+line-of (lines.reported put lent) = put
+
+abbrev lent-of : lines.Reported → List ℕ
+lent-of (lines.reported put lent) = lent
 
 -- the line that is put for a token of some words and a text
 abbrev view-line : List ℕ → List ℕ → ℕ → ℕ → List ℕ
@@ -79,6 +93,33 @@ module _ (capacity : ℕ) (body out : List ℕ) (at : ℕ) {r : ℕ} {o : List �
           let same : b ≡ buffer = sym (ap buffer-of e) in
           let short : length b ≤ most-input = rw same within in
           fits (sheets.written-text w b) (written w b short) (ap put-of e) (omega (arith, written-short w b)) room
+
+  -- a file that was written in a buffer, or the refusal
+  pub filed-all : {Holds : Type 0} (answer : Bool → files.Left Written) {buffer : List ℕ}
+      → Decided Holds (λ (sound : Bool). lines.report-file out at (answer sound)) (lines.reported (wrote r o) buffer)
+      → length buffer ≤ most-input → at + most-answer ≤ length out → All capacity body out at r o
+  unfolding lines.report-file
+  filed-all answer {buffer} d within room = go (answer (d .yes)) (d .gives)
+    where
+      go : (l : files.Left Written) → lines.reported (wrote r o) buffer ≡ lines.report-file out at l → All capacity body out at r o
+      go (files.left w b) e =
+          let same : b ≡ buffer = sym (ap lent-of e) in
+          let short : length b ≤ most-input = rw same within in
+          fits (lines.file-text w b) (filed w b short) (ap line-of e) (omega (arith, file-short w b)) room
+
+  -- a sheet that the body was read as on some words, or the refusal
+  pub found-all : (lent : ℕ) (words : List ℕ) → Reads-as (lines.report-sheet out at) body lent (lines.reported (wrote r o) words)
+      → lines.Held body lent → lent ≡ min capacity most-words → length body ≤ most-input → at + most-answer ≤ length out
+      → All capacity body out at r o
+  unfolding lines.report-sheet
+  found-all lent words d held sized within room =
+      let given = reads-given (lines.report-sheet out at) body lent d in
+      go (given .0) (given .1) (given .2)
+    where
+      go : (l : files.Left Found) → Reads body lent l → lines.reported (wrote r o) words ≡ lines.report-sheet out at l → All capacity body out at r o
+      go (files.left f ws) reads e =
+          fits (lines.sheet-text f ws) (found f ws (subst (λ (n : ℕ). Reads body n (files.left f ws)) sized reads)) (ap line-of e)
+          (omega (arith, held f ws reads)) room
 
 -- where an answer is put, the next place is past it, and no further than its most bytes
 pub next-near : (capacity : ℕ) (body out : List ℕ) (at next : ℕ) (left : List ℕ) (a : Answer) → a ≡ Put next

@@ -6,12 +6,16 @@ use mathlib.Core.Path.{_≡_}
 use lib.ListN.{length, take, drop}
 use Rattle.sheet.specs.declared.views.Viewed.{Viewed}
 use Rattle.writer.specs.declared.Written.{Written}
+use Rattle.file.specs.declared.Written as file
+use Rattle.file.specs.declared.Found.{Found}
+use Rattle.file.specs.Files as files
 use Rattle.tape.specs.Words.{words-for}
 use Rattle.put.specs.Append.{wrote, whole}
 use Rattle.report.specs.Dump.{dump-of}
 use Rattle.report.specs.Readings.{readings-of}
 use Rattle.report.specs.Room.{most-input, most-tokens, dump-bytes}
 use Rattle.report.specs.Sheets as sheets
+use Rattle.file_lines.specs.Lines.{file-text, sheet-text}
 use Rattle.answers.specs.declared.Answer.{Answer}
 use Rattle.answers.specs.declared.Answer.the-variants.{Put, Bad}
 
@@ -27,15 +31,21 @@ stop-bytes = 11
 abbrev pub block-bytes : ℕ
 block-bytes = 2 * (most-answer + stop-bytes)
 
+-- the most words that are lent to read a file: more than the file in any body needs
+abbrev pub most-words : ℕ
+most-words = 16384
+
 -- the lines that answer a record with a capacity and a body: the dump of a text, with room for no more tokens than a dump has, the
--- readings of a scalar, what is said of a sheet, a view of the text that stands from some place on, and the way back from a sheet, in a
--- buffer of no more bytes than an input has
+-- readings of a scalar, what is said of a sheet, a view of the text that stands from some place on, the way back from a sheet and its
+-- file, each in a buffer of no more bytes than an input has, and the sheet that the body is a file of
 pub data Answers (capacity : ℕ) (body : List ℕ) : List ℕ → Type 0 where
   dump : Answers capacity body (dump-of body (words-for (min capacity most-tokens)))
   readings : Answers capacity body (readings-of body)
   verdict : (sound : Bool) → Answers capacity body (sheets.verdict sound)
   view : (from size : ℕ) (v : Viewed) → Answers capacity body (sheets.view-text (take size (drop from body)) v)
   written : (w : Written) (buffer : List ℕ) → length buffer ≤ most-input → Answers capacity body (sheets.written-text w buffer)
+  filed : (w : file.Written) (buffer : List ℕ) → length buffer ≤ most-input → Answers capacity body (file-text w buffer)
+  found : (f : Found) (words : List ℕ) → files.Reads body (min capacity most-words) (files.left f words) → Answers capacity body (sheet-text f words)
 
 -- all of such lines from the place on, and the place after the last
 pub record All (capacity : ℕ) (body out : List ℕ) (at next : ℕ) (left : List ℕ) : Type 0 where

@@ -21,7 +21,7 @@ const HEAD: usize = 5;
 // The bytes of a word in a body.
 const WORD: usize = 4;
 
-// The bytes of a body before its words, where a check is asked for, and where a view is.
+// The bytes of a body before its words, where a check or a file is asked for, and where a view is.
 const CHECK_HEAD: usize = 2 * WORD;
 
 const VIEW_HEAD: usize = 2 * WORD + 2;
@@ -40,7 +40,8 @@ const WRITE_WORDS_HIGH: usize = 2 + WORD;
 
 const WRITE_WORDS_LOW: usize = 2 + WORD + 1;
 
-// The most bytes and words that are lent to write a sheet back: no record needs more, and one that asks for more gets so much.
+// The most bytes that are lent to write a sheet back or as a file, and the most words to write one back or to read one: no record needs
+// more, and one that asks for more gets so much.
 const MOST_BUFFER: usize = MOST_INPUT;
 
 const MOST_SCRATCH: usize = 16384;
@@ -207,6 +208,42 @@ fn write_answer(
     ))
 }
 
+// Kind `F`: the file of a sheet, with room for so many bytes. The text's length, the count, and the words to the body's end.
+fn file_answer(out: &mut [u8], at: usize, capacity: usize, body: &[u8], words: &mut [u32]) -> Answer
+    requires { ⌜ at + most-answer ≤ length (now out) ⌝ }
+    ensures { λ r. ⌜ Whole capacity (now (body .entry)) (now (out .entry)) at r (now (out .exit)) ⌝ }
+{
+    if body.len() < CHECK_HEAD {
+        return Answer::Bad;
+    }
+    if body.len() % WORD != 0 {
+        return Answer::Bad;
+    }
+    let text_length = word_at(body, 0) as usize;
+    let count = word_at(body, WORD) as usize;
+    let n = take_words(&body[CHECK_HEAD..], words);
+    let room = least(capacity, MOST_BUFFER);
+    let mut buffer = [0u8; MOST_BUFFER];
+    Answer::Put(file_lines::put_filed(
+        out,
+        at,
+        text_length,
+        &words[..n],
+        count,
+        &mut buffer[..room],
+    ))
+}
+
+// Kind `R`: the sheet that the body is a file of, with room for so many words.
+fn sheet_answer(out: &mut [u8], at: usize, capacity: usize, body: &[u8]) -> Answer
+    requires { ⌜ (at + most-answer ≤ length (now out)) × (length (now body) ≤ most-input) ⌝ }
+    ensures { λ r. ⌜ Whole capacity (now (body .entry)) (now (out .entry)) at r (now (out .exit)) ⌝ }
+{
+    let room = least(capacity, MOST_SCRATCH);
+    let mut lent = [0u32; MOST_SCRATCH];
+    Answer::Put(file_lines::put_found(out, at, body, &mut lent[..room]))
+}
+
 // Answers a record by its kind: it is bad, or all of its answer is put.
 fn answer_record(
     out: &mut [u8],
@@ -225,6 +262,8 @@ fn answer_record(
         b'C' => check_answer(out, at, capacity, body, words),
         b'V' => view_answer(out, at, capacity, body, words),
         b'W' => write_answer(out, at, capacity, body, words),
+        b'F' => file_answer(out, at, capacity, body, words),
+        b'R' => sheet_answer(out, at, capacity, body),
         _ => Answer::Bad,
     }
 }

@@ -29,7 +29,8 @@ use Rattle.file.specs.declared.Refusal.{Refusal}
 use Rattle.file.specs.declared.Refusal.the-variants.{NotSound, NoRoom, TooLarge}
 use Rattle.file.specs.declared.Written.{Written}
 use Rattle.file.specs.declared.Written.the-variants.{File}
-use Rattle.file.specs.Layout.{version-number, total-field, version-field, text-field, count-field, version-at, text-at, count-at, head-size, file-size, total-of, head-of, file-of}
+use Rattle.file.specs.Layout.{version-number, total-field, version-field, text-field, count-field, version-at}
+use Rattle.file.specs.Layout.{text-at, count-at, head-size, file-size, total-of, head-of, file-of}
 use Rattle.file.specs.Files.{Left, left, zeros, too-large, refuse-write, accept-write, write-of}
 
 -- ---- 35

@@ -106,7 +106,8 @@ pub took-sheet : (bytes : List ℕ) (room text-length count : ℕ) (words : List
 took-sheet bytes room text-length count words d = took-opened bytes room (open-file bytes) text-length count words refl d
 
 -- a sound sheet that finds room is read
-pub takes-tokens : (text-length : ℕ) (ts : List Token) (room : ℕ) → words-for (length ts) ≤ room → read-of text-length ts room true ≡ accept-read room text-length ts
+pub takes-tokens : (text-length : ℕ) (ts : List Token) (room : ℕ) → words-for (length ts) ≤ room
+    → read-of text-length ts room true ≡ accept-read room text-length ts
 unfolding read-of first-of
 takes-tokens text-length ts room fits =
     by-bool (ltb room (words-for (length ts)))

@@ -79,7 +79,8 @@ module _ (bytes : List ℕ) (room : ℕ) (found : Left Found) (reads : Reads byt
         unfolding open-file version-named open-as
         count-refused h =
             let other : length bytes ≡ file-size V1 (count-in V1 bytes) → ⊥ = λ e. h (e ∙ ap (file-size V1) count-is) in
-            refused OtherCount (rw (open-file, well, version-named, version-is ∙ first, open-as, ne-eqb (file-size V1 (count-in V1 bytes)) (length bytes) (λ e. other (sym e))))
+            refused OtherCount
+            (rw (open-file, well, version-named, version-is ∙ first, open-as, ne-eqb (file-size V1 (count-in V1 bytes)) (length bytes) (λ e. other (sym e))))
 
         module _ (measured : Measured bytes) where
           opens : open-file bytes ≡ Holds V1 (listed.text-length bytes) (listed.count bytes)

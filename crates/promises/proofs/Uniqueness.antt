@@ -144,6 +144,9 @@ use Rattle.report.proofs.sheets.put_check.Reads as put-check
 use Rattle.report.proofs.sheets.put_hex_bytes.Reads as put-hex-bytes
 use Rattle.report.proofs.sheets.put_view.Reads as put-view
 use Rattle.report.proofs.sheets.put_written.Reads as put-written
+use Rattle.file_lines.proofs.put_filed.Reads as put-filed
+use Rattle.file_lines.proofs.put_found.Reads as put-found
+use Rattle.file_lines.proofs.found_lines.Reads as found-lines
 use Rattle.capi.proofs.tackacorn_parse.Reads as tackacorn-parse
 use Rattle.capi.proofs.tackacorn_check.Reads as tackacorn-check
 use Rattle.capi.proofs.tackacorn_view.Reads as tackacorn-view
@@ -582,6 +585,34 @@ report-calls =
       put-save-tape = λ κs args r s xs ys p q. cc;
       save-lines-line = (λ κs args r s xs ys p q. cc, λ κs args r s xs ys p q. cc);
       save-lines-tape = λ κs args r s xs ys p q. cc;
+    }
+
+pub record File-lines : Type 0 where
+  pub put-filed-line : One-line put-filed.Post (λ κs xs. xs .0 .now)
+  pub put-filed-buffer : One-left put-filed.Post (λ κs xs. xs .1 .1 .1 .1 .1 .0 .now)
+  pub put-found-line : One-line put-found.Post (λ κs xs. xs .0 .now)
+  pub put-found-words : One-left put-found.Post (λ κs xs. xs .1 .1 .1 .0 .now)
+  pub found-lines-line : One-line found-lines.Post (λ κs xs. xs .0 .now)
+  pub found-lines-words : One-left found-lines.Post (λ κs xs. xs .1 .1 .0 .now)
+
+pub file-lines-calls : File-lines
+file-lines-calls =
+    record {
+      put-filed-line = (
+        λ κs args r s xs ys p q. let e = one-decided _ _ _ _ p q in cc,
+        λ κs args r s xs ys p q. let e = one-decided _ _ _ _ p q in cc,
+      );
+      put-filed-buffer = λ κs args r s xs ys p q. let e = one-decided _ _ _ _ p q in cc;
+      put-found-line = (
+        λ κs args r s xs ys p q. let e = one-read _ _ _ _ _ (p .0) (q .0) in cc,
+        λ κs args r s xs ys p q. let e = one-read _ _ _ _ _ (p .0) (q .0) in cc,
+      );
+      put-found-words = λ κs args r s xs ys p q. let e = one-read _ _ _ _ _ (p .0) (q .0) in cc;
+      found-lines-line = (
+        λ κs args r s xs ys p q. let e = one-read _ _ _ _ _ p q in cc,
+        λ κs args r s xs ys p q. let e = one-read _ _ _ _ _ p q in cc,
+      );
+      found-lines-words = λ κs args r s xs ys p q. let e = one-read _ _ _ _ _ p q in cc;
     }
 
 pub record Capi : Type 0 where

@@ -39,7 +39,7 @@ use Rattle.report.specs.Readings.{integer, bool-text, u64-text, i64-text
 use Rattle.report.specs.Sheets.{verdict, hex-bytes, view-text, written-text}
 
 -- a refusal of a reading has two digits
-two-short : (n : ℕ) → n < 100 → length (decimal n) ≤ 2
+pub two-short : (n : ℕ) → n < 100 → length (decimal n) ≤ 2
 two-short n h = decimal-short 1 n (omega arith)
 
 -- ---- hexadecimal
@@ -54,7 +54,7 @@ hex-short k n =
     let written : length (hex k n) ≡ min k most-hex = hex-by-length (min k most-hex) n in
     omega arith
 
-hex-bytes-short : (bs : List ℕ) → length (hex-bytes bs) ≤ 2 * length bs
+pub hex-bytes-short : (bs : List ℕ) → length (hex-bytes bs) ≤ 2 * length bs
 unfolding hex-bytes
 hex-bytes-short [] = omega arith
 hex-bytes-short (b ∷ bs) = rw (hex-bytes, length-append) (omega (arith, hex-short 2 b, hex-bytes-short bs))

@@ -74,7 +74,7 @@ pub record Short (t : Token) : Type 0 where
 no-token-short : Short no-token
 no-token-short = record { a-short = omega arith; b-short = omega arith }
 
-tokens-short : (ws : List ℕ) (n i : ℕ) → Fit ws → Short (nth (tokens-in ws n) i)
+pub tokens-short : (ws : List ℕ) (n i : ℕ) → Fit ws → Short (nth (tokens-in ws n) i)
 tokens-short ws n i h =
     by-bool (ltb i n)
     (λ here. by-bool (ltb (last-word i) (length ws))
@@ -83,7 +83,7 @@ tokens-short ws n i h =
     (λ past. subst Short (sym (tokens-past ws n i (ltb-false _ _ past))) no-token-short)
 
 -- a word has at most ten digits, and a number of 64 bits at most twenty
-word-short : (n : ℕ) → n < 2 ^ 32 → length (decimal n) ≤ 10
+pub word-short : (n : ℕ) → n < 2 ^ 32 → length (decimal n) ≤ 10
 word-short n h = decimal-short 9 n (omega arith)
 
 pub number-short : (n : ℕ) → n < 2 ^ 64 → length (decimal n) ≤ 20
@@ -102,7 +102,7 @@ line-short i t h s =
       word-short (t .b) (s .b-short),
     ))
 
-lines-short : (ts : List Token) (i : ℕ) → ((j : ℕ) → Short (nth ts j)) → i + length ts ≤ 2 ^ 32
+pub lines-short : (ts : List Token) (i : ℕ) → ((j : ℕ) → Short (nth ts j)) → i + length ts ≤ 2 ^ 32
     → length (lines-from i ts) ≤ longest-line * length ts
 unfolding lines-from
 lines-short [] i h fit = omega arith

@@ -100,7 +100,8 @@ module _ (room scratch : ℕ) (ts : List Token) (bytes : List ℕ) {m : Measured
           let known = size-known (length bytes) told size in
           let all : length ts ≤ capacity scratch = omega (arith, counted, tokens, h) in
           sym (first-later Refused Fits _ _ (known .1)
-          ∙ first-later Refused Fits _ _ (rw (le-ltb room (length bytes) (omega (arith, known .0, fits)), le-ltb (capacity scratch) (length ts) all)) ∙ first-none Refused Fits)
+          ∙ first-later Refused Fits _ _ (rw (le-ltb room (length bytes) (omega (arith, known .0, fits)), le-ltb (capacity scratch) (length ts) all))
+          ∙ first-none Refused Fits)
 
 -- ---- 41, 46, 42, and then the text
 module _ (text : List ℕ) (ts : List Token) (room scratch : ℕ) {sound : Bool} where
@@ -116,11 +117,15 @@ module _ (text : List ℕ) (ts : List Token) (room scratch : ℕ) {sound : Bool}
     module _ (is : f ≡ true) {d : Bool} (deep : d ≡ too-deep ts) where
       pub weigh-deep : d ≡ true → Refused TooDeep ≡ weigh text ts room scratch sound
       unfolding weigh
-      weigh-deep e = sym (first-later Refused Fits _ _ (ap not yes) ∙ first-later Refused Fits _ _ (ap not (sym form ∙ is)) ∙ first-here Refused Fits _ _ (sym deep ∙ e))
+      weigh-deep e =
+          sym (first-later Refused Fits _ _ (ap not yes) ∙ first-later Refused Fits _ _ (ap not (sym form ∙ is))
+          ∙ first-here Refused Fits _ _ (sym deep ∙ e))
 
       pub weigh-on : {r : Weighed} → d ≡ false → r ≡ weigh-text room scratch ts (text-of text ts) → r ≡ weigh text ts room scratch sound
       unfolding weigh weigh-text
-      weigh-on e g = g ∙ sym (first-later Refused Fits _ _ (ap not yes) ∙ first-later Refused Fits _ _ (ap not (sym form ∙ is)) ∙ first-later Refused Fits _ _ (sym deep ∙ e))
+      weigh-on e g =
+          g ∙ sym (first-later Refused Fits _ _ (ap not yes) ∙ first-later Refused Fits _ _ (ap not (sym form ∙ is))
+          ∙ first-later Refused Fits _ _ (sym deep ∙ e))
 
 -- the words of a sheet that is found sound
 pub found-whole : {n count : ℕ} {words : List ℕ} {r : Bool} → (r ≡ true) ↔ Sound n words count → r ≡ true → Whole words count

@@ -20,7 +20,10 @@ cast-if1 : tie.Need-cast-if1
 cast-if1 c = search needs
 
 returns : tie.Need-returns
-returns c = let start = c .before .before .before in text-too-large (start .args .v) _ _ (c .before .greatest .ensures ∙ ap (λ (w : Width). greatest (width-of w)) (c .before .before .text-width .ensures)) (c .if1 .taken)
+returns c =
+    let start = c .before .before .before in
+    text-too-large (start .args .v) _ _
+    (c .before .greatest .ensures ∙ ap (λ (w : Width). greatest (width-of w)) (c .before .before .text-width .ensures)) (c .if1 .taken)
 
 greatest-requires-2 : tie.Need-greatest-requires-2
 greatest-requires-2 c κs = search needs

@@ -15,7 +15,10 @@ file-size-requires : tie.Need-file-size-requires
 file-size-requires c κs = search needs
 
 returns : tie.Need-returns
-returns c = let size = c .before in let count = size .before in count-other _ _ (count .before .count-at .ensures) (count .number-at .ensures) (size .file-size .ensures) (c .if1 .taken)
+returns c =
+    let size = c .before in
+    let count = size .before in
+    count-other _ _ (count .before .count-at .ensures) (count .number-at .ensures) (size .file-size .ensures) (c .if1 .taken)
 
 text-width-requires : tie.Need-text-width-requires
 text-width-requires c κs = search needs
@@ -24,7 +27,13 @@ number-at-requires-2 : tie.Need-number-at-requires-2
 number-at-requires-2 c κs = search needs
 
 returns-2 : tie.Need-returns-2
-returns-2 c = let width = c .before in let same = width .before in let size = same .before in let count = size .before in count-agrees _ _ (count .before .count-at .ensures) (count .number-at .ensures) (size .file-size .ensures) (same .if1 .left) (width .text-width .ensures) (c .number-at2 .ensures)
+returns-2 c =
+    let width = c .before in
+    let same = width .before in
+    let size = same .before in
+    let count = size .before in
+    count-agrees _ _ (count .before .count-at .ensures) (count .number-at .ensures) (size .file-size .ensures) (same .if1 .left)
+    (width .text-width .ensures) (c .number-at2 .ensures)
 
 pub open-as-spec : {M : Type 1} → statement M
 open-as-spec =

@@ -10,7 +10,9 @@ file-size-requires : tie.Need-file-size-requires
 file-size-requires c κs = search needs
 
 cast-size : tie.Need-cast-size
-cast-size c = let start = c .before .before in omega (arith, c .file-size .ensures, small-total (start .args .v) (start .args .text-length) (start .args .count) (start .pre .0))
+cast-size c =
+    let start = c .before .before in
+    omega (arith, c .file-size .ensures, small-total (start .args .v) (start .args .text-length) (start .args .count) (start .pre .0))
 
 version-number-requires : tie.Need-version-number-requires
 version-number-requires c κs = search needs

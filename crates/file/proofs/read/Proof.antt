@@ -36,7 +36,9 @@ returns c =
     let read = c .before .before in
     let told = read .before .before .before in
     let start = told .before .before .before .before .before in
-    subst (λ (o : Opened). Read-opened (λ (answer : Left Found). answer) (now (start .args .bytes)) (length (now (start .args .words))) o (left (read .read-tokens .result) (read .read-tokens .last .1 .1 .1 .1 .0)))
+    subst
+    (λ (o : Opened). Read-opened (λ (answer : Left Found). answer) (now (start .args .bytes)) (length (now (start .args .words))) o
+    (left (read .read-tokens .result) (read .read-tokens .last .1 .1 .1 .1 .0)))
     (sym (told .version .given .1) ∙ told .before .before .open .ensures) (read .read-tokens .ensures)
 
 same-length-2 : tie.Need-same-length-2
@@ -47,7 +49,9 @@ returns-2 c =
     let read = c .before .before in
     let told = read .before .before .before in
     let start = told .before .before .before .before .before in
-    subst (λ (o : Opened). Read-opened (λ (answer : Left Found). answer) (now (start .args .bytes)) (length (now (start .args .words))) o (left (read .refuse-read .result) (read .refuse-read .last .0)))
+    subst
+    (λ (o : Opened). Read-opened (λ (answer : Left Found). answer) (now (start .args .bytes)) (length (now (start .args .words))) o
+    (left (read .refuse-read .result) (read .refuse-read .last .0)))
     (sym (told .r .given .1) ∙ told .before .before .open .ensures) (read .refuse-read .ensures)
 
 pub read-spec : {M : Type 1} → statement M

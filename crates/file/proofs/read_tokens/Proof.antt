@@ -35,8 +35,10 @@ returns c =
     let checked = c .before .before .before .before .before in
     let sized = checked .before .before in
     let start = checked .before .before .before .before .before in
-    let told = body-told (start .args .v) (now (start .args .bytes)) (start .args .text-length) (start .args .count) (length (now (start .args .words))) (start .pre) (sized .head-size .ensures) refl (checked .check-packed .ensures) in
-    read-unsound (start .args .v) (now (start .args .bytes)) _ _ _ (start .pre) told (not-true _ (c .before .before .before .before .if1 .taken)) (c .before .before .refuse-read .ensures)
+    let told = body-told (start .args .v) (now (start .args .bytes)) (start .args .text-length) (start .args .count)
+    (length (now (start .args .words))) (start .pre) (sized .head-size .ensures) refl (checked .check-packed .ensures) in
+    read-unsound (start .args .v) (now (start .args .bytes)) _ _ _ (start .pre) told (not-true _ (c .before .before .before .before .if1 .taken))
+    (c .before .before .refuse-read .ensures)
 
 holds-requires : tie.Need-holds-requires
 holds-requires c κs = search needs
@@ -52,9 +54,11 @@ returns-2 c =
     let checked = c .before .before .before .before .before .before .before .before in
     let sized = checked .before .before in
     let start = checked .before .before .before .before .before in
-    let told = body-told (start .args .v) (now (start .args .bytes)) (start .args .text-length) (start .args .count) (length (now (start .args .words))) (start .pre) (sized .head-size .ensures) refl (checked .check-packed .ensures) in
+    let told = body-told (start .args .v) (now (start .args .bytes)) (start .args .text-length) (start .args .count)
+    (length (now (start .args .words))) (start .pre) (sized .head-size .ensures) refl (checked .check-packed .ensures) in
     let held = c .before .before .before .before .before in
-    read-no-room (start .args .v) (now (start .args .bytes)) _ _ _ (start .pre) told (not-false _ (c .before .before .before .before .before .before .before .if1 .left)) (held .holds .ensures)
+    read-no-room (start .args .v) (now (start .args .bytes)) _ _ _ (start .pre) told
+    (not-false _ (c .before .before .before .before .before .before .before .if1 .left)) (held .holds .ensures)
     (not-true _ (c .before .before .before .before .if2 .taken)) (c .before .before .refuse-read2 .ensures)
 
 unpack-requires : tie.Need-unpack-requires
@@ -68,12 +72,16 @@ returns-3 c =
     let checked = c .before .before .before .before .before .before .before .before in
     let sized = checked .before .before in
     let start = checked .before .before .before .before .before in
-    let told = body-told (start .args .v) (now (start .args .bytes)) (start .args .text-length) (start .args .count) (length (now (start .args .words))) (start .pre) (sized .head-size .ensures) refl (checked .check-packed .ensures) in
+    let told = body-told (start .args .v) (now (start .args .bytes)) (start .args .text-length) (start .args .count)
+    (length (now (start .args .words))) (start .pre) (sized .head-size .ensures) refl (checked .check-packed .ensures) in
     let held = c .before .before .before .before .before in
-    read-fits (start .args .v) (now (start .args .bytes)) _ _ _ (start .pre) told (not-false _ (c .before .before .before .before .before .before .before .if1 .left)) (held .holds .ensures)
+    read-fits (start .args .v) (now (start .args .bytes)) _ _ _ (start .pre) told
+    (not-false _ (c .before .before .before .before .before .before .before .if1 .left)) (held .holds .ensures)
     (not-false _ (c .before .before .before .before .if2 .left))
     (body-laid (start .args .v) (now (start .args .bytes)) (start .args .text-length) (start .args .count) (length (now (start .args .words))) (start .pre)
-    (now (start .args .words)) (sized .head-size .ensures) refl refl (leb-true _ _ (sym (held .holds .ensures) ∙ not-false _ (c .before .before .before .before .if2 .left))) (search needs) (c .before .before .unpack .ensures))
+    (now (start .args .words)) (sized .head-size .ensures) refl refl
+    (leb-true _ _ (sym (held .holds .ensures) ∙ not-false _ (c .before .before .before .before .if2 .left))) (search needs)
+    (c .before .before .unpack .ensures))
 
 pub read-tokens-spec : {M : Type 1} → statement M
 read-tokens-spec =

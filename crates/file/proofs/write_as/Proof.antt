@@ -24,7 +24,8 @@ returns : tie.Need-returns
 returns c =
     let checked = c .before .before .before .before .before in
     let start = checked .before .before .before in
-    write-unsound (start .args .v) (start .args .text-length) (now (start .args .words)) (start .args .count) _ (checked .check .ensures) (not-true _ (c .before .before .before .before .if1 .taken)) (c .before .before .refuse-write .ensures)
+    write-unsound (start .args .v) (start .args .text-length) (now (start .args .words)) (start .args .count) _ (checked .check .ensures)
+    (not-true _ (c .before .before .before .before .if1 .taken)) (c .before .before .refuse-write .ensures)
 
 is-too-large-requires : tie.Need-is-too-large-requires
 is-too-large-requires c κs = search needs
@@ -40,7 +41,8 @@ returns-2 c =
     let measured = c .before .before .before .before .before in
     let checked = measured .before .before in
     let start = checked .before .before .before in
-    write-large (start .args .v) (start .args .text-length) (now (start .args .words)) (start .args .count) _ (checked .check .ensures) (not-false _ (measured .before .if1 .left))
+    write-large (start .args .v) (start .args .text-length) (now (start .args .words)) (start .args .count) _ (checked .check .ensures)
+    (not-false _ (measured .before .if1 .left))
     (measured .is-too-large .ensures) (c .before .before .before .before .if2 .taken) (c .before .before .refuse-write2 .ensures)
 
 cast-tokens : tie.Need-cast-tokens
@@ -64,8 +66,10 @@ returns-3 c =
     let measured = small .before in
     let checked = measured .before .before in
     let start = checked .before .before .before in
-    write-no-room (start .args .v) (start .args .text-length) (now (start .args .words)) (start .args .count) _ (checked .check .ensures) (not-false _ (measured .before .if1 .left))
-    (measured .is-too-large .ensures) (small .if2 .left) (sized .file-size .ensures) (c .before .before .before .before .if3 .taken) (c .before .before .refuse-write3 .ensures)
+    write-no-room (start .args .v) (start .args .text-length) (now (start .args .words)) (start .args .count) _ (checked .check .ensures)
+    (not-false _ (measured .before .if1 .left))
+    (measured .is-too-large .ensures) (small .if2 .left) (sized .file-size .ensures) (c .before .before .before .before .if3 .taken)
+    (c .before .before .refuse-write3 .ensures)
 
 cast-put-file : tie.Need-cast-put-file
 cast-put-file c =
@@ -84,7 +88,8 @@ put-file-requires c κs =
     let measured = small .before in
     let checked = measured .before .before in
     let start = checked .before .before .before in (
-      sound-counted (start .args .v) (start .args .text-length) (now (start .args .words)) (start .args .count) (length (now (start .args .out))) (checked .check .ensures) (not-false _ (measured .before .if1 .left)),
+      sound-counted (start .args .v) (start .args .text-length) (now (start .args .words)) (start .args .count) (length (now (start .args .out)))
+          (checked .check .ensures) (not-false _ (measured .before .if1 .left)),
       sym (measured .is-too-large .ensures) ∙ small .if2 .left,
       omega (arith, sized .file-size .ensures, c .before .if3 .left),
     )
@@ -99,8 +104,10 @@ returns-4 c =
     let measured = small .before in
     let checked = measured .before .before in
     let start = checked .before .before .before in
-    write-fits (start .args .v) (start .args .text-length) (now (start .args .words)) (start .args .count) _ (checked .check .ensures) (not-false _ (measured .before .if1 .left))
-    (measured .is-too-large .ensures) (small .if2 .left) (sized .file-size .ensures) (c .before .before .before .before .if3 .left) (c .before .before .put-file .ensures)
+    write-fits (start .args .v) (start .args .text-length) (now (start .args .words)) (start .args .count) _ (checked .check .ensures)
+    (not-false _ (measured .before .if1 .left))
+    (measured .is-too-large .ensures) (small .if2 .left) (sized .file-size .ensures) (c .before .before .before .before .if3 .left)
+    (c .before .before .put-file .ensures)
 
 pub write-as-spec : {M : Type 1} → statement M
 write-as-spec =

@@ -22,7 +22,8 @@ returns : tie.Need-returns
 returns c =
     let start = c .before .before .before in
     let asked = c .check-source in
-    subst (λ (ws : List ℕ). (asked .result ≡ true) ↔ Sound (start .args .text-length) ws (start .args .count)) (behind-words (now (start .args .words)) [] refl) (asked .ensures)
+    subst (λ (ws : List ℕ). (asked .result ≡ true) ↔ Sound (start .args .text-length) ws (start .args .count))
+    (behind-words (now (start .args .words)) [] refl) (asked .ensures)
 
 pub check-spec : {M : Type 1} → statement M
 check-spec = tie.close (tie.spec slice-aggregate-check-source check-source-requires returns)

@@ -25,7 +25,8 @@ returns : tie.Need-returns
 returns c =
     let start = c .before .before .before in
     let asked = c .check-source in
-    subst (λ (ws : List ℕ). (asked .result ≡ true) ↔ Sound (start .args .text-length) ws (start .args .count)) (behind-none (now (start .args .bytes))) (asked .ensures)
+    subst (λ (ws : List ℕ). (asked .result ≡ true) ↔ Sound (start .args .text-length) ws (start .args .count))
+    (behind-none (now (start .args .bytes))) (asked .ensures)
 
 pub check-packed-spec : {M : Type 1} → statement M
 check-packed-spec =

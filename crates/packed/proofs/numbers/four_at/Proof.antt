@@ -45,7 +45,10 @@ add-result-3 : tie.Need-add-result-3
 add-result-3 c = search needs
 
 returns : tie.Need-returns
-returns c = let second = c .before .before in four-spelt _ _ (second .before .before .before .pre) (second .before .byte-at .ensures .0) (second .byte-at2 .ensures .0) (c .before .byte-at3 .ensures .0) (c .byte-at4 .ensures .0)
+returns c =
+    let second = c .before .before in
+    four-spelt _ _ (second .before .before .before .pre) (second .before .byte-at .ensures .0) (second .byte-at2 .ensures .0)
+    (c .before .byte-at3 .ensures .0) (c .byte-at4 .ensures .0)
 
 pub four-at-spec : {M : Type 1} → statement M
 four-at-spec =

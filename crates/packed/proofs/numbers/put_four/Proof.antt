@@ -44,7 +44,9 @@ same-length : tie.Need-same-length
 same-length c = search needs
 
 returns : tie.Need-returns
-returns c = let second = c .before .before in four-put _ _ _ (second .before .last-byte .ensures) (second .last-byte2 .ensures) (c .before .last-byte3 .ensures) (c .last-byte4 .ensures)
+returns c =
+    let second = c .before .before in
+    four-put _ _ _ (second .before .last-byte .ensures) (second .last-byte2 .ensures) (c .before .last-byte3 .ensures) (c .last-byte4 .ensures)
 
 pub put-four-spec : {M : Type 1} → statement M
 put-four-spec =

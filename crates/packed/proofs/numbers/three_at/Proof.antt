@@ -33,7 +33,9 @@ add-result-2 : tie.Need-add-result-2
 add-result-2 c = search needs
 
 returns : tie.Need-returns
-returns c = three-spelt _ _ (c .before .before .before .before .pre) (c .before .before .byte-at .ensures .0) (c .before .byte-at2 .ensures .0) (c .byte-at3 .ensures .0)
+returns c =
+    three-spelt _ _ (c .before .before .before .before .pre) (c .before .before .byte-at .ensures .0) (c .before .byte-at2 .ensures .0)
+    (c .byte-at3 .ensures .0)
 
 pub three-at-spec : {M : Type 1} → statement M
 three-at-spec =

@@ -18,12 +18,14 @@ holds-requires c κs = search needs
 returns : tie.Need-returns
 returns c =
     let start = c .before .before .before .before in
-    c .holds .ensures ∙ ap (λ (ws : List ℕ). leb (words-for (start .args .count)) (length ws)) (sym (behind-words (now (start .args .words)) (now (start .args .bytes)) (c .before .if1 .taken)))
+    c .holds .ensures ∙ ap (λ (ws : List ℕ). leb (words-for (start .args .count)) (length ws))
+    (sym (behind-words (now (start .args .words)) (now (start .args .bytes)) (c .before .if1 .taken)))
 
 returns-2 : tie.Need-returns-2
 returns-2 c =
     let start = c .before .before .before in
-    packed-holds (now (start .args .bytes)) (start .args .count) ∙ ap (λ (ws : List ℕ). leb (words-for (start .args .count)) (length ws)) (sym (behind-bytes (now (start .args .words)) (now (start .args .bytes)) (c .if1 .left)))
+    packed-holds (now (start .args .bytes)) (start .args .count) ∙ ap (λ (ws : List ℕ). leb (words-for (start .args .count)) (length ws))
+    (sym (behind-bytes (now (start .args .words)) (now (start .args .bytes)) (c .if1 .left)))
 
 pub holds-spec : {M : Type 1} → statement M
 holds-spec = tie.close (tie.spec holds-requires returns returns-2)

@@ -17,7 +17,8 @@ returns : tie.Need-returns
 returns c =
     let start = c .before .before .before .before in
     c .token-of .ensures
-    ∙ ap (λ (ws : List ℕ). token-in ws (start .args .count) (start .args .i)) (sym (behind-words (now (start .args .words)) (now (start .args .bytes)) (c .before .if1 .taken)))
+    ∙ ap (λ (ws : List ℕ). token-in ws (start .args .count) (start .args .i))
+    (sym (behind-words (now (start .args .words)) (now (start .args .bytes)) (c .before .if1 .taken)))
 
 token-of-requires-2 : tie.Need-token-of-requires-2
 token-of-requires-2 c κs = search needs
@@ -26,7 +27,8 @@ returns-2 : tie.Need-returns-2
 returns-2 c =
     let start = c .before .before .before .before in
     c .token-of2 .ensures
-    ∙ ap (λ (ws : List ℕ). token-in ws (start .args .count) (start .args .i)) (sym (behind-bytes (now (start .args .words)) (now (start .args .bytes)) (c .before .if1 .left)))
+    ∙ ap (λ (ws : List ℕ). token-in ws (start .args .count) (start .args .i))
+    (sym (behind-bytes (now (start .args .words)) (now (start .args .bytes)) (c .before .if1 .left)))
 
 pub token-of-spec : {M : Type 1} → statement M
 token-of-spec = tie.close (tie.spec token-of-requires returns token-of-requires-2 returns-2)

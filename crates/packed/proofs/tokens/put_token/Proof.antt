@@ -24,7 +24,10 @@ same-length : tie.Need-same-length
 same-length c = search needs
 
 returns : tie.Need-returns
-returns c = let last = c .before .before in let second = last .before .before .before .before in token-put _ _ _ (second .before .before .before .before .put-one .ensures) (second .put-four .ensures) (last .put-four2 .ensures)
+returns c =
+    let last = c .before .before in
+    let second = last .before .before .before .before in
+    token-put _ _ _ (second .before .before .before .before .put-one .ensures) (second .put-four .ensures) (last .put-four2 .ensures)
 
 pub put-token-spec : {M : Type 1} → statement M
 put-token-spec =
