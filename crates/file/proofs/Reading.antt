@@ -15,6 +15,8 @@ use Rattle.tape.specs.Words.{words-for, greatest-word, room-of, tokens-in, padd
 use Rattle.tape.proofs.Views.{words-length}
 use Rattle.sheet.specs.Decided.{Decided}
 use Rattle.sheet.specs.Sound.{Sheet, Sound}
+use Rattle.sheet.specs.Onto.{laid-onto}
+use Rattle.sheet.proofs.Onto.{left-unsound, left-no-room, left-laid}
 use Rattle.sheet.proofs.Decisions.{decided-as}
 use Rattle.packed.specs.Packed.{unpacked, words-packed}
 use Rattle.packed.proofs.Packing.{unpacked-length, words-hold}
@@ -27,7 +29,7 @@ use Rattle.file.specs.declared.Opened.{Opened}
 use Rattle.file.specs.declared.Opened.the-variants as Opened
 use Rattle.file.specs.declared.Opened.the-variants.{Holds}
 use Rattle.file.specs.Open.{tokens-of, open-file}
-use Rattle.file.specs.Files.{Left, left, refuse-read, accept-read, read-of, Read-opened, Reads-as, Reads}
+use Rattle.file.specs.Files.{zeros, Left, left, refuse-read, accept-read, read-of, Read-opened, Reads-as, Reads}
 
 -- the tokens that stand in some bytes, as many as are asked for
 pub held-tokens : (body : List ℕ) (count : ℕ) → length (unpacked body) ≡ count → tokens-in (words-packed body) count ≡ unpacked body
@@ -46,11 +48,14 @@ sound-tokens text-length body count e = (
   },
 )
 
-module _ (v : Version) (bytes : List ℕ) (text-length count room : ℕ) (size : length bytes ≡ file-size v count) where
-  -- as many as the file says
-  pub tokens-counted : length (tokens-of v bytes) ≡ count
-  unfolding tokens-of
-  tokens-counted = unpacked-length (drop (head-size v) bytes) ∙ omega (arith, length-drop (head-size v) bytes)
+-- as many as the file says
+pub tokens-counted : (v : Version) (bytes : List ℕ) (count : ℕ) → length bytes ≡ file-size v count → length (tokens-of v bytes) ≡ count
+unfolding tokens-of
+tokens-counted v bytes count size = unpacked-length (drop (head-size v) bytes) ∙ omega (arith, length-drop (head-size v) bytes)
+
+module _ (v : Version) (bytes words : List ℕ) (text-length count : ℕ) (size : length bytes ≡ file-size v count) where
+  counted : length (tokens-of v bytes) ≡ count
+  counted = tokens-counted v bytes count size
 
   -- a part of a slice to its end
   abbrev rest-from : ℕ → List ℕ
@@ -59,54 +64,61 @@ module _ (v : Version) (bytes : List ℕ) (text-length count room : ℕ) (size :
   rest-taken : (from : ℕ) → rest-from from ≡ drop from bytes
   rest-taken from = take-all (length bytes - from) (drop from bytes) (omega (arith, length-drop from bytes))
 
-  -- the check of what stands behind the fields tells of them
-  pub body-told : {sound : Bool} {from : ℕ} {body : List ℕ} → from ≡ head-size v → body ≡ rest-from from
-      → (sound ≡ true) ↔ Sound text-length (words-packed body) count → (sound ≡ true) ↔ Sheet text-length (tokens-of v bytes)
-  unfolding tokens-of
-  body-told {sound = sound} {body = body} e f t =
-      let is : body ≡ drop (head-size v) bytes = f ∙ rest-taken _ ∙ ap (λ (k : ℕ). drop k bytes) e in
-      let tokens = sound-tokens text-length (drop (head-size v) bytes) count tokens-counted in
-      let told = subst (λ (b : List ℕ). (sound ≡ true) ↔ Sound text-length (words-packed b) count) is t in
-      (λ g. tokens .0 (told .0 g), λ g. told .1 (tokens .1 g))
+  -- the check of what stands behind the fields tells of them, and what it leaves of the words is what is left for them
+  module _ {from : ℕ} {body : List ℕ} (e : from ≡ head-size v) (f : body ≡ rest-from from) {sound : Bool}
+      (checked : (sound ≡ true) ↔ Sound text-length (words-packed body) count) {after : List ℕ}
+      (onto : after ≡ laid-onto sound words (tokens-in (words-packed body) count)) where
+    is-body : body ≡ drop (head-size v) bytes
+    is-body = f ∙ rest-taken _ ∙ ap (λ (k : ℕ). drop k bytes) e
 
-  -- and so does laying them down
-  pub body-laid : (words : List ℕ) {from : ℕ} {body after : List ℕ} → from ≡ head-size v → body ≡ rest-from from → length words ≡ room
-      → words-for count ≤ room → count ≤ greatest-word
-      → after ≡ padded (length words) (take (room-of words) (unpacked body)) → after ≡ padded room (tokens-of v bytes)
-  unfolding tokens-of room-of
-  body-laid words {body = body} e f g h k t =
-      let is : body ≡ drop (head-size v) bytes = f ∙ rest-taken _ ∙ ap (λ (i : ℕ). drop i bytes) e in
-      t ∙ ap (λ (b : List ℕ). padded (length words) (take (room-of words) (unpacked b))) is
-      ∙ ap (padded (length words)) (take-all (room-of words) (unpacked (drop (head-size v) bytes)) (omega (arith, tokens-counted)))
-      ∙ ap (λ (i : ℕ). padded i (unpacked (drop (head-size v) bytes))) g
+    told : (sound ≡ true) ↔ Sheet text-length (tokens-of v bytes)
+    unfolding tokens-of
+    told =
+        let tokens = sound-tokens text-length (drop (head-size v) bytes) count counted in
+        let there = subst (λ (b : List ℕ). (sound ≡ true) ↔ Sound text-length (words-packed b) count) is-body checked in
+        (λ g. tokens .0 (there .0 g), λ g. there .1 (tokens .1 g))
 
-  module _ {sound : Bool} (told : (sound ≡ true) ↔ Sheet text-length (tokens-of v bytes)) where
-    settle : {given : Left Found} → given ≡ read-of text-length (tokens-of v bytes) room sound
-        → Decided (Sheet text-length (tokens-of v bytes)) (read-of text-length (tokens-of v bytes) room) given
+    rest : after ≡ laid-onto sound words (tokens-of v bytes)
+    unfolding tokens-of
+    rest =
+        onto ∙ ap (λ (b : List ℕ). laid-onto sound words (tokens-in (words-packed b) count)) is-body
+        ∙ ap (laid-onto sound words) (held-tokens (drop (head-size v) bytes) count counted)
+
+    abbrev room : ℕ
+    room = length words
+
+    abbrev Answered : Found → Type 0
+    Answered answer = Decided (Sheet text-length (tokens-of v bytes)) (read-of text-length (tokens-of v bytes) room) (left answer after)
+
+    settle : {answer : Found} → left answer after ≡ read-of text-length (tokens-of v bytes) room sound → Answered answer
     settle e = record { yes = sound; holds = told; gives = e }
 
-    pub read-unsound : {given : Left Found} → sound ≡ false → given ≡ refuse-read room NotSound
-        → Decided (Sheet text-length (tokens-of v bytes)) (read-of text-length (tokens-of v bytes) room) given
+    pub read-unsound : sound ≡ false → Answered (Found.Refused NotSound)
     unfolding read-of
-    read-unsound e f = settle (f ∙ sym (first-here (refuse-read room) _ _ _ (ap not e)))
+    read-unsound no-sound =
+        let zero-left : after ≡ zeros room =
+        rest ∙ ap (λ (s : Bool). laid-onto s words (tokens-of v bytes)) no-sound ∙ left-unsound words (tokens-of v bytes) in
+        settle (ap (left (Found.Refused NotSound)) zero-left ∙ sym (first-here (refuse-read room) _ _ _ (ap not no-sound)))
 
-    module _ (yes : sound ≡ true) {holds : Bool} (held : holds ≡ leb (words-for count) room) where
-      pub read-no-room : {given : Left Found} → holds ≡ false → given ≡ refuse-read room NoRoom
-          → Decided (Sheet text-length (tokens-of v bytes)) (read-of text-length (tokens-of v bytes) room) given
-      unfolding read-of
-      read-no-room e f =
-          let over : room < words-for count = leb-false (words-for count) room (sym held ∙ e) in
-          settle (f ∙ sym (first-later (refuse-read room) _ _ _ (ap not yes)
-          ∙ first-here (refuse-read room) _ _ _ (lt-ltb room (words-for (length (tokens-of v bytes))) (omega (arith, tokens-counted)))))
+    module _ (yes-sound : sound ≡ true) {holds : Bool} (held : holds ≡ leb (words-for count) room) where
+      pub read-no-room : holds ≡ false → Answered (Found.Refused NoRoom)
+      unfolding read-of room-of
+      read-no-room none =
+          let over : room < words-for count = leb-false (words-for count) room (sym held ∙ none) in
+          let zero-left : after ≡ zeros room = rest ∙ left-no-room words (tokens-of v bytes) sound (omega (arith, counted)) in
+          settle (ap (left (Found.Refused NoRoom)) zero-left ∙ sym (first-later (refuse-read room) _ _ _ (ap not yes-sound)
+          ∙ first-here (refuse-read room) _ _ _ (lt-ltb room (words-for (length (tokens-of v bytes))) (omega (arith, counted)))))
 
-      pub read-fits : {words : List ℕ} → holds ≡ true → words ≡ padded room (tokens-of v bytes)
-          → Decided (Sheet text-length (tokens-of v bytes)) (read-of text-length (tokens-of v bytes) room) (left (Found.Sheet text-length count) words)
-      unfolding read-of
-      read-fits {words} e f =
-          let fit : words-for count ≤ room = leb-true (words-for count) room (sym held ∙ e) in
-          let given : left (Found.Sheet text-length count) words ≡ accept-read room text-length (tokens-of v bytes) = rw (f, ← tokens-counted) in
-          settle (given ∙ sym (first-later (refuse-read room) _ _ _ (ap not yes)
-          ∙ first-later (refuse-read room) _ _ _ (le-ltb room (words-for (length (tokens-of v bytes))) (omega (arith, tokens-counted)))
+      pub read-fits : count ≤ greatest-word → holds ≡ true → Answered (Found.Sheet text-length count)
+      unfolding read-of room-of
+      read-fits most there =
+          let fit : words-for count ≤ room = leb-true (words-for count) room (sym held ∙ there) in
+          let laid : after ≡ padded room (tokens-of v bytes) =
+          rest ∙ ap (λ (s : Bool). laid-onto s words (tokens-of v bytes)) yes-sound
+          ∙ left-laid words (tokens-of v bytes) (omega (arith, counted)) in
+          let given : left (Found.Sheet text-length count) after ≡ accept-read room text-length (tokens-of v bytes) = rw (laid, ← counted) in
+          settle (given ∙ sym (first-later (refuse-read room) _ _ _ (ap not yes-sound)
+          ∙ first-later (refuse-read room) _ _ _ (le-ltb room (words-for (length (tokens-of v bytes))) (omega (arith, counted)))
           ∙ first-none (refuse-read room) _))
 
 -- what is told of an answer is told of what a file is read as

@@ -11,7 +11,7 @@ ghost use mathlib.Core.Bool.{false};
 ghost use Prim.Native.Nat.{_≤_};
 ghost use lib.ListN.{length};
 ghost use lib.Seq.{sets};
-ghost use Rattle.tape.specs.Words.{words-for, tokens-in};
+ghost use Rattle.tape.specs.Words.{tokens-in};
 ghost use Rattle.sheet.specs.Decided.{Decided};
 ghost use Rattle.sheet.specs.Sound.{Sheet, Sound};
 ghost use Rattle.file.specs.declared.layout.Version.the-variants.{V1};
@@ -196,7 +196,7 @@ fn refuse_read(words: &mut [u32], r: Refusal) -> Found
 }
 
 // Reads the tokens of a file whose length is known to agree with its count. They are checked where they stand, since a sheet that finds
-// no room is refused for that only if it is sound.
+// no room is refused for that only if it is sound, and where they are not laid down the words are left zero.
 fn read_tokens(v: Version, text_length: u32, count: u32, bytes: &[u8], words: &mut [u32]) -> Found
     requires { ⌜ length (now bytes) ≡ file-size v count ⌝ }
     ensures { λ r. ⌜ Decided (Sheet «text_length» (tokens-of v (now (bytes .entry))))
@@ -204,13 +204,13 @@ fn read_tokens(v: Version, text_length: u32, count: u32, bytes: &[u8], words: &m
 {
     let from = layout::head_size(v);
     let body = &bytes[from..];
-    if !sheet::check_packed(text_length as usize, body, count as usize) {
-        return refuse_read(words, Refusal::NotSound);
+    let room = words::holds(words, count as usize);
+    if !sheet::check_onto(text_length as usize, body, count as usize, words) {
+        return Found::Refused(Refusal::NotSound);
     }
-    if !words::holds(words, count as usize) {
-        return refuse_read(words, Refusal::NoRoom);
+    if !room {
+        return Found::Refused(Refusal::NoRoom);
     }
-    tokens::unpack(body, words);
     Found::Sheet { text_length, count }
 }
 

@@ -91,7 +91,7 @@ took-opened : (bytes : List ℕ) (room : ℕ) (o : Opened) (text-length count : 
     → Read-opened (λ (answer : Left Found). answer) bytes room o (left (Found.Sheet text-length count) words) → Took bytes room text-length count words
 took-opened bytes room (Holds V1 said n) text-length count words is d =
     let took = took-tokens said (tokens-of V1 bytes) room (d .yes) text-length count words (d .gives) in
-    let size : length (tokens-of V1 bytes) ≡ n = tokens-counted V1 bytes said n room (opened-sized bytes is) in
+    let size : length (tokens-of V1 bytes) ≡ n = tokens-counted V1 bytes n (opened-sized bytes is) in
     record {
       opens = is ∙ rw (took .2, took .3, size);
       sound = subst (λ (k : ℕ). Sheet k (tokens-of V1 bytes)) (sym (took .2)) (d .holds .0 (took .0));

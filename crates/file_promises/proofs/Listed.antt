@@ -105,7 +105,7 @@ module _ (bytes : List ℕ) (room : ℕ) (found : Left Found) (reads : Reads byt
           tokens-are = refl
 
           counted : length (tokens-of V1 bytes) ≡ listed.count bytes
-          counted = tokens-counted V1 bytes (listed.text-length bytes) (listed.count bytes) room measured
+          counted = tokens-counted V1 bytes (listed.count bytes) measured
 
           sound-refused : (Sheet (listed.text-length bytes) (listed.tokens bytes) → ⊥) → refusal-of found ≡ 33
           unfolding read-of first-of

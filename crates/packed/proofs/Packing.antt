@@ -5,16 +5,15 @@ use mathlib.Core.List.{List, [], _∷_, _++_, append-nil, append-assoc}
 use Prim.Native.Nat.{ℕ, zero, suc, _+_, _-_, _/_, _≤_, _<_}
 use native.Mathlib.Omega.{arith}
 use native.Mathlib.Numerals.{add-one}
-use borrow.Author.Tests.{eq-eqb, ne-eqb, eqb-true, eqb-false, le-leb, lt-leb, leb-true, leb-false, ltb-true, ltb-false}
-use lib.Dec.{leb, ltb, eqb}
+use borrow.Author.Tests.{eq-eqb, ne-eqb, eqb-true, eqb-false, le-leb, lt-leb, leb-true, leb-false}
+use lib.Dec.{leb, eqb}
 use lib.ListN.{length, take, length-append, length-take, List·getD-eq-default}
-use lib.Seq.{sets, getD-take, length-take-le, take-all, take-suc}
+use lib.Seq.{sets, getD-take, length-take-le, take-suc}
 use Rattle.data.proofs.Cases.{by-bool}
 use Rattle.tape.specs.declared.token.Token.{Token}
 use Rattle.tape.specs.Token.{no-token, nth}
-use Rattle.tape.specs.Words.{words-for, room-of, tokens-in, token-in, words-of, put-words, written, push-words, padded, cleared}
-use Rattle.tape.specs.declared.words.Pushed.the-variants.{Laid, Full}
-use Rattle.tape.proofs.Views.{words-length, put-length, put-added}
+use Rattle.tape.specs.Words.{words-for, tokens-in, token-in, words-of}
+use Rattle.tape.proofs.Views.{words-length}
 use Rattle.packed.specs.Numbers.{spelled, spelt, store}
 use Rattle.packed.specs.Packed.{code-bytes, word-bytes, bytes-per-token, bytes-for, token-bytes, packed}
 use Rattle.packed.specs.Packed.{token-spelled, spelled-from, unpacked, words-packed, behind}
@@ -111,78 +110,6 @@ packed-holds bytes n =
     by-bool (leb n (length bytes / bytes-per-token))
     (λ e. e ∙ sym (le-leb (words-for n) (length (words-of (unpacked bytes))) (omega (arith, size, leb-true n _ e))))
     (λ e. e ∙ sym (lt-leb (words-for n) (length (words-of (unpacked bytes))) (omega (arith, size, leb-false n _ e))))
-
--- ---- a token more on a tape
--- what laying one down says of the tokens, and that there was room
-pub push-laid : (ws us : List ℕ) (n next : ℕ) (t : Token) → written (Laid next) us ≡ push-words ws n t
-    → (next ≡ n + 1) × (tokens-in us next ≡ tokens-in ws n ++ (t ∷ [])) × (length us ≡ length ws) × (n < room-of ws)
-unfolding push-words
-push-laid ws us n next t e =
-    by-bool (ltb n (room-of ws))
-    (λ room.
-    let same : written (Laid next) us ≡ written (Laid (n + 1)) (put-words ws n t) = rw (push-words, room) at e in
-    let more : next ≡ n + 1 = cc in
-    let put : us ≡ put-words ws n t = cc in
-    (more, rw (put, more) (put-added ws n t (ltb-true n (room-of ws) room)), rw put (put-length ws n t), ltb-true n (room-of ws) room))
-    (λ none.
-    let same : written (Laid next) us ≡ written Full ws = rw (push-words, none) at e in
-    let z : _≡_ {A = ℕ} 0 1 = cc in
-    absurd (omega arith))
-
--- and where there was none, nothing changed
-pub push-full : (ws us : List ℕ) (n : ℕ) (t : Token) → written Full us ≡ push-words ws n t → (us ≡ ws) × (room-of ws ≤ n)
-unfolding push-words
-push-full ws us n t e =
-    by-bool (ltb n (room-of ws))
-    (λ room.
-    let same : written Full us ≡ written (Laid (n + 1)) (put-words ws n t) = rw (push-words, room) at e in
-    let z : _≡_ {A = ℕ} 0 1 = cc in
-    absurd (omega arith))
-    (λ none.
-    let same : written Full us ≡ written Full ws = rw (push-words, none) at e in
-    (cc, ltb-false n (room-of ws) none))
-
--- the same room on as many words
-pub same-room : (ws us : List ℕ) → length us ≡ length ws → room-of us ≡ room-of ws
-unfolding room-of
-same-room ws us e = rw (room-of, room-of, e)
-
--- tokens of some bytes, laid down one by one
-module _ (bytes ws us vs : List ℕ) (n : ℕ) {t : Token} (there : t ≡ token-in (words-packed bytes) (length bytes / bytes-per-token) n)
-    (laid : tokens-in us n ≡ take n (unpacked bytes)) (size : length us ≡ length ws) where
-  pub lay-next : {next : ℕ} → n < length bytes / bytes-per-token → written (Laid next) vs ≡ push-words us n t
-      → (tokens-in vs next ≡ take next (unpacked bytes)) × (length vs ≡ length ws) × (next ≤ length (unpacked bytes)) × (next ≤ room-of ws) × (next ≡ n + 1)
-  unfolding token-in words-packed
-  lay-next {next} h e =
-      let pushed = push-laid us vs n next t e in
-      let whole : length (unpacked bytes) ≡ length bytes / bytes-per-token = unpacked-length bytes in
-      let token : t ≡ nth (unpacked bytes) n =
-      there ∙ ap (λ (ts : List Token). nth ts n) (words-hold (unpacked bytes) (length bytes / bytes-per-token))
-      ∙ getD-take (length bytes / bytes-per-token) (unpacked bytes) n no-token h in
-      let more : tokens-in vs next ≡ take next (unpacked bytes) =
-      pushed .1 ∙ ap (λ (ts : List Token). ts ++ (t ∷ [])) laid ∙ ap (λ (x : Token). take n (unpacked bytes) ++ (x ∷ [])) token
-      ∙ sym (take-suc (unpacked bytes) n no-token (omega arith))
-      ∙ ap (λ (k : ℕ). take k (unpacked bytes)) (sym (pushed .0 ∙ add-one n)) in
-      (more, pushed .2 ∙ size, omega (arith, pushed .0), omega (arith, pushed .0, pushed .3, same-room ws us size), pushed .0)
-
-  pub lay-full : n ≤ room-of ws → written Full vs ≡ push-words us n t
-      → (tokens-in vs n ≡ take (room-of ws) (unpacked bytes)) × (length vs ≡ length ws)
-  lay-full h e =
-      let pushed = push-full us vs n t e in
-      let all : room-of ws ≡ n = omega (arith, pushed .1, same-room ws us size) in
-      (rw (pushed .0, all) laid, rw (pushed .0) size)
-
--- all of them
-pub lay-done : (bytes ws us : List ℕ) (n : ℕ) → tokens-in us n ≡ take n (unpacked bytes) → n ≤ length (unpacked bytes) → n ≤ room-of ws
-    → length bytes / bytes-per-token ≤ n → tokens-in us n ≡ take (room-of ws) (unpacked bytes)
-lay-done bytes ws us n laid within room last =
-    let whole : length (unpacked bytes) ≡ length bytes / bytes-per-token = unpacked-length bytes in
-    laid ∙ take-all n (unpacked bytes) (omega arith) ∙ sym (take-all (room-of ws) (unpacked bytes) (omega arith))
-
--- and then zeros behind them
-pub unpack-done : (ws us : List ℕ) (n : ℕ) {ts : List Token} → tokens-in us n ≡ ts → length us ≡ length ws → cleared us n ≡ padded (length ws) ts
-unfolding cleared
-unpack-done ws us n e f = rw (cleared, e, f)
 
 -- ---- from tokens to bytes
 pub token-length : (t : Token) → length (token-bytes t) ≡ bytes-per-token

@@ -3,14 +3,13 @@ use crate::numbers;
 use tape::codes;
 use tape::token::Token;
 use tape::words;
-use tape::words::Pushed;
 ghost use mathlib.Core.Path.{_≡_};
 ghost use Prim.Native.Nat.{_+_, _≤_};
-ghost use lib.ListN.{length, take};
+ghost use lib.ListN.{length};
 ghost use lib.Seq.{sets};
-ghost use Rattle.tape.specs.Words.{room-of, tokens-in, token-in, padded};
+ghost use Rattle.tape.specs.Words.{tokens-in, token-in};
 ghost use Rattle.packed.specs.Numbers.{store};
-ghost use Rattle.packed.specs.Packed.{bytes-per-token, bytes-for, token-bytes, packed, token-spelled, unpacked, words-packed};
+ghost use Rattle.packed.specs.Packed.{bytes-per-token, bytes-for, token-bytes, packed, token-spelled, words-packed};
 
 // The bytes of a token's code, and of each word behind it.
 const CODE_BYTES: usize = 1;
@@ -57,30 +56,6 @@ pub fn token_of(bytes: &[u8], count: usize, i: usize) -> Token
         a: 0,
         b: 0,
     }
-}
-
-// Lays the tokens that stand in some bytes down on a tape, as far as there is room, and answers how many.
-fn lay_all(bytes: &[u8], words: &mut [u32]) -> u32
-    ensures tokens { λ r. ⌜ tokens-in (now (words .exit)) r ≡ take (room-of (now (words .entry))) (unpacked (now (bytes .entry))) ⌝ }
-    ensures size { λ r. ⌜ length (now (words .exit)) ≡ length (now (words .entry)) ⌝ }
-{
-    let whole = bytes.len() / BYTES_PER_TOKEN;
-    let mut n: u32 = 0;
-    while (n as usize) < whole {
-        let Pushed::Laid(next) = words::push(words, n, token_of(bytes, whole, n as usize)) else {
-            return n;
-        };
-        n = next;
-    }
-    n
-}
-
-// Lays the tokens that stand in some bytes down on a tape, as far as there is room, and zeros behind them.
-pub fn unpack(bytes: &[u8], words: &mut [u32])
-    ensures { λ r. ⌜ now (words .exit) ≡ padded (length (now (words .entry))) (take (room-of (now (words .entry))) (unpacked (now (bytes .entry)))) ⌝ }
-{
-    let n = lay_all(bytes, words);
-    words::clear_from(words, n);
 }
 
 // Puts a token at a place.

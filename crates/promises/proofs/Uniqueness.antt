@@ -63,6 +63,8 @@ use Rattle.tape.proofs.words.token.Reads as token
 use Rattle.tape.proofs.words.holds.Reads as holds
 use Rattle.tape.proofs.words.held.Reads as held
 use Rattle.tape.proofs.words.put.Reads as put
+use Rattle.tape.proofs.words.put_words.Reads as put-words
+use Rattle.tape.proofs.words.relink.Reads as relink
 use Rattle.tape.proofs.words.push.Reads as push
 use Rattle.tape.proofs.words.insert_mixed.Reads as insert-mixed
 use Rattle.tape.proofs.words.clear_from.Reads as clear-from
@@ -104,6 +106,7 @@ use Rattle.packed.proofs.source.token_of.Reads as source-token-of
 use Rattle.packed.proofs.source.holds.Reads as source-holds
 use Rattle.sheet.proofs.check.Reads as check
 use Rattle.sheet.proofs.check_packed.Reads as check-packed
+use Rattle.sheet.proofs.check_onto.Reads as check-onto
 use Rattle.sheet.proofs.views.Viewed.refusal.Reads as viewed-refusal
 use Rattle.sheet.proofs.views.code.Reads as code
 use Rattle.sheet.proofs.views.link.Reads as link
@@ -315,6 +318,9 @@ pub record Tape : Type 0 where
   pub holds : One-result holds.Post
   pub held : One-result held.Post
   pub put-tape : One-left put.Post (λ κs xs. xs .0 .now)
+  pub put-words-tape : One-left put-words.Post (λ κs xs. xs .0 .now)
+  pub relink-result : One-result relink.Post
+  pub relink-tape : One-left relink.Post (λ κs xs. xs .0 .now)
   pub push-result : One-result push.Post
   pub push-tape : One-left push.Post (λ κs xs. xs .0 .now)
   pub insert-mixed-result : One-result insert-mixed.Post
@@ -345,6 +351,9 @@ tape-calls =
       holds = by-definition _ _;
       held = by-definition _ _;
       put-tape = λ κs args r s xs ys p q. cc;
+      put-words-tape = λ κs args r s xs ys p q. p ∙ sym q;
+      relink-result = λ κs args r s xs ys p q. p .0 ∙ sym (q .0);
+      relink-tape = λ κs args r s xs ys p q. p .1 ∙ sym (q .1);
       push-result = λ κs args r s xs ys p q. cc;
       push-tape = λ κs args r s xs ys p q. cc;
       insert-mixed-result = λ κs args r s xs ys p q. cc;
@@ -477,6 +486,8 @@ file-calls =
 pub record Sheet : Type 0 where
   pub check : One-result check.Post
   pub check-packed : One-result check-packed.Post
+  pub check-onto-result : One-result check-onto.Post
+  pub check-onto-words : One-left check-onto.Post (λ κs xs. xs .1 .1 .1 .0 .now)
   pub viewed-refusal : One-result viewed-refusal.Post
   pub code : One-result code.Post
   pub link : One-result link.Post
@@ -489,6 +500,8 @@ sheet-calls =
     record {
       check = λ κs args r s xs ys p q. one-verdict _ r s p q;
       check-packed = λ κs args r s xs ys p q. one-verdict _ r s p q;
+      check-onto-result = λ κs args r s xs ys p q. one-verdict _ r s (p .0) (q .0);
+      check-onto-words = λ κs args r s xs ys p q. let e = one-verdict _ r s (p .0) (q .0) in let f = p .1 in let g = q .1 in cc;
       viewed-refusal = by-definition _ _;
       code = by-definition _ _;
       link = by-definition _ _;

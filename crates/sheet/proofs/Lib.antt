@@ -2,7 +2,10 @@ pub mod Links
 pub mod Tokens
 pub mod Scan
 pub mod Nesting
+pub mod Chain
+pub mod Chaining
 pub mod Whole
+pub mod Onto
 pub mod Parts
 pub mod Sheets
 pub mod Decisions

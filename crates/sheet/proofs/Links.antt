@@ -24,6 +24,9 @@ told-yes p = (λ e. p, λ q. refl)
 pub told-no : {P : Type 0} → (P → ⊥) → (false ≡ true) ↔ P
 told-no n = (λ e. absurd (false≢true e), λ p. absurd (n p))
 
+pub told-not : {r : Bool} {P : Type 0} → (r ≡ true) ↔ P → r ≡ false → P → ⊥
+told-not t f p = false≢true (sym f ∙ t .1 p)
+
 pub told-through : {r : Bool} {P Q : Type 0} → (r ≡ true) ↔ P → (P → Q) → (Q → P) → (r ≡ true) ↔ Q
 told-through t f g = (λ e. f (t .0 e), λ q. t .1 (g q))
 

@@ -37,7 +37,7 @@ by-order a b less same more =
 abbrev Behind : List Token → ℕ → ℕ → Type 0
 Behind ts i at = (j inner : ℕ) → i < j → j < at → Opens (nth ts j) inner → inner < at
 
-opens-there : (ts : List Token) {j k inner : ℕ} → j ≡ k → Opens (nth ts j) inner → Opens (nth ts k) inner
+pub opens-there : (ts : List Token) {j k inner : ℕ} → j ≡ k → Opens (nth ts j) inner → Opens (nth ts k) inner
 opens-there ts {j} {k} {inner} e o = subst (λ (x : ℕ). Opens (nth ts x) inner) e o
 
 -- where a walk from i to end has come

@@ -3,3 +3,4 @@ pub mod Steps
 pub mod Views
 pub mod Laws
 pub mod Decided
+pub mod Onto

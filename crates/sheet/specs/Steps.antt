@@ -41,6 +41,12 @@ pub record Linked (ts : List Token) : Type 0 where
   pub closed : (i : ℕ) → Closed ts i
   pub opened : (i : ℕ) → Opened ts i
 
+-- tokens that can be laid down along a chain of the containers that are open: beside the links, each has its form, and token 0 opens nothing
+pub record Layable (ts : List Token) : Type 0 where
+  pub linked : Linked ts
+  pub forms : (i : ℕ) → i < length ts → Form (nth ts i)
+  pub top : (end : ℕ) → Opens (nth ts 0) end → ⊥
+
 -- the least start that the next scalar may have, after one at an offset
 abbrev pub past : ℕ → ℕ → ℕ
 past offset size = elim (eqb size 0) [ true ↦ offset + 1 | false ↦ offset + size ]

@@ -4,9 +4,9 @@ use crate::codes;
 use crate::token;
 use crate::token::Token;
 ghost use mathlib.Core.Path.{_≡_};
-ghost use lib.ListN.{length, replicate};
+ghost use lib.ListN.{length, getD, set, replicate};
 ghost use lib.Dec.{leb, ltb};
-ghost use Rattle.tape.specs.Words.{words-for, capacity, room-of, tokens-in, token-in, put-words, put-in, written, push-words, insert-words, cleared};
+ghost use Rattle.tape.specs.Words.{words-for, a-word, capacity, room-of, tokens-in, token-in, put-words, put-in, written, push-words, insert-words, cleared};
 ghost use Rattle.tape.specs.Tape.{view, replace, lay, lay-mixed, after-push};
 
 // How many words a token has. Whoever lends words counts in this or asks `words_for` and `capacity`.
@@ -85,7 +85,7 @@ pub fn held(words: &[u32], count: usize) -> usize
 }
 
 // Writes the words of token i, where they fit.
-fn put_words(tape: &mut [u32], i: u32, t: Token)
+pub fn put_words(tape: &mut [u32], i: u32, t: Token)
     ensures { λ r. ⌜ now (tape .exit) ≡ put-words (now (tape .entry)) i t ⌝ }
 {
     let at = (i as usize) * WORDS_PER_TOKEN;
@@ -104,6 +104,20 @@ pub fn put(tape: &mut [u32], count: u32, i: u32, t: Token)
     if i < count {
         put_words(tape, i, t);
     }
+}
+
+// Gives token i another link, which is its first word behind the code, and answers the one that it had; 0 where there is no such word.
+pub fn relink(tape: &mut [u32], i: u32, link: u32) -> u32
+    ensures had { λ r. ⌜ r ≡ getD (now (tape .entry)) (a-word i) 0 ⌝ }
+    ensures has { λ r. ⌜ now (tape .exit) ≡ set (now (tape .entry)) (a-word i) «link» ⌝ }
+{
+    let at = (i as usize) * WORDS_PER_TOKEN + A_WORD;
+    if at < tape.len() {
+        let had = tape[at];
+        tape[at] = link;
+        return had;
+    }
+    0
 }
 
 // Whether a token fits after count others.

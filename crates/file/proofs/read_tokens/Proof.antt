@@ -1,10 +1,9 @@
--- `file::read_tokens` meets its contract: they are checked, and then find room or not.
+-- `file::read_tokens` meets its contract: they are checked and laid down, and then found sound and find room or not.
 -- Assumes nothing.
-use mathlib.Core.Path.{refl, sym, _∙_}
-use borrow.Author.Tests.{leb-true, not-true, not-false}
+use mathlib.Core.Path.{refl}
+use borrow.Author.Tests.{not-true, not-false}
 use denote.Ref.{now}
-use lib.ListN.{length}
-use Rattle.file.proofs.Reading.{body-told, body-laid, read-unsound, read-no-room, read-fits}
+use Rattle.file.proofs.Reading.{read-unsound, read-no-room, read-fits}
 use borrow.Author.Needs.{needs}
 use Rattle.file.proofs.read_tokens.Statement.{statement}
 use Rattle.file.proofs.read_tokens.Tie as tie
@@ -21,67 +20,46 @@ part-body-start c = search needs
 part-body-end : tie.Need-part-body-end
 part-body-end c = search needs
 
-check-packed-requires : tie.Need-check-packed-requires
-check-packed-requires c κs = search needs
+holds-requires : tie.Need-holds-requires
+holds-requires c κs = search needs
 
-refuse-read-requires : tie.Need-refuse-read-requires
-refuse-read-requires c κs = search needs
+check-onto-requires : tie.Need-check-onto-requires
+check-onto-requires c κs = search needs
 
 same-length : tie.Need-same-length
 same-length c = search needs
 
 returns : tie.Need-returns
 returns c =
-    let checked = c .before .before .before .before .before in
-    let sized = checked .before .before in
-    let start = checked .before .before .before .before .before in
-    let told = body-told (start .args .v) (now (start .args .bytes)) (start .args .text-length) (start .args .count)
-    (length (now (start .args .words))) (start .pre) (sized .head-size .ensures) refl (checked .check-packed .ensures) in
-    read-unsound (start .args .v) (now (start .args .bytes)) _ _ _ (start .pre) told (not-true _ (c .before .before .before .before .if1 .taken))
-    (c .before .before .refuse-read .ensures)
-
-holds-requires : tie.Need-holds-requires
-holds-requires c κs = search needs
-
-refuse-read-requires-2 : tie.Need-refuse-read-requires-2
-refuse-read-requires-2 c κs = search needs
+    let onto = c .before .before .before in
+    let sized = onto .before .before .before .before .before in
+    let start = sized .before .before .before in
+    read-unsound (start .args .v) (now (start .args .bytes)) (now (start .args .words)) _ _ (start .pre) (sized .head-size .ensures) refl
+    (onto .check-onto .ensures .0) (onto .check-onto .ensures .1) (not-true _ (c .if1 .taken))
 
 same-length-2 : tie.Need-same-length-2
 same-length-2 c = search needs
 
 returns-2 : tie.Need-returns-2
 returns-2 c =
-    let checked = c .before .before .before .before .before .before .before .before in
-    let sized = checked .before .before in
-    let start = checked .before .before .before .before .before in
-    let told = body-told (start .args .v) (now (start .args .bytes)) (start .args .text-length) (start .args .count)
-    (length (now (start .args .words))) (start .pre) (sized .head-size .ensures) refl (checked .check-packed .ensures) in
-    let held = c .before .before .before .before .before in
-    read-no-room (start .args .v) (now (start .args .bytes)) _ _ _ (start .pre) told
-    (not-false _ (c .before .before .before .before .before .before .before .if1 .left)) (held .holds .ensures)
-    (not-true _ (c .before .before .before .before .if2 .taken)) (c .before .before .refuse-read2 .ensures)
-
-unpack-requires : tie.Need-unpack-requires
-unpack-requires c κs = search needs
+    let onto = c .before .before .before .before in
+    let sized = onto .before .before .before .before .before in
+    let start = sized .before .before .before in
+    read-no-room (start .args .v) (now (start .args .bytes)) (now (start .args .words)) _ _ (start .pre) (sized .head-size .ensures) refl
+    (onto .check-onto .ensures .0) (onto .check-onto .ensures .1) (not-false _ (c .before .if1 .left))
+    (onto .before .before .holds .ensures) (not-true _ (c .if2 .taken))
 
 same-length-3 : tie.Need-same-length-3
 same-length-3 c = search needs
 
 returns-3 : tie.Need-returns-3
 returns-3 c =
-    let checked = c .before .before .before .before .before .before .before .before in
-    let sized = checked .before .before in
-    let start = checked .before .before .before .before .before in
-    let told = body-told (start .args .v) (now (start .args .bytes)) (start .args .text-length) (start .args .count)
-    (length (now (start .args .words))) (start .pre) (sized .head-size .ensures) refl (checked .check-packed .ensures) in
-    let held = c .before .before .before .before .before in
-    read-fits (start .args .v) (now (start .args .bytes)) _ _ _ (start .pre) told
-    (not-false _ (c .before .before .before .before .before .before .before .if1 .left)) (held .holds .ensures)
-    (not-false _ (c .before .before .before .before .if2 .left))
-    (body-laid (start .args .v) (now (start .args .bytes)) (start .args .text-length) (start .args .count) (length (now (start .args .words))) (start .pre)
-    (now (start .args .words)) (sized .head-size .ensures) refl refl
-    (leb-true _ _ (sym (held .holds .ensures) ∙ not-false _ (c .before .before .before .before .if2 .left))) (search needs)
-    (c .before .before .unpack .ensures))
+    let onto = c .before .before .before .before in
+    let sized = onto .before .before .before .before .before in
+    let start = sized .before .before .before in
+    read-fits (start .args .v) (now (start .args .bytes)) (now (start .args .words)) _ _ (start .pre) (sized .head-size .ensures) refl
+    (onto .check-onto .ensures .0) (onto .check-onto .ensures .1) (not-false _ (c .before .if1 .left))
+    (onto .before .before .holds .ensures) (search needs) (not-false _ (c .if2 .left))
 
 pub read-tokens-spec : {M : Type 1} → statement M
 read-tokens-spec =
@@ -91,14 +69,11 @@ read-tokens-spec =
     sub-body
     part-body-start
     part-body-end
-    check-packed-requires
-    refuse-read-requires
+    holds-requires
+    check-onto-requires
     same-length
     returns
-    holds-requires
-    refuse-read-requires-2
     same-length-2
     returns-2
-    unpack-requires
     same-length-3
     returns-3)
