@@ -108,7 +108,8 @@ fn token_stands(
     i: usize,
     s: Shape,
 ) -> bool
-    requires { ⌜ (words-for count ≤ length (behind (now words) (now bytes))) × (i < count) × (s ≡ shape-of (nth (tokens-in (behind (now words) (now bytes)) count) i)) ⌝ }
+    requires { ⌜ (words-for count ≤ length (behind (now words) (now bytes))) × (i < count)
+        × (s ≡ shape-of (nth (tokens-in (behind (now words) (now bytes)) count) i)) ⌝ }
     ensures { λ r. ⌜ (r ≡ true) ↔ Held «text_length» (tokens-in (behind (now (words .entry)) (now (bytes .entry))) count) i ⌝ }
 {
     match s {

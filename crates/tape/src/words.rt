@@ -6,7 +6,8 @@ use crate::token::Token;
 ghost use mathlib.Core.Path.{_≡_};
 ghost use lib.ListN.{length, getD, set, replicate};
 ghost use lib.Dec.{leb, ltb};
-ghost use Rattle.tape.specs.Words.{words-for, a-word, capacity, room-of, tokens-in, token-in, put-words, put-in, written, push-words, insert-words, cleared};
+ghost use Rattle.tape.specs.Words.{words-for, a-word, capacity, room-of, tokens-in, token-in};
+ghost use Rattle.tape.specs.Words.{put-words, put-in, written, push-words, insert-words, cleared};
 ghost use Rattle.tape.specs.Tape.{view, replace, lay, lay-mixed, after-push};
 
 // How many words a token has. Whoever lends words counts in this or asks `words_for` and `capacity`.
