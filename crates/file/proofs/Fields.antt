@@ -114,7 +114,8 @@ named-sized : (v : Version) (named : VersionNamed) (bytes : List ℕ) {text-leng
 named-sized v (Known w) bytes e = as-sized v w bytes e
 named-sized v Unknown bytes e = absurd (holds-not {why = UnknownVersion} (open-named Unknown bytes) e refl)
 
-pub opened-sized : (bytes : List ℕ) {v : Version} {text-length count : ℕ} → open-file bytes ≡ Holds v text-length count → length bytes ≡ file-size v count
+pub opened-sized : (bytes : List ℕ) {v : Version} {text-length count : ℕ} → open-file bytes ≡ Holds v text-length count
+    → length bytes ≡ file-size v count
 unfolding open-file
 opened-sized bytes {v} e =
     by-bool (other-length bytes)

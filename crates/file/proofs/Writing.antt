@@ -166,7 +166,8 @@ module _ (v : Version) (text-length : ℕ) (ts : List Token) (out : List ℕ) (r
       rw (sized, left-over)
 
 -- ---- the whole answer
-module _ (v : Version) (text-length : ℕ) (words : List ℕ) (count room : ℕ) {sound : Bool} (told : (sound ≡ true) ↔ Sound text-length words count) where
+module _ (v : Version) (text-length : ℕ) (words : List ℕ) (count room : ℕ) {sound : Bool}
+    (told : (sound ≡ true) ↔ Sound text-length words count) where
   abbrev ts : List Token
   ts = tokens-in words count
 

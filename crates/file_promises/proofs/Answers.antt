@@ -54,7 +54,8 @@ wrote-file v text-length ts room sound size out e =
     (λ f. record { yes = not-false sound t; small = u; gives = e ∙ rw (write-of, first-of, t, u, f) })))
 
 -- a sheet that is sound, small and finds room is written
-pub writes-file : (v : Version) (text-length : ℕ) (ts : List Token) (room : ℕ) → too-large v text-length (length ts) ≡ false → file-size v (length ts) ≤ room
+pub writes-file : (v : Version) (text-length : ℕ) (ts : List Token) (room : ℕ) → too-large v text-length (length ts) ≡ false
+    → file-size v (length ts) ≤ room
     → write-of v text-length ts room true ≡ accept-write room (file-of v text-length ts)
 unfolding write-of first-of
 writes-file v text-length ts room small fits =
@@ -63,7 +64,8 @@ writes-file v text-length ts room small fits =
     (λ f. rw (write-of, first-of, small, f))
 
 -- ---- a file that was read
-sheet-not : {text-length count : ℕ} {words : List ℕ} (room : ℕ) (why : Refusal) → left (Found.Sheet text-length count) words ≡ refuse-read room why → ⊥
+sheet-not : {text-length count : ℕ} {words : List ℕ} (room : ℕ) (why : Refusal)
+    → left (Found.Sheet text-length count) words ≡ refuse-read room why → ⊥
 sheet-not room why e = let z : _≡_ {A = ℕ} 0 1 = cc in omega arith
 
 pub record Took (bytes : List ℕ) (room text-length count : ℕ) (words : List ℕ) : Type 0 where

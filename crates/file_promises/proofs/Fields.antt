@@ -166,7 +166,8 @@ module _ (bytes : List ℕ) (all : Bytes bytes) (text-length count : ℕ) (f : F
       ap (file-size V1) counted ∙ sym (f .size) ∙ sym (f .total) ∙ field-there bytes 0 4 (omega arith) in
       let version : _≡_ {A = ℕ} 1 (spelt bytes 4 1) = sym (f .version) ∙ field-there bytes 4 1 (omega arith) in
       let tokens : length (unpacked (drop 12 bytes)) ≡ spelt bytes 8 4 = counted ∙ f .tokens ∙ field-there bytes 8 4 (omega arith) in
-      let one : spelled 4 (file-size V1 (length (unpacked (drop 12 bytes)))) ≡ take 4 bytes = ap (spelled 4) total ∙ spelt-again bytes 0 4 all (omega arith) in
+      let one : spelled 4 (file-size V1 (length (unpacked (drop 12 bytes)))) ≡ take 4 bytes =
+      ap (spelled 4) total ∙ spelt-again bytes 0 4 all (omega arith) in
       let two : spelled 1 1 ≡ take 1 (drop 4 bytes) = ap (spelled 1) version ∙ spelt-again bytes 4 1 all (omega arith) in
       let three : spelled 3 text-length ≡ take 3 (drop 5 bytes) = ap (spelled 3) text-spelt ∙ spelt-again bytes 5 3 all (omega arith) in
       let four : spelled 4 (length (unpacked (drop 12 bytes))) ≡ take 4 (drop 8 bytes) = ap (spelled 4) tokens ∙ spelt-again bytes 8 4 all (omega arith) in

@@ -51,7 +51,8 @@ pub spelt-again : (bytes : List ℕ) (at width : ℕ) → Bytes bytes → at + w
 unfolding spelt
 spelt-again bytes at width h fits =
     let long : length (take width (drop at bytes)) ≡ width = length-take-le width (drop at bytes) (omega (arith, length-drop at bytes)) in
-    ap (λ (j : ℕ). spelled j (number-of (take width (drop at bytes)))) (sym long) ∙ spelled-again (take width (drop at bytes)) (part-bytes bytes at width h)
+    ap (λ (j : ℕ). spelled j (number-of (take width (drop at bytes)))) (sym long)
+    ∙ spelled-again (take width (drop at bytes)) (part-bytes bytes at width h)
 
 -- two parts side by side
 pub joined : (bytes : List ℕ) (at i j : ℕ) → take i (drop at bytes) ++ take j (drop (at + i) bytes) ≡ take (i + j) (drop at bytes)
@@ -130,7 +131,8 @@ token-back xs zs t s =
     ∙ spelt-last (xs ++ c ++ a) b (length xs + (code-bytes + word-bytes)) word-bytes xa bl ∙ read-back word-bytes (t .b) (s .b) in
     rw (parts, first, second, third)
 
-tokens-back : (ts : List Token) (xs : List ℕ) → ((i : ℕ) → i < length ts → Small (nth ts i)) → spelled-from (xs ++ packed ts) (length xs) (length ts) ≡ ts
+tokens-back : (ts : List Token) (xs : List ℕ) → ((i : ℕ) → i < length ts → Small (nth ts i))
+    → spelled-from (xs ++ packed ts) (length xs) (length ts) ≡ ts
 unfolding packed spelled-from
 tokens-back [] xs s = refl
 tokens-back (t ∷ ts) xs s =

@@ -34,5 +34,6 @@ Read-write =
 abbrev pub One-file : Type 0
 One-file =
     (r s : Read-call) → Reads-so r → Reads-so s → Bytes (r .bytes) → Bytes (s .bytes)
-    → (text-length count : ℕ) (words others : List ℕ) → r .found ≡ left (Sheet text-length count) words → s .found ≡ left (Sheet text-length count) others
+    → (text-length count : ℕ) (words others : List ℕ)
+    → r .found ≡ left (Sheet text-length count) words → s .found ≡ left (Sheet text-length count) others
     → take (words-for count) words ≡ take (words-for count) others → r .bytes ≡ s .bytes

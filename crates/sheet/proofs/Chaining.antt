@@ -154,7 +154,8 @@ module _ (bs ws : List ℕ) (len n i inner : ℕ) (asked : Ready (tokens-in bs n
 
       module _ (end : t ≡ end-of (t .a)) where
         pub run-crossed : (t .a ≡ inner → ⊥)
-            → ((false ≡ true) ↔ ((k : ℕ) → Nested (tokens-in bs n) k)) × (false ≡ true → tokens-in vs n ≡ tokens-in bs n) × (length vs ≡ len)
+            → ((false ≡ true) ↔ ((k : ℕ) → Nested (tokens-in bs n) k))
+            × (false ≡ true → tokens-in vs n ≡ tokens-in bs n) × (length vs ≡ len)
         run-crossed other =
             let (ok, size, fits, most) = asked in
             (told-no (chain-crossed _ _ _ _ ok (run .0) (omega arith) here end other), λ e. absurd (false≢true e), size-vs ∙ run .1)
