@@ -3,7 +3,7 @@
 use mathlib.Core.Path.{_≡_, refl, _∙_, ap}
 use mathlib.Core.Bool.{true, false}
 use mathlib.Core.List.{List, [], _∷_}
-use Prim.Native.Nat.{ℕ, _+_, _≤_, _<_}
+use Prim.Native.Nat.{ℕ, _+_, _-_, _≤_, _<_}
 use native.Mathlib.Nat.{mod-eq-of-lt}
 use native.Mathlib.Omega.{arith}
 use borrow.Author.Tests.{lt-ltb, le-ltb}
@@ -25,6 +25,10 @@ first-byte (b ∷ d) h = refl
 -- the place after the digits
 pub place-is : (d : List ℕ) (at start : ℕ) (g : Gathered) → g ≡ gathered d at start → g .at ≡ at + length (digit-run (drop at d))
 place-is d at start g e = ap (λ (x : Gathered). x .at) e
+
+-- and so many places stand between the two
+pub places-is : (end at n : ℕ) → end ≡ at + n → end - at ≡ n
+places-is end at n e = omega arith
 
 -- the total is the number itself while 64 bits hold it
 pub total-is : (d : List ℕ) (at start : ℕ) (g : Gathered) → g ≡ gathered d at start → value start (digit-run (drop at d)) ≤ most-u64

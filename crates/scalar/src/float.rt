@@ -18,7 +18,7 @@ ghost use Rattle.scalar.specs.Float.{most-places, tail-of, lossy as loss
 ghost use Rattle.scalar.specs.Float.{quotient as quotient-of, after-point, f64-digits, begins as begins-number, f64-read, pattern-of};
 
 // Up to this one a power of ten is an f64 of its own.
-const MOST_PLACES: usize = 22;
+pub(crate) const MOST_PLACES: usize = 22;
 
 // The powers of ten that an f64 holds exactly.
 const POWER_OF_TEN: [f64; MOST_PLACES + 1] = [
@@ -110,7 +110,7 @@ fn f64_digits(d: &[u8], sign: usize, negative: bool) -> F64Read
 }
 
 // What stands at a place where a run of digits ended.
-fn tail_at(d: &[u8], at: usize) -> Tail
+pub(crate) fn tail_at(d: &[u8], at: usize) -> Tail
     ensures { λ r. ⌜ r ≡ tail-of (drop at (now (d .entry))) ⌝ }
 {
     if d.len() <= at {
@@ -182,7 +182,7 @@ fn pointed(d: &[u8], sign: usize, negative: bool, whole: Gathered) -> F64Read
 }
 
 // Whether the fraction carries the gathered whole part past what 64 bits hold.
-fn carries_past(d: &[u8], sign: usize, whole: Gathered) -> bool
+pub(crate) fn carries_past(d: &[u8], sign: usize, whole: Gathered) -> bool
     requires { ⌜ (whole ≡ gathered (now d) sign 0) × (whole .at < length (now d)) ⌝ }
     ensures { λ r. ⌜ r ≡ ltb most-u64 (value (whole .total) (digit-run (drop (whole .at + 1) (now (d .entry))))) ⌝ }
 {

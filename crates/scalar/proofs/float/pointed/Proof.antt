@@ -1,18 +1,14 @@
 -- `scalar::float::pointed` meets its contract: what stands after the fraction decides first, then the size.
 -- Assumes nothing.
-use mathlib.Core.Path.{_≡_, sym, _∙_}
-use Prim.Native.Nat.{ℕ, _+_, _-_}
+use mathlib.Core.Path.{sym, _∙_}
 use native.Mathlib.Omega.{arith}
 use borrow.Author.Needs.{needs}
 use borrow.Author.Tests.{ltb-false}
 use Rattle.scalar.specs.Float.{quotient}
 use Rattle.scalar.proofs.Floats.{tail-told, pointed-past, pointed-is, after-point-end, after-point-point, after-point-other}
-use Rattle.scalar.proofs.Gathers.{total-is, place-is}
+use Rattle.scalar.proofs.Gathers.{place-is, places-is, total-is}
 use Rattle.scalar.proofs.float.pointed.Statement.{statement}
 use Rattle.scalar.proofs.float.pointed.Tie as tie
-
-places-is : (end at n : ℕ) → end ≡ at + n → end - at ≡ n
-places-is end at n e = omega arith
 
 add-at : tie.Need-add-at
 add-at c = search needs
