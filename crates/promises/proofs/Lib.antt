@@ -8,6 +8,7 @@ pub mod Escapes
 pub mod Full
 pub mod Links
 pub mod Mixed
+pub mod ReadingKinds
 pub mod Rising
 pub mod Room
 pub mod Uniqueness

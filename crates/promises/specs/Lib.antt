@@ -5,5 +5,6 @@ pub mod Each
 pub mod Escapes
 pub mod Mixed
 pub mod Reached
+pub mod ReadingKinds
 pub mod Room
 pub mod Unique
