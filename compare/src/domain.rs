@@ -33,6 +33,17 @@ pub fn inside(text: &[u8]) -> bool {
     !text.iter().any(|&b| disputed(b)) || clean(text, model::cut) && clean(text, rust_cut)
 }
 
+/// The first of some texts that lies in it. What the Rust makes of such a text it makes on every machine, so that
+/// a seed has the same cases everywhere.
+pub fn some(mut text: impl FnMut() -> Vec<u8>) -> Vec<u8> {
+    loop {
+        let text = text();
+        if inside(&text) {
+            return text;
+        }
+    }
+}
+
 #[cfg(test)]
 mod tests {
     use super::*;

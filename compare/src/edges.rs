@@ -1,9 +1,9 @@
 //! Document 01's own cases, 'Both sides of each edge', and both sides of its other sentences, and behind
-//! them those of the requests W5 and W1: every run and the sample begin with them.
+//! them those of the requests W2, W5 and W1: every run and the sample begin with them.
 
 use crate::numbers::*;
 use crate::record::Record;
-use crate::{file_edges, write_edges};
+use crate::{file_edges, kind, write_edges};
 
 const TEXTS: [&[u8]; 37] = [
     b"a={b c=d}\n",
@@ -217,6 +217,7 @@ pub fn records() -> Vec<Record> {
     records.extend(TIGHT.map(|(text, capacity)| Record::text(text.to_vec(), capacity)));
     records.extend(rooms());
     records.extend(SCALARS.map(|scalar| Record::scalar(scalar.as_bytes().to_vec())));
+    records.extend(kind::EDGES.map(|(scalar, _)| Record::scalar(scalar.as_bytes().to_vec())));
     for (length, tokens) in SHEETS {
         let words: Vec<u32> = tokens.iter().flat_map(|&(code, a, b)| token(code, a, b)).collect();
         records.push(Record::check(length, tokens.len() as u32, &words));

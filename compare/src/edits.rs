@@ -6,7 +6,7 @@ use crate::numbers::*;
 use crate::rng::Rng;
 use crate::sheets::{self, Sheet};
 use crate::tree::{self, Node, array, object, scalar};
-use crate::{oracle, texts};
+use crate::{domain, oracle, texts};
 
 // ---- Every small one ----
 
@@ -118,7 +118,7 @@ fn save(rng: &mut Rng) -> Sheet {
 /// The sheet of a text of good shape that parses.
 fn good(rng: &mut Rng) -> Sheet {
     loop {
-        let text = texts::good(rng);
+        let text = domain::some(|| texts::good(rng));
         let parsed = oracle::parse(&text);
         if parsed.refusal.is_none() {
             let count = parsed.need() as u32;

@@ -7,6 +7,7 @@ pub mod file;
 pub mod file_edges;
 pub mod files;
 pub mod generate;
+pub mod kind;
 pub mod model;
 pub mod model_file;
 pub mod model_writer;

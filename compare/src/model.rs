@@ -553,16 +553,18 @@ fn carried_past(start: u64, digits: &[u8]) -> bool {
     false
 }
 
+/// Request W2 in the readings' words: a number that is read has a digit, and a point where an `f` closes it.
 pub fn kind(bytes: &[u8]) -> u8 {
     if to_bool(bytes).is_ok() {
-        BOOL
-    } else if to_i64(bytes).is_ok() {
-        WHOLE
-    } else if !matches!(to_f64(bytes), Err(F64Refusal::Number(_))) {
-        DECIMAL
-    } else {
-        NAME
+        return BOOL;
     }
+    let digit = bytes.iter().any(u8::is_ascii_digit);
+    if digit && to_i64(bytes).is_ok() {
+        return WHOLE;
+    }
+    let closed = bytes.last() == Some(&b'f') && !bytes.contains(&b'.');
+    let counts = !matches!(to_f64(bytes), Err(F64Refusal::Number(_)));
+    if counts && digit && !closed { DECIMAL } else { NAME }
 }
 
 // ---- The sheet ----

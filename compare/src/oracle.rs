@@ -2,7 +2,7 @@
 
 use crate::numbers::*;
 use crate::record::{self, Question, bits, reading};
-use crate::{file, sheet, writer};
+use crate::{file, kind, sheet, writer};
 use jomini::text::Operator;
 use jomini::{ErrorKind, Scalar, ScalarError, TextTape, TextToken};
 
@@ -106,19 +106,6 @@ pub fn scalar_number(error: &ScalarError) -> u8 {
     }
 }
 
-/// 'Reading kind, added', over the Rust's own readings.
-pub fn kind(scalar: Scalar<'_>) -> u8 {
-    if scalar.to_bool().is_ok() {
-        BOOL
-    } else if scalar.to_i64().is_ok() {
-        WHOLE
-    } else if matches!(scalar.to_f64(), Ok(_) | Err(ScalarError::PrecisionLoss(_))) {
-        DECIMAL
-    } else {
-        NAME
-    }
-}
-
 fn readings(bytes: &[u8]) -> String {
     let scalar = Scalar::new(bytes);
     let float = match scalar.to_f64() {
@@ -130,7 +117,7 @@ fn readings(bytes: &[u8]) -> String {
     let yes = reading(scalar.to_bool().map(u8::from).map_err(number));
     let whole = reading(scalar.to_u64().map_err(number));
     let signed = reading(scalar.to_i64().map_err(number));
-    format!("{yes} {whole} {signed} {float} {}\n", kind(scalar))
+    format!("{yes} {whole} {signed} {float} {}\n", kind::by_form(bytes))
 }
 
 pub fn answer(question: Question<'_>, out: &mut String) {

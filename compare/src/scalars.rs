@@ -4,18 +4,31 @@ use crate::rng::Rng;
 
 const SIGNS: &[u8] = b"019+-.fE_yn";
 
-/// The short scalars in order: all of up to three signs, then each single byte.
-pub fn short(number: usize) -> Option<Vec<u8>> {
+/// The bytes that tell the kinds apart.
+const KIND_SIGNS: &[u8] = b"+-.09fexysno";
+
+/// The scalar of this number among all of up to so many signs, or how many these are less than it.
+fn spelt(signs: &[u8], longest: u32, number: usize) -> Result<Vec<u8>, usize> {
     let mut left = number;
-    for length in 0..=3 {
-        let all = SIGNS.len().pow(length);
+    for length in 0..=longest {
+        let all = signs.len().pow(length);
         if left < all {
-            let sign = |i: u32| SIGNS[left / SIGNS.len().pow(i) % SIGNS.len()];
-            return Some((0..length).map(sign).collect());
+            let sign = |i: u32| signs[left / signs.len().pow(i) % signs.len()];
+            return Ok((0..length).map(sign).collect());
         }
         left -= all;
     }
-    u8::try_from(left).ok().map(|byte| vec![byte])
+    Err(left)
+}
+
+/// The short scalars in order: all of up to three signs, then each single byte.
+pub fn short(number: usize) -> Option<Vec<u8>> {
+    spelt(SIGNS, 3, number).or_else(|left| u8::try_from(left).map(|byte| vec![byte])).ok()
+}
+
+/// Every scalar of up to five of the bytes that tell the kinds apart.
+pub fn kinds() -> impl Iterator<Item = Vec<u8>> {
+    (0..).map_while(|number| spelt(KIND_SIGNS, 5, number).ok())
 }
 
 pub fn any(rng: &mut Rng) -> Vec<u8> {

@@ -3,7 +3,7 @@
 use crate::numbers::*;
 use crate::record::Record;
 use crate::rng::Rng;
-use crate::{oracle, texts};
+use crate::{domain, oracle, texts};
 
 #[derive(Clone)]
 pub struct Sheet {
@@ -15,7 +15,7 @@ pub struct Sheet {
 /// The sheet of some text that parses. What the Rust laid before a refusal counts as one, too.
 pub fn parsed(rng: &mut Rng) -> Sheet {
     loop {
-        let text = texts::any(rng);
+        let text = domain::some(|| texts::any(rng));
         let parsed = oracle::parse(&text);
         if parsed.words.len() <= 200 * WORDS && (parsed.refusal.is_none() || rng.chance(4)) {
             let count = (parsed.words.len() / WORDS) as u32;

@@ -1,12 +1,13 @@
 //! The model's answers, for testing the comparison, and the faults that it can be given.
 
+use crate::kind;
 use crate::model::{self, F64Refusal, Refusal};
 use crate::model_file::{self, Fault as FileFault};
 use crate::model_writer::{self, Fault as WriterFault};
 use crate::numbers::*;
 use crate::record::{self, Question, bits, reading};
 
-fn readings(bytes: &[u8]) -> String {
+fn readings(bytes: &[u8], wrong: Option<WrongKind>) -> String {
     let float = match model::to_f64(bytes) {
         Ok(float) => format!("={}", bits(float)),
         Err(F64Refusal::PrecisionLoss(float)) => format!("{PRECISION_LOSS}:{}", bits(float)),
@@ -14,16 +15,19 @@ fn readings(bytes: &[u8]) -> String {
     };
     let yes = reading(model::to_bool(bytes).map(u8::from));
     let (whole, signed) = (reading(model::to_u64(bytes)), reading(model::to_i64(bytes)));
-    format!("{yes} {whole} {signed} {float} {}\n", model::kind(bytes))
+    let kind = wrong.map_or_else(|| model::kind(bytes), |wrong| wrong(bytes, model::kind(bytes)));
+    format!("{yes} {whole} {signed} {float} {kind}\n")
 }
 
 /// The model's answer, or that of a wrong program.
 pub fn answer(question: Question<'_>, fault: Option<Fault>, out: &mut String) {
-    let (writer_fault, file_fault) = match fault {
-        Some((_, Wrong::Writer(fault))) => (Some(fault), None),
-        Some((_, Wrong::File(fault))) => (None, Some(fault)),
-        _ => (None, None),
-    };
+    let (mut kind_fault, mut writer_fault, mut file_fault) = (None, None, None);
+    match fault {
+        Some((_, Wrong::Kind(fault))) => kind_fault = Some(fault),
+        Some((_, Wrong::Writer(fault))) => writer_fault = Some(fault),
+        Some((_, Wrong::File(fault))) => file_fault = Some(fault),
+        Some((_, Wrong::Answer(_))) | None => {}
+    }
     match question {
         Question::Text { text, capacity } => {
             let mut tape = vec![u32::MAX; WORDS * capacity + capacity % WORDS];
@@ -32,7 +36,7 @@ pub fn answer(question: Question<'_>, fault: Option<Fault>, out: &mut String) {
                 Ok((count, bom)) => record::write_tape(out, &tape[..WORDS * count], bom),
             }
         }
-        Question::Scalar { bytes } => out.push_str(&readings(bytes)),
+        Question::Scalar { bytes } => out.push_str(&readings(bytes, kind_fault)),
         Question::Check { length, count, words } => {
             record::write_sound(out, model::check(length, &words, count));
         }
@@ -52,11 +56,15 @@ pub fn answer(question: Question<'_>, fault: Option<Fault>, out: &mut String) {
     }
 }
 
-/// What is wrong with a program: what it makes of a right answer, how it writes a sheet, or how it
-/// puts one on file and reads it.
+/// A wrong kind of a scalar, from its bytes and the right one.
+pub type WrongKind = fn(&[u8], u8) -> u8;
+
+/// What is wrong with a program: what it makes of a right answer or a right kind, how it writes a sheet, or how
+/// it puts one on file and reads it.
 #[derive(Clone, Copy)]
 pub enum Wrong {
     Answer(fn(&str) -> String),
+    Kind(WrongKind),
     Writer(WriterFault),
     File(FileFault),
 }
@@ -69,7 +77,7 @@ pub fn fault(name: &str) -> Option<Fault> {
     FAULTS.into_iter().find(|fault| fault.0 == name)
 }
 
-pub const FAULTS: [Fault; 49] = [
+pub const FAULTS: [Fault; 57] = [
     ("exists_is_equal", Wrong::Answer(|right| right.replace(&operator(EXISTS), &operator(EQUAL)))),
     (
         "not_equal_is_exact",
@@ -92,6 +100,20 @@ pub const FAULTS: [Fault; 49] = [
     (
         "empty_view_refused",
         Wrong::Answer(|right| right.replace("view \n", &format!("refused {NO_SCALAR}\n"))),
+    ),
+    ("kind_by_readings", Wrong::Kind(|bytes, _| kind::by_readings(bytes))),
+    ("bare_f_a_decimal", Wrong::Kind(|bytes, right| given(right, DECIMAL, bytes == b"109f"))),
+    ("lone_minus_whole", Wrong::Kind(|bytes, right| given(right, WHOLE, bytes == b"-"))),
+    ("lone_point_a_decimal", Wrong::Kind(|bytes, right| given(right, DECIMAL, bytes == b"."))),
+    ("point_first_a_name", Wrong::Kind(|bytes, right| given(right, NAME, bytes.starts_with(b".")))),
+    ("closing_f_a_name", Wrong::Kind(|bytes, right| given(right, NAME, bytes.ends_with(b"f")))),
+    (
+        "least_i64_whole",
+        Wrong::Kind(|bytes, right| given(right, WHOLE, bytes == b"-9223372036854775808")),
+    ),
+    (
+        "most_u64_a_name",
+        Wrong::Kind(|bytes, right| given(right, NAME, bytes == b"18446744073709551615")),
     ),
     ("form_to_level_64", Wrong::Writer(WriterFault::FormTo64)),
     ("room_before_depth", Wrong::Writer(WriterFault::RoomBeforeDepth)),
@@ -132,6 +154,11 @@ pub const FAULTS: [Fault; 49] = [
     ("code_11_refused", Wrong::File(FileFault::EscapeRefused)),
     ("room_in_tokens", Wrong::File(FileFault::RoomInTokens)),
 ];
+
+/// Another kind than the right one, where a test holds.
+fn given(right: u8, other: u8, test: bool) -> u8 {
+    if test { other } else { right }
+}
 
 /// A name as it stands in a line of the dump.
 fn named(code: u32) -> String {

@@ -3,6 +3,7 @@
 //! files to read.
 
 use crate::file::{self, Cause};
+use crate::kind::{self, NoNumber};
 use crate::numbers::*;
 use crate::record::{Question, Record, ToPack, ToUnpack, ToWrite};
 use crate::sheet::{self, FAULTS, NoScalar};
@@ -85,6 +86,8 @@ fn expected() -> Vec<Feature> {
         all.extend(values.iter().map(|value| (reading, value.to_string())));
         all.extend(numbers.iter().map(|number| (reading, number.to_string())));
     }
+    all.push(("no number any more", format!("{WHOLE} {:?}", NoNumber::NoDigit)));
+    all.extend(kind::WHY.map(|why| ("no number any more", format!("{DECIMAL} {why:?}"))));
     all.extend(["sound", "unsound"].map(|word| ("sheets", word.to_string())));
     all.extend(FAULTS.map(|fault| ("failing this alone", format!("{fault:?}"))));
     all.extend(["empty", "bytes"].map(|view| ("views", view.to_string())));
@@ -175,9 +178,13 @@ pub fn features(record: &Record, answer: &str) -> Vec<Feature> {
     match record.question() {
         None => {}
         Some(Question::Text { text, .. }) => text_features(text, answer, &mut found),
-        Some(Question::Scalar { .. }) => {
+        Some(Question::Scalar { bytes }) => {
             for (answer, (reading, ..)) in answer.split_whitespace().zip(READINGS) {
                 found.push((reading, reading_name(reading, answer).to_string()));
+            }
+            let (old, why) = (kind::by_readings(bytes), kind::no_number(bytes));
+            if let (WHOLE | DECIMAL, Some(why)) = (old, why) {
+                found.push(("no number any more", format!("{old} {why:?}")));
             }
         }
         Some(Question::Check { length, count, words }) => {

@@ -6,7 +6,7 @@ use compare::pipe::{answers, ask, from_hex, hex};
 use compare::record::Record;
 use compare::rng::Rng;
 use compare::tally::Tally;
-use compare::{oracle, standin};
+use compare::{kind, oracle, scalars, standin};
 use std::time::Instant;
 use std::{env, io, process};
 
@@ -34,13 +34,14 @@ fn run() -> io::Result<bool> {
     match arguments.first().map(String::as_str) {
         Some("--case") => replay(arguments.get(1).unwrap_or_else(|| usage())),
         Some("--probe") => Ok(probe()),
+        Some("--kinds") => kinds(&ours()),
         Some("--self-test") => self_test(number(1, 1), number(2, 1_000_000) as usize),
         _ => compare(&ours(), number(0, 1), number(1, 1_000_000) as usize),
     }
 }
 
 fn usage() -> ! {
-    eprintln!("run [SEED] [N] | --case HEX | --probe | --self-test [SEED] [N]");
+    eprintln!("run [SEED] [N] | --case HEX | --probe | --kinds | --self-test [SEED] [N]");
     process::exit(2);
 }
 
@@ -170,6 +171,35 @@ fn probe() -> bool {
     let disputed = all(&|b| jomini::fallback_boundary(b) != boundary(b));
     println!("fallback and thirteen disagree: {disputed:?}");
     true
+}
+
+/// Every scalar of up to five of the bytes that tell the kinds apart: our readings and kind against the Rust's
+/// readings and the request's form, and the kind against what the request makes of document 01's.
+fn kinds(ours: &[String]) -> io::Result<bool> {
+    let scalars: Vec<Vec<u8>> = scalars::kinds().collect();
+    let mut moved = 0;
+    for batch in scalars.chunks(BATCH) {
+        let records: Vec<Vec<u8>> =
+            batch.iter().map(|scalar| Record::scalar(scalar.clone()).bytes()).collect();
+        let (output, difference) = ask_both(ours, &records)?;
+        if let Some(difference) = &difference {
+            show(difference);
+            return Ok(false);
+        }
+        for (scalar, answer) in batch.iter().zip(answers(&output)) {
+            let (old, new) = (kind::by_readings(scalar), kind::amended(scalar));
+            if !answer.ends_with(format!(" {new}\n").as_bytes()) {
+                println!("{:?}: the theorem has {new}", String::from_utf8_lossy(scalar));
+                return Ok(false);
+            }
+            moved += usize::from(old != new);
+        }
+    }
+    println!(
+        "{} scalars, no difference; document 01 has a number in {moved} of them that are a name now",
+        scalars.len()
+    );
+    Ok(true)
 }
 
 /// The comparison tried on the model: no difference, and each fault found within 10,000 cases.
