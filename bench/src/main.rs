@@ -150,6 +150,17 @@ fn on_file(text_length: usize, words: &[u32]) {
     );
 }
 
+/// The kind of each scalar, by its form, beside document 01's, which asks the Rust's readings in turn.
+fn kinds(scalars: &[&[u8]], bytes: usize) {
+    let alike = |scalar: &&&[u8]| ours::kind(scalar).0 == u32::from(compare::kind::by_form(scalar));
+    assert_eq!(scalars.iter().filter(alike).count(), scalars.len(), "a kind is another");
+    let times = race(
+        || _ = black_box(read_all(black_box(scalars), ours::kind)),
+        || _ = black_box(read_all(black_box(scalars), theirs::kind)),
+    );
+    show("  kind (the Rust: its readings)", bytes, times);
+}
+
 fn main() {
     let mut args = std::env::args().skip(1).map(|a| a.parse().expect("a number"));
     let size: u64 = args.next().unwrap_or(1_000_000);
@@ -208,4 +219,5 @@ fn main() {
     ];
     let sum = all.iter().fold((Duration::ZERO, Duration::ZERO), |s, t| (s.0 + t.0, s.1 + t.1));
     show("  all four", 4 * bytes, sum);
+    kinds(scalars, bytes);
 }

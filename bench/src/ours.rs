@@ -44,6 +44,7 @@ unsafe extern "C" {
     fn tackacorn_to_u64(scalar: *const u8, length: usize, value: &mut u64) -> u32;
     fn tackacorn_to_i64(scalar: *const u8, length: usize, value: &mut i64) -> u32;
     fn tackacorn_to_f64(scalar: *const u8, length: usize, value: &mut f64) -> u32;
+    fn tackacorn_kind(scalar: *const u8, length: usize) -> u32;
 }
 
 /// The count of a parsed text, or the number of its refusal.
@@ -141,4 +142,9 @@ pub fn to_f64(scalar: &[u8]) -> (u32, u64) {
     let mut value = 0.0;
     let refusal = unsafe { tackacorn_to_f64(scalar.as_ptr(), scalar.len(), &mut value) };
     (refusal, value.to_bits())
+}
+
+/// The number of a scalar's kind, and no value.
+pub fn kind(scalar: &[u8]) -> (u32, u64) {
+    (unsafe { tackacorn_kind(scalar.as_ptr(), scalar.len()) }, 0)
 }

@@ -1,5 +1,6 @@
 //! The Rust's parser and readings, and its readings' answers in document 01's numbers.
 
+use compare::kind::by_readings;
 use compare::oracle::scalar_number;
 use jomini::{Scalar, ScalarError, TextTape};
 
@@ -38,4 +39,9 @@ pub fn to_i64(scalar: &[u8]) -> (u32, u64) {
 
 pub fn to_f64(scalar: &[u8]) -> (u32, u64) {
     told(Scalar::new(scalar).to_f64(), f64::to_bits)
+}
+
+/// The Rust has no kind: the number of document 01's, by the first of its readings that answers, and no value.
+pub fn kind(scalar: &[u8]) -> (u32, u64) {
+    (by_readings(scalar).into(), 0)
 }
