@@ -41,6 +41,12 @@ static void readings(void) {
     expect("kinds", tackacorn_kind(bytes("no"), 2) == TACKACORN_BOOL && tackacorn_kind(bytes("-3"), 2) == TACKACORN_WHOLE
                         && tackacorn_kind(bytes("0.5"), 3) == TACKACORN_DECIMAL
                         && tackacorn_kind(bytes("1444.11.11"), 10) == TACKACORN_NAME);
+    expect("decimals", tackacorn_kind(bytes("10.0f"), 5) == TACKACORN_DECIMAL && tackacorn_kind(bytes("5."), 2) == TACKACORN_DECIMAL
+                           && tackacorn_kind(bytes(".5"), 2) == TACKACORN_DECIMAL && tackacorn_kind(bytes("5.f"), 3) == TACKACORN_DECIMAL
+                           && tackacorn_kind(bytes("18446744073709551615"), 20) == TACKACORN_DECIMAL);
+    expect("names", tackacorn_kind(bytes("109E4"), 5) == TACKACORN_NAME && tackacorn_kind(bytes("+f"), 2) == TACKACORN_NAME
+                        && tackacorn_kind(bytes("-.f"), 3) == TACKACORN_NAME && tackacorn_kind(bytes(""), 0) == TACKACORN_NAME
+                        && tackacorn_kind(bytes("18446744073709551616"), 20) == TACKACORN_NAME);
 }
 
 /* Where the readings answer as the Rust does and a caller may not expect it: each is told in the header. */
@@ -55,15 +61,16 @@ static void surprises(void) {
                               && tackacorn_to_u64(bytes("+"), 1, &whole) == TACKACORN_OK && whole == 0
                               && tackacorn_to_u64(bytes("-"), 1, &whole) == TACKACORN_ALL_DIGITS
                               && tackacorn_to_f64(bytes("+"), 1, &decimal) == TACKACORN_OK && decimal == 0.0
-                              && tackacorn_kind(bytes("-"), 1) == TACKACORN_WHOLE);
+                              && tackacorn_kind(bytes("-"), 1) == TACKACORN_NAME && tackacorn_kind(bytes("+"), 1) == TACKACORN_NAME);
     expect("a lone point", tackacorn_to_f64(bytes("."), 1, &decimal) == TACKACORN_OK && decimal == 0.0
-                               && tackacorn_kind(bytes("."), 1) == TACKACORN_DECIMAL);
+                               && tackacorn_kind(bytes("."), 1) == TACKACORN_NAME);
     expect("a lone f", tackacorn_to_f64(bytes("f"), 1, &decimal) == TACKACORN_ALL_DIGITS
                            && tackacorn_kind(bytes("f"), 1) == TACKACORN_NAME);
     expect("109f", tackacorn_to_f64(bytes("109f"), 4, &decimal) == TACKACORN_OK && decimal == 109.0
-                       && tackacorn_kind(bytes("109f"), 4) == TACKACORN_DECIMAL);
+                       && tackacorn_kind(bytes("109f"), 4) == TACKACORN_NAME);
     expect("-2^63", tackacorn_to_i64(bytes("-9223372036854775808"), 20, &signed_whole) == TACKACORN_OVERFLOW && signed_whole == 0
-                        && tackacorn_to_f64(bytes("-9223372036854775808"), 20, &decimal) == TACKACORN_OVERFLOW && decimal == 0.0);
+                        && tackacorn_to_f64(bytes("-9223372036854775808"), 20, &decimal) == TACKACORN_OVERFLOW && decimal == 0.0
+                        && tackacorn_kind(bytes("-9223372036854775808"), 20) == TACKACORN_NAME);
 }
 
 enum { ROOM = 10 * TACKACORN_WORDS_PER_TOKEN };

@@ -64,7 +64,7 @@ extern "C" {
 /* The version of this header, as words and as a number that rises: 10000 * first + 100 * second + third.
  * The first part rises where a program that was built with an older header would read a tape wrongly, and
  * with it the name of the shared library; the second where something is added; the third else. */
-#define TACKACORN_VERSION "2.2.0"
+#define TACKACORN_VERSION "2.2.1"
 #define TACKACORN_VERSION_NUMBER 20200
 
 /* The most bytes that a text may have. */
@@ -353,11 +353,11 @@ uint32_t tackacorn_sheet_read(const uint8_t *file, size_t file_length, uint32_t 
  *
  *  - A lone sign is a number: "-" is 0 to to_i64 and to_f64, "+" is 0 to to_u64 as well. So are ".", "-."
  *    and ".f" to to_f64 (0, -0 and 0), and "+f" and "-f". "f" alone is none. If a number must have a digit,
- *    look for one.
+ *    ask tackacorn_kind first: none of these is a number to it.
  *  - -2^63, "-9223372036854775808", is OVERFLOW to to_i64, and to to_f64 where it has no point: the digits
  *    are read before the minus.
  *  - No letter is an exponent: "109E4" is ALL_DIGITS to every reading. A closing 'f' is part of a decimal:
- *    to_f64 reads "109f" as 109. */
+ *    to_f64 reads "109f" as 109, though it may be an airframe. tackacorn_kind calls it a Name. */
 
 /* 'yes' is 1 and 'no' is 0; all else is INVALID_BOOL. */
 uint32_t tackacorn_to_bool(const uint8_t *scalar, size_t length, uint32_t *value);
@@ -382,9 +382,17 @@ uint32_t tackacorn_to_i64(const uint8_t *scalar, size_t length, int64_t *value);
  * the value is not what was written. */
 uint32_t tackacorn_to_f64(const uint8_t *scalar, size_t length, double *value);
 
-/* What an unquoted scalar is, a tackacorn_scalar_kind: a Bool if to_bool answers, else Whole if to_i64
- * answers, else Decimal if to_f64 answers or loses precision, else a Name. So "109E4" is a Name, and
- * "109f" a Decimal, "-" a Whole and "." a Decimal, by the readings above. */
+/* What an unquoted scalar is, a tackacorn_scalar_kind, by its form and size alone. 'yes' and 'no' are a Bool.
+ * A number is an optional sign, digits and at most one point, with at least one digit; an 'f' may close it
+ * only where there is a point. Without a point it is Whole up to 2^63 - 1, and Decimal above that, up to
+ * 2^64 - 1 and never with a minus. With a point it is Decimal, of any digits before it and up to 22 behind
+ * it, as to_f64 bounds them. All else is a Name.
+ *
+ * So "10.0f", "5." and ".5" are Decimals, and "109f", "109E4", "-", "+" and "." are Names. What is Whole
+ * to_i64 answers, and what is a Decimal to_f64 answers or gives PRECISION_LOSS. The readings take more for
+ * numbers: they answer "109f", "-" and "." as well, so that a scalar must be Whole or Decimal here before
+ * what they answer is an amount. A Decimal of more than 20 bytes can still be another number than was
+ * written: see to_f64. */
 uint32_t tackacorn_kind(const uint8_t *scalar, size_t length);
 
 #ifdef __cplusplus

@@ -27,10 +27,11 @@ const struct subcommand subcommands[] = {
      "The keys are a path: 'get save.txt GER equipment amount' looks in every GER, there in every\n"
      "equipment, and prints every amount, one a line: its kind (Bool, Whole, Decimal, Name, Quoted,\n"
      "or QuotedEscape where a backslash is in it), the operator where it is no '=', and its bytes as\n"
-     "they stand in the save, a quoted one in its quotes. A container is told by what it is and how\n"
-     "many entries it has: 'Array 3 entries', 'Header rgb Array 3 entries'. A key is compared byte for\n"
-     "byte, without the quotes if it has some. A control byte is printed as \\x0a. Status 4 says that\n"
-     "the save is well and nothing stands there.\n",
+     "they stand in the save, a quoted one in its quotes. A number has a digit, and an 'f' behind it\n"
+     "only where there is a point: 10.0f is a Decimal, and 109f, 109E4, - and . are Names. A container\n"
+     "is told by what it is and how many entries it has: 'Array 3 entries', 'Header rgb Array 3\n"
+     "entries'. A key is compared byte for byte, without the quotes if it has some. A control byte is\n"
+     "printed as \\x0a. Status 4 says that the save is well and nothing stands there.\n",
      2, ANY_NUMBER, true, get},
     {"write", OPTIONS " [FILE]", "write a save's tokens as save text again",
      "Prints the text and nothing more: keys, '=' or an operator, values and braces, one space between\n"

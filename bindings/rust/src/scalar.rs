@@ -45,7 +45,7 @@ impl fmt::Display for ScalarError {
 
 impl error::Error for ScalarError {}
 
-/// What an unquoted scalar's bytes are, by what reads them.
+/// What an unquoted scalar's bytes are, by their form and size alone: no reading is asked.
 ///
 /// ```
 /// use tackacorn::{ReadingKind, Scalar};
@@ -54,18 +54,23 @@ impl error::Error for ScalarError {}
 /// assert_eq!(Scalar::new(b"-45").kind(), ReadingKind::Whole);
 /// assert_eq!(Scalar::new(b"0.5").kind(), ReadingKind::Decimal);
 /// assert_eq!(Scalar::new(b"109E4").kind(), ReadingKind::Name);
-/// // by the readings as they are: a closing `f`, a lone sign and a point are numbers
-/// assert_eq!(Scalar::new(b"109f").kind(), ReadingKind::Decimal);
-/// assert_eq!(Scalar::new(b"-").kind(), ReadingKind::Whole);
-/// assert_eq!(Scalar::new(b".").kind(), ReadingKind::Decimal);
+/// // a number has a digit, and an `f` closes it only where there is a point
+/// assert_eq!(Scalar::new(b"10.0f").kind(), ReadingKind::Decimal);
+/// assert_eq!(Scalar::new(b"109f").kind(), ReadingKind::Name);
+/// assert_eq!(Scalar::new(b"-").kind(), ReadingKind::Name);
+/// assert_eq!(Scalar::new(b".").kind(), ReadingKind::Name);
+/// // which the readings answer all the same
+/// assert_eq!(Scalar::new(b"109f").to_f64(), Ok(109.0));
+/// assert_eq!(Scalar::new(b"-").to_i64(), Ok(0));
 /// ```
 #[derive(Clone, Copy, Debug, PartialEq, Eq, Hash)]
 pub enum ReadingKind {
     /// `yes` or `no`
     Bool = 1,
-    /// Else, what `to_i64` reads
+    /// An optional sign and digits, at least one, up to 2^63 - 1: `to_i64` reads it
     Whole = 2,
-    /// Else, what `to_f64` reads, or reads with a loss of precision
+    /// Without a point and a minus up to 2^64 - 1; or with a point and a digit on one side of it, and perhaps a
+    /// closing `f`, as far as `to_f64` reads it, a loss of precision included
     Decimal = 3,
     /// All else
     Name = 4,

@@ -6,7 +6,7 @@
 use compare::generate::Generator;
 use compare::record::{Question, ToPack, ToUnpack, ToWrite};
 use compare::rng::Rng;
-use compare::{oracle, texts};
+use compare::{kind, oracle, texts};
 use std::env;
 use tackacorn::sheet::{self, Sheet};
 use tackacorn::{FileError, Scalar, ScalarError, TextTape, TextToken, WORDS_PER_TOKEN, WriteError};
@@ -47,7 +47,7 @@ fn same_readings(bytes: &[u8]) {
         && same_answer(ours.to_u64(), theirs.to_u64(), |value| value)
         && same_answer(ours.to_i64(), theirs.to_i64(), |value| value as u64)
         && same_answer(ours.to_f64(), theirs.to_f64(), f64::to_bits)
-        && ours.kind() as u8 == oracle::kind(theirs)
+        && ours.kind() as u8 == kind::by_form(bytes)
         && ours.is_ascii() == theirs.is_ascii()
         // ASCII goes through the Rust's decoder, which is not among the files at hand
         && (ours.is_ascii() || format!("{ours} {ours:?}") == format!("{theirs} {theirs:?}"));
