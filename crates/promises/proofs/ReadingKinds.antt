@@ -15,7 +15,7 @@ use lib.Dec.{eqb}
 use Rattle.data.proofs.Cases.{by-bool}
 use Rattle.scalar.specs.Digits.{is-digit, digit-run, value}
 use Rattle.scalar.specs.Float.{tail-of, f64-read}
-use Rattle.scalar.specs.Kind.{kind-by-size, kind-of-digits, kind-unpointed, some-digit, kind-pointed, kind-after-point, kind-after-sign}
+use Rattle.scalar.specs.Kind.{kind-above, kind-by-size, kind-of-digits, kind-unpointed, some-digit, kind-pointed, kind-after-point, kind-after-sign}
 use Rattle.scalar.specs.Kind.{number-or-name, kind-of}
 use Rattle.scalar.specs.Numbers.{answered, precision-loss, bool-refusal-of, i64-refusal-of, f64-refusal-of}
 use Rattle.scalar.specs.Numbers.{kind-bool, kind-whole, kind-decimal, kind-name, kind-number-of}
@@ -177,6 +177,6 @@ worded d = record {
 -- ---- of the edges, by computation
 
 pub edges-hold : Edges-hold
-unfolding bytes edges same is-digit digit-run value tail-of kind-by-size kind-of-digits kind-unpointed some-digit kind-pointed kind-after-point
+unfolding bytes edges same is-digit digit-run value tail-of kind-above kind-by-size kind-of-digits kind-unpointed some-digit kind-pointed kind-after-point
     kind-after-sign number-or-name kind-of
 edges-hold = refl

@@ -1,6 +1,6 @@
 -- Laws of the kinds: each case, by the form and the size that lead to it.
 -- Assumes nothing.
-use mathlib.Core.Path.{_≡_, refl}
+use mathlib.Core.Path.{_≡_, refl, _∙_, ap}
 use mathlib.Core.Bool.{Bool, true, false}
 use mathlib.Core.List.{List, [], _∷_}
 use Prim.Native.Nat.{ℕ, _+_, _%_, _^_, _≤_, _<_}
@@ -11,32 +11,42 @@ use Rattle.data.proofs.Cases.{by-bool}
 use Rattle.data.specs.Bytes.{plus, minus}
 use Rattle.scalar.specs.Digits.{digit-run, value, most-u64}
 use Rattle.scalar.specs.Float.{most-places, rest, tail-of}
-use Rattle.scalar.specs.Kind.{kind-by-size, kind-of-digits, kind-unpointed, some-digit, kind-pointed, kind-after-point, kind-after-sign}
+use Rattle.scalar.specs.Kind.{kind-above, kind-by-size, kind-of-digits, kind-unpointed, some-digit, kind-pointed, kind-after-point, kind-after-sign}
 use Rattle.scalar.specs.Kind.{number-or-name, kind-of}
 use Rattle.scalar.specs.Truth.{yes, no, same, bool-read}
 use Rattle.scalar.specs.Whole.{most-i64, has-tail}
 use Rattle.scalar.specs.declared.float.Tail.the-variants.{End, Point, Other}
 use Rattle.scalar.specs.declared.kinds.ReadingKind.the-variants.{Bool as Truth, Whole, Decimal, Name}
+use Rattle.scalar.specs.declared.kinds.ReadingKind.{ReadingKind}
 use Rattle.scalar.specs.declared.truth.BoolRead.the-variants.{Is, InvalidBool}
 
 -- ---- without a point
 
+-- by whether it is at most 2^63 - 1
+abbrev sized : Bool → ℕ → Bool → ReadingKind
+sized negative n t = elim t [ true ↦ Whole | false ↦ kind-above negative n ]
+
+-- and by whether it is at most 2^64 - 1
+abbrev sized-above : Bool → ReadingKind
+sized-above t = elim t [ true ↦ Decimal | false ↦ Name ]
+
 pub size-whole : (negative : Bool) (n : ℕ) → n ≤ most-i64 → kind-by-size negative n ≡ Whole
 unfolding kind-by-size
-size-whole negative n h = rw (kind-by-size, le-leb n most-i64 h)
+size-whole negative n h = ap (sized negative n) (le-leb n most-i64 h)
 
 pub size-negative : (negative : Bool) (n : ℕ) → most-i64 < n → negative ≡ true → kind-by-size negative n ≡ Name
 unfolding kind-by-size
-size-negative negative n h e = rw (kind-by-size, lt-leb n most-i64 h, e)
+size-negative negative n h e = ap (sized negative n) (lt-leb n most-i64 h) ∙ ap (λ (t : Bool). kind-above t n) e
 
 pub size-decimal : (negative : Bool) (n : ℕ) → most-i64 < n → n ≤ most-u64 → negative ≡ false → kind-by-size negative n ≡ Decimal
 unfolding kind-by-size
-size-decimal negative n h k e = rw (kind-by-size, lt-leb n most-i64 h, e, le-leb n most-u64 k)
+size-decimal negative n h k e =
+    ap (sized negative n) (lt-leb n most-i64 h) ∙ ap (λ (t : Bool). kind-above t n) e ∙ ap sized-above (le-leb n most-u64 k)
 
 pub size-past : (negative : Bool) (n : ℕ) → most-u64 < n → kind-by-size negative n ≡ Name
 unfolding kind-by-size
 size-past true n h = size-negative true n (omega arith) refl
-size-past false n h = rw (kind-by-size, lt-leb n most-i64 (omega arith), lt-leb n most-u64 h)
+size-past false n h = ap (sized false n) (lt-leb n most-i64 (omega arith)) ∙ ap sized-above (lt-leb n most-u64 h)
 
 -- a sign alone
 pub digits-none : (negative : Bool) (digits : List ℕ) → length digits ≡ 0 → kind-of-digits negative digits ≡ Name

@@ -14,13 +14,15 @@ use Rattle.scalar.specs.declared.float.Tail.the-variants.{End, Point, Ot
 use Rattle.scalar.specs.declared.kinds.ReadingKind.the-variants as Kind
 use Rattle.scalar.specs.declared.kinds.ReadingKind.{ReadingKind}
 
--- a number without a point: whole up to 2^63 - 1; above that no number under a minus, and else a decimal up to 2^64 - 1
+-- a number without a point, above 2^63 - 1: none under a minus, and else a decimal up to 2^64 - 1
+unfoldable pub kind-above : Bool → ℕ → ReadingKind
+kind-above true n = Kind.Name
+kind-above false n = elim (leb n most-u64) [ true ↦ Kind.Decimal | false ↦ Kind.Name ]
+
+-- and whole up to there
 unfoldable pub kind-by-size : Bool → ℕ → ReadingKind
-kind-by-size negative n =
-    elim (leb n most-i64) [
-      | true ↦ Kind.Whole
-      | false ↦ elim negative [ true ↦ Kind.Name | false ↦ elim (leb n most-u64) [ true ↦ Kind.Decimal | false ↦ Kind.Name ] ]
-    ]
+unfolding kind-above
+kind-by-size negative n = elim (leb n most-i64) [ true ↦ Kind.Whole | false ↦ kind-above negative n ]
 
 -- its digits: a sign alone is no number
 unfoldable pub kind-of-digits : Bool → List ℕ → ReadingKind
