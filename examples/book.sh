@@ -17,7 +17,8 @@ fi
 # 1: refused. 3: the system refused. 4: no such value. Each was said on standard error.
 values=$(tackacorn get "$save" "$@") || exit
 
-# All of them or none: 'Whole > 10' is no amount, nor is the Name 109E4, and a lone '-' is a Whole without a digit.
+# All of them or none: 'Whole > 10' is no amount, nor are the Names 109E4, 109f and '-'; nor is here a number with a
+# sign or an 'f', or of more digits than an amount has.
 if printf '%s\n' "$values" | grep -qvxE '(Whole|Decimal) [0-9]{1,15}(\.[0-9]{1,3})?'; then
     echo "$save: not all of these are amounts: $(printf '%s' "$values" | tr '\n' ',')" >&2
     exit 1

@@ -14,7 +14,7 @@ static uint8_t *read_all(size_t *length) {
     return ferror(stdin) ? NULL : text;
 }
 
-/* What a token is called: a quoted scalar as such, another by what its bytes read as. */
+/* What a token is called: a quoted scalar as such, another by its kind. */
 static const char *name(uint32_t code, const uint8_t *bytes, size_t size) {
     static const char *const kinds[] = {"", "Bool", "Whole", "Decimal", "Name"};
     return code == TACKACORN_QUOTED          ? "Quoted"

@@ -56,7 +56,7 @@ private:
     std::uint32_t count = 0, bom = 0;
 };
 
-// What a scalar is called: a quoted one as such, another by what its bytes read as.
+// What a scalar is called: a quoted one as such, another by its kind.
 static const char *name(std::uint32_t code, std::string_view view) {
     static const char *const kinds[] = {"", "Bool", "Whole", "Decimal", "Name"};
     if (code == TACKACORN_QUOTED || code == TACKACORN_QUOTED_ESCAPE) {

@@ -16,6 +16,6 @@ if refusal:
 for code, a, b in zip(*[iter(tape[: 3 * count.value])] * 3):
     if code in (4, 5, 6, 7, 10, 11):  # a scalar: a is its offset, b its length
         scalar = text[a : a + b]
-        read_as = ("", "Bool", "Whole", "Decimal", "Name")[library.tackacorn_kind(scalar, b)]
-        kind = {5: "Quoted", 11: "QuotedEscape"}.get(code, read_as)
+        unquoted = ("", "Bool", "Whole", "Decimal", "Name")[library.tackacorn_kind(scalar, b)]
+        kind = {5: "Quoted", 11: "QuotedEscape"}.get(code, unquoted)
         sys.stdout.buffer.write(f"{kind} ".encode() + scalar + b"\n")

@@ -12,7 +12,9 @@
  *    TACKACORN_QUOTED_ESCAPE. A program that asks for the first alone passes over "Flotte \"Nord\"", and
  *    one that asks for codes up to TACKACORN_HEADER too. The bytes stand as in the save: to show a
  *    name, drop each backslash and keep the byte behind it.
- *  - tackacorn_to_f64 takes "18446744073709551616.5" for 0.5. See there for why, and for what to do.
+ *  - tackacorn_to_f64 takes "18446744073709551616.5" for 0.5. See there for why, and for what to do. It
+ *    takes the airframe "109f" for 109, and tackacorn_to_i64 takes "-" for 0: ask tackacorn_kind first,
+ *    to which these are names.
  *  - A text save of the game begins with a line like "HOI4txt", which is no part of the format: the
  *    parser takes it for a key, and what follows for something else than it is. Before you parse, write
  *    spaces over that line, so that every offset stays the file's; or pass the text behind the line and
@@ -65,7 +67,7 @@ extern "C" {
  * The first part rises where a program that was built with an older header would read a tape wrongly, and
  * with it the name of the shared library; the second where something is added; the third else. */
 #define TACKACORN_VERSION "2.2.1"
-#define TACKACORN_VERSION_NUMBER 20200
+#define TACKACORN_VERSION_NUMBER 20201
 
 /* The most bytes that a text may have. */
 #define TACKACORN_TEXT_LIMIT 16777215
@@ -385,8 +387,8 @@ uint32_t tackacorn_to_f64(const uint8_t *scalar, size_t length, double *value);
 /* What an unquoted scalar is, a tackacorn_scalar_kind, by its form and size alone. 'yes' and 'no' are a Bool.
  * A number is an optional sign, digits and at most one point, with at least one digit; an 'f' may close it
  * only where there is a point. Without a point it is Whole up to 2^63 - 1, and Decimal above that, up to
- * 2^64 - 1 and never with a minus. With a point it is Decimal, of any digits before it and up to 22 behind
- * it, as to_f64 bounds them. All else is a Name.
+ * 2^64 - 1 and never with a minus. With a point it is Decimal where at most 22 digits stand behind it and
+ * to_f64 does not answer OVERFLOW. All else is a Name.
  *
  * So "10.0f", "5." and ".5" are Decimals, and "109f", "109E4", "-", "+" and "." are Names. What is Whole
  * to_i64 answers, and what is a Decimal to_f64 answers or gives PRECISION_LOSS. The readings take more for

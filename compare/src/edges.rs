@@ -1,4 +1,4 @@
-//! Document 01's own cases, 'Both sides of each edge', and both sides of its other sentences, and behind
+//! Document 01's own cases, 'Both sides of each edge', and both sides of its other sentences, and with
 //! them those of the requests W2, W5 and W1: every run and the sample begin with them.
 
 use crate::numbers::*;

@@ -7,7 +7,7 @@ const SIGNS: &[u8] = b"019+-.fE_yn";
 /// The bytes that tell the kinds apart.
 const KIND_SIGNS: &[u8] = b"+-.09fexysno";
 
-/// The scalar of this number among all of up to so many signs, or how many these are less than it.
+/// The scalar of this number among all of up to so many signs, or how far the number is past the last of them.
 fn spelt(signs: &[u8], longest: u32, number: usize) -> Result<Vec<u8>, usize> {
     let mut left = number;
     for length in 0..=longest {

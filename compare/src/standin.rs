@@ -1,6 +1,6 @@
 //! The model's answers, for testing the comparison, and the faults that it can be given.
 
-use crate::kind;
+use crate::kind::{self, NoNumber};
 use crate::model::{self, F64Refusal, Refusal};
 use crate::model_file::{self, Fault as FileFault};
 use crate::model_writer::{self, Fault as WriterFault};
@@ -15,7 +15,8 @@ fn readings(bytes: &[u8], wrong: Option<WrongKind>) -> String {
     };
     let yes = reading(model::to_bool(bytes).map(u8::from));
     let (whole, signed) = (reading(model::to_u64(bytes)), reading(model::to_i64(bytes)));
-    let kind = wrong.map_or_else(|| model::kind(bytes), |wrong| wrong(bytes, model::kind(bytes)));
+    let right = model::kind(bytes);
+    let kind = wrong.map_or(right, |wrong| wrong(bytes, right));
     format!("{yes} {whole} {signed} {float} {kind}\n")
 }
 
@@ -102,7 +103,7 @@ pub const FAULTS: [Fault; 57] = [
         Wrong::Answer(|right| right.replace("view \n", &format!("refused {NO_SCALAR}\n"))),
     ),
     ("kind_by_readings", Wrong::Kind(|bytes, _| kind::by_readings(bytes))),
-    ("bare_f_a_decimal", Wrong::Kind(|bytes, right| given(right, DECIMAL, bytes == b"109f"))),
+    ("bare_f_a_decimal", Wrong::Kind(|bytes, right| given(right, DECIMAL, is_bare(bytes)))),
     ("lone_minus_whole", Wrong::Kind(|bytes, right| given(right, WHOLE, bytes == b"-"))),
     ("lone_point_a_decimal", Wrong::Kind(|bytes, right| given(right, DECIMAL, bytes == b"."))),
     ("point_first_a_name", Wrong::Kind(|bytes, right| given(right, NAME, bytes.starts_with(b".")))),
@@ -158,6 +159,12 @@ pub const FAULTS: [Fault; 57] = [
 /// Another kind than the right one, where a test holds.
 fn given(right: u8, other: u8, test: bool) -> u8 {
     if test { other } else { right }
+}
+
+/// Whether an `f` closes a number without a point.
+fn is_bare(bytes: &[u8]) -> bool {
+    let why = kind::no_number(bytes);
+    why == Some(NoNumber::ClosedWithoutPoint) && kind::by_readings(bytes) == DECIMAL
 }
 
 /// A name as it stands in a line of the dump.

@@ -1,5 +1,5 @@
-//! What a run reached: cases by kind, refusals, token codes, operators, escapes, readings, faults of
-//! sheets, what sheets that were to be written out came to, and what became of sheets to put on file and of
+//! What a run reached: cases by kind, refusals, token codes, operators, escapes, readings, numbers of document 01
+//! that are names now, faults of sheets, what sheets that were to be written out came to, and what became of sheets to put on file and of
 //! files to read.
 
 use crate::file::{self, Cause};

@@ -69,8 +69,8 @@ pub enum ReadingKind {
     Bool = 1,
     /// An optional sign and digits, at least one, up to 2^63 - 1: `to_i64` reads it
     Whole = 2,
-    /// Without a point and a minus up to 2^64 - 1; or with a point and a digit on one side of it, and perhaps a
-    /// closing `f`, as far as `to_f64` reads it, a loss of precision included
+    /// Digits without a point above that, up to 2^64 - 1 and never with a minus, which `to_f64` reads with a loss
+    /// of precision; or digits about a point, at least one, and perhaps a closing `f`, as far as `to_f64` reads them
     Decimal = 3,
     /// All else
     Name = 4,
@@ -114,7 +114,7 @@ impl ReadingKind {
 /// | `+f` and `-f` | `AllDigits` | `AllDigits` | 0.0 |
 /// | `f` and nothing | `AllDigits` | `AllDigits` | `AllDigits` |
 ///
-/// Where a number must have one, ask for it: `scalar.as_bytes().iter().any(u8::is_ascii_digit)`.
+/// Where a number must have one, ask for the [`kind`](Scalar::kind) first: none of these is a number to it.
 #[derive(PartialEq, Eq, Copy, Clone)]
 pub struct Scalar<'a> {
     data: &'a [u8],

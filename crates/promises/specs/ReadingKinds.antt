@@ -108,7 +108,7 @@ pub record Differ (d : List ℕ) : Type 0 where
   pub exactly : (old-number d ≡ new-number d → ⊥) ↔ ((is-number (old-number d) ≡ true) × ((not (has-digit d) || bare-f d) ≡ true))
   pub there : (old-number d ≡ new-number d → ⊥) → new-number d ≡ kind-name
 
--- each kind in the readings' words
+-- Bool, Whole and Decimal in the readings' words; a Name is what is none of them
 pub record Worded (d : List ℕ) : Type 0 where
   pub bool : (new-number d ≡ kind-bool) ↔ (bool-answers d ≡ true)
   pub whole : (new-number d ≡ kind-whole) ↔ ((i64-answers d ≡ true) × (has-digit d ≡ true))

@@ -14,12 +14,12 @@ use Rattle.scalar.specs.declared.float.Tail.the-variants.{End, Point, Ot
 use Rattle.scalar.specs.declared.kinds.ReadingKind.the-variants as Kind
 use Rattle.scalar.specs.declared.kinds.ReadingKind.{ReadingKind}
 
--- a number without a point, above 2^63 - 1: none under a minus, and else a decimal up to 2^64 - 1
+-- a number without a point above 2^63 - 1: under a minus a name, and else a decimal up to 2^64 - 1
 unfoldable pub kind-above : Bool → ℕ → ReadingKind
 kind-above true n = Kind.Name
 kind-above false n = elim (leb n most-u64) [ true ↦ Kind.Decimal | false ↦ Kind.Name ]
 
--- and whole up to there
+-- up to there it is whole
 unfoldable pub kind-by-size : Bool → ℕ → ReadingKind
 unfolding kind-above
 kind-by-size negative n = elim (leb n most-i64) [ true ↦ Kind.Whole | false ↦ kind-above negative n ]
@@ -41,8 +41,8 @@ some-digit [] [] = false
 some-digit [] (b ∷ fraction) = true
 some-digit (b ∷ whole) fraction = true
 
--- the digits before a point and those after it: one or more in all, at most 22 after it, and the first, gathered modulo 2^64, carried on through
--- the others to at most 2^64 - 1
+-- the digits before a point and those after it: one or more in all, at most 22 after it, and those before it, gathered modulo 2^64, carried on
+-- through those after it to at most 2^64 - 1
 unfoldable pub kind-pointed : List ℕ → List ℕ → ReadingKind
 unfolding value some-digit
 kind-pointed whole fraction =
@@ -60,7 +60,7 @@ unfolding digit-run tail-of kind-pointed
 kind-after-point whole s =
     elim (tail-of (rest s)) [ End ↦ kind-pointed whole (digit-run s) | Point ↦ Kind.Name | Other ↦ Kind.Name ]
 
--- after a sign: digits, and a point or nothing
+-- after a sign: digits, and then nothing or a point
 unfoldable pub kind-after-sign : Bool → List ℕ → ReadingKind
 unfolding digit-run tail-of kind-unpointed kind-after-point
 kind-after-sign negative s =

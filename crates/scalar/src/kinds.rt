@@ -1,4 +1,4 @@
-// The kind of a scalar, by its form and its size: no number is read for it.
+// The kind of a scalar, by its form and its size: neither the i64 nor the f64 is read for it.
 use crate::digits::Gathered;
 use crate::digits::exceeds;
 use crate::digits::gather;
