@@ -1,6 +1,6 @@
 -- Laws of the kinds: each case, by the form and the size that lead to it.
 -- Assumes nothing.
-use mathlib.Core.Path.{_≡_, refl, _∙_, ap}
+use mathlib.Core.Path.{_≡_, refl, sym, _∙_, ap}
 use mathlib.Core.Bool.{Bool, true, false}
 use mathlib.Core.List.{List, [], _∷_}
 use Prim.Native.Nat.{ℕ, _+_, _%_, _^_, _≤_, _<_}
@@ -163,14 +163,11 @@ truth d b e =
     (λ t. rw (kind-of, f, t))
     (λ g. absurd (none-answered (rw (bool-read, f, g) at e))))
 
-answers : {b : Bool} → Is b ≡ InvalidBool → ⊥
-answers e = let z : _≡_ {A = ℕ} 0 1 = cc in omega arith
-
 pub no-truth : (d : List ℕ) → bool-read d ≡ InvalidBool → kind-of d ≡ number-or-name d
 unfolding bool-read kind-of
 no-truth d e =
     by-bool (same d yes)
-    (λ t. absurd (answers (rw (bool-read, t) at e)))
+    (λ t. absurd (none-answered (sym (rw (bool-read, t) at e))))
     (λ f. by-bool (same d no)
-    (λ t. absurd (answers (rw (bool-read, f, t) at e)))
+    (λ t. absurd (none-answered (sym (rw (bool-read, f, t) at e))))
     (λ g. rw (kind-of, f, g)))

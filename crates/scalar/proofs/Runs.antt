@@ -37,6 +37,16 @@ pub run-ends : (d : List ℕ) (i : ℕ) → length d ≤ i → digit-run (drop i
 unfolding digit-run
 run-ends d i h = rw (drop-of-length-le d h)
 
+-- a digit in front begins the run
+pub run-digit : (b : ℕ) (s : List ℕ) → is-digit b ≡ true → digit-run (b ∷ s) ≡ b ∷ digit-run s
+unfolding digit-run
+run-digit b s e = rw (digit-run, e)
+
+-- any other byte in front leaves none
+pub run-other : (b : ℕ) (s : List ℕ) → is-digit b ≡ false → digit-run (b ∷ s) ≡ []
+unfolding digit-run
+run-other b s e = rw (digit-run, e)
+
 -- a run is no longer than what it is a run of
 pub run-length : (s : List ℕ) → length (digit-run s) ≤ length s
 unfolding digit-run

@@ -24,9 +24,8 @@ use Rattle.scalar.proofs.Floats.{after-point-end, after-point-point, after-poin
 use Rattle.scalar.proofs.Forms.{size-whole, size-negative, size-decimal, size-past, digits-none, digits-some, unpointed-tail, unpointed-digits}
 use Rattle.scalar.proofs.Forms.{pointed-none, pointed-long, pointed-past, pointed-is, point-end, point-point, point-other, sign-end, sign-point, sign-other}
 use Rattle.scalar.proofs.Wholes.{i64-past, i64-is, read-tail, read-is, read-past}
-use Rattle.promises.specs.ReadingKinds.{kind-by-f64, kind-by-i64}
-use Rattle.promises.specs.ReadingKinds.{has-digit, bare-f}
-use Rattle.promises.proofs.ReadingKinds.Tails.{by-tail, apart, beside, untailed-end, tailed, plain, closed, pointed-bare, ended-digit, pointed-digit}
+use Rattle.promises.specs.ReadingKinds.{kind-by-f64, kind-by-i64, has-digit, bare-f}
+use Rattle.promises.proofs.ReadingKinds.Tails.{by-tail, tail-number, untailed-end, tailed, plain, closed, pointed-bare, ended-digit, pointed-digit}
 
 -- ---- the i64 reading, after a sign
 
@@ -187,13 +186,13 @@ after-point negative s e =
     t = drop 1 (rest s)
 
     before : old-after negative s ≡ kind-by-f64 (after-point-of negative (value 0 (digit-run s) % 2 ^ 64) t)
-    before = old-tail negative s (tailed s (λ h. apart h e)) ∙ ap kind-by-f64 (digits-point negative s e)
+    before = old-tail negative s (tailed s (λ h. omega (arith, ap tail-number (sym h ∙ e)))) ∙ ap kind-by-f64 (digits-point negative s e)
 
 -- anything else follows
 after-other : (negative : Bool) (s : List ℕ) → tail-of (rest s) ≡ Other → kind-after-sign negative s ≡ unless (no-number s) (old-after negative s)
 after-other negative s e =
     unless-both (no-number s) _ _ (sign-other negative s e)
-    (old-tail negative s (tailed s (λ h. beside e h)) ∙ ap kind-by-f64 (digits-other negative s e))
+    (old-tail negative s (tailed s (λ h. omega (arith, ap tail-number (sym h ∙ e)))) ∙ ap kind-by-f64 (digits-other negative s e))
 
 pub after-sign : (negative : Bool) (s : List ℕ) → kind-after-sign negative s ≡ unless (no-number s) (old-after negative s)
 after-sign negative s = by-tail (tail-of (rest s)) (after-end negative s) (after-point negative s) (after-other negative s)

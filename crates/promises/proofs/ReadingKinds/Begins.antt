@@ -20,13 +20,12 @@ use Rattle.scalar.specs.declared.kinds.ReadingKind.the-variants as Kind
 use Rattle.scalar.specs.declared.whole.I64Read.the-variants as I64
 use Rattle.scalar.specs.declared.whole.I64Read.{I64Read}
 use Rattle.scalar.proofs.Floats.{f64-none, f64-minus, f64-plus, f64-bare, f64-other}
-use Rattle.scalar.proofs.Forms.{unpointed-tail}
-use Rattle.scalar.proofs.Forms.{sign-end, sign-other}
-use Rattle.scalar.proofs.Forms.{nothing, after-minus, after-plus, unsigned}
+use Rattle.scalar.proofs.Forms.{unpointed-tail, sign-end, sign-other, nothing, after-minus, after-plus, unsigned}
+use Rattle.scalar.proofs.Gathers.{tail-here}
+use Rattle.scalar.proofs.Runs.{run-other}
 use Rattle.scalar.proofs.Wholes.{i64-none, i64-minus, i64-plus, i64-bare, i64-other, read-none}
-use Rattle.promises.specs.ReadingKinds.{kind-by-i64}
-use Rattle.promises.specs.ReadingKinds.{i64-answers, has-digit, bare-f}
-use Rattle.promises.proofs.ReadingKinds.Tails.{run-other, rest-other, tail-other, by-tail, point-is, passed, bare-past, plain}
+use Rattle.promises.specs.ReadingKinds.{kind-by-i64, i64-answers, has-digit, bare-f}
+use Rattle.promises.proofs.ReadingKinds.Tails.{rest-other, by-tail, point-is, passed, bare-past, plain}
 use Rattle.promises.proofs.ReadingKinds.AfterSign.{i64-after, past-is, tail-is, i64-is-after, no-number, unless, unless-both, after-sign}
 
 -- ---- how a scalar begins
@@ -90,7 +89,7 @@ point-begins b s h k e p = record {
   after = b ∷ s;
   whole =
       read-none (b ∷ s) (i64-other b s h k e)
-      ∙ sym (tail-is false (b ∷ s) (ap (λ (r : List ℕ). ltb most-i64 (value 0 r)) (run-other b s e)) (tail-other b s e));
+      ∙ sym (tail-is false (b ∷ s) (ap (λ (r : List ℕ). ltb most-i64 (value 0 r)) (run-other b s e)) (tail-here b s e));
   float = f64-bare b s h k (rw (begins, e, eq-eqb b point p));
   form = unsigned b s h k;
   digit = refl;
@@ -108,7 +107,7 @@ other-alien b s h k e p = record {
   form =
       unsigned b s h k
       ∙ by-tail (tail-of (rest (b ∷ s)))
-      (λ t. sign-end false (b ∷ s) t ∙ unpointed-tail false (b ∷ s) (tail-other b s e))
+      (λ t. sign-end false (b ∷ s) t ∙ unpointed-tail false (b ∷ s) (tail-here b s e))
       (λ t. absurd (p (point-is b s (ap tail-of (sym (rest-other b s e)) ∙ t))))
       (λ t. sign-other false (b ∷ s) t);
 }

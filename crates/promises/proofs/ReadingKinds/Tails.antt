@@ -4,10 +4,10 @@
 use mathlib.Core.Path.{_≡_, refl, sym, _∙_, ap}
 use mathlib.Core.Bool.{Bool, true, false, not, _&&_, _||_, false≢true}
 use mathlib.Core.List.{List, [], _∷_}
-use Prim.Native.Nat.{ℕ, suc}
+use Prim.Native.Nat.{ℕ}
 use native.Mathlib.Omega.{arith}
-use borrow.Author.Tests.{eq-eqb, ne-eqb, eqb-true, lt-ltb, le-ltb, ltb-true, ltb-false}
-use lib.Dec.{eqb, ltb}
+use borrow.Author.Tests.{eq-eqb, ne-eqb, eqb-true, ltb-false}
+use lib.Dec.{eqb}
 use lib.ListN.{length, drop, drop-of-length-le}
 use Rattle.data.proofs.Cases.{by-bool}
 use Rattle.data.specs.Bytes.{point, letter-f}
@@ -17,36 +17,17 @@ use Rattle.scalar.specs.Kind.{some-digit}
 use Rattle.scalar.specs.Whole.{has-tail}
 use Rattle.scalar.specs.declared.float.Tail.the-variants.{End, Point, Other}
 use Rattle.scalar.specs.declared.float.Tail.{Tail}
-use Rattle.scalar.proofs.Runs.{digit-bounds}
+use Rattle.scalar.proofs.Gathers.{tail-on, tail-here}
+use Rattle.scalar.proofs.Runs.{digit-bounds, run-digit, run-other}
 use Rattle.promises.specs.ReadingKinds.{holds, has-digit, has-point, ends-in-f, bare-f}
 
 -- ---- the digits in front
-
-run-digit : (b : ℕ) (s : List ℕ) → is-digit b ≡ true → digit-run (b ∷ s) ≡ b ∷ digit-run s
-unfolding digit-run
-run-digit b s e = rw (digit-run, e)
-
-pub run-other : (b : ℕ) (s : List ℕ) → is-digit b ≡ false → digit-run (b ∷ s) ≡ []
-unfolding digit-run
-run-other b s e = rw (digit-run, e)
 
 rest-digit : (b : ℕ) (s : List ℕ) → is-digit b ≡ true → rest (b ∷ s) ≡ rest s
 rest-digit b s e = ap (λ (r : List ℕ). drop (length r) (b ∷ s)) (run-digit b s e)
 
 pub rest-other : (b : ℕ) (s : List ℕ) → is-digit b ≡ false → rest (b ∷ s) ≡ b ∷ s
 rest-other b s e = ap (λ (r : List ℕ). drop (length r) (b ∷ s)) (run-other b s e)
-
-ltb-suc : (m n : ℕ) → ltb (suc m) (suc n) ≡ ltb m n
-ltb-suc m n =
-    by-bool (ltb m n)
-    (λ t. lt-ltb (suc m) (suc n) (omega (arith, ltb-true m n t)) ∙ sym t)
-    (λ f. le-ltb (suc m) (suc n) (omega (arith, ltb-false m n f)) ∙ sym f)
-
-tail-digit : (b : ℕ) (s : List ℕ) → is-digit b ≡ true → has-tail (b ∷ s) ≡ has-tail s
-tail-digit b s e = ap (λ (r : List ℕ). ltb (length r) (suc (length s))) (run-digit b s e) ∙ ltb-suc (length (digit-run s)) (length s)
-
-pub tail-other : (b : ℕ) (s : List ℕ) → is-digit b ≡ false → has-tail (b ∷ s) ≡ true
-tail-other b s e = ap (λ (r : List ℕ). ltb (length r) (suc (length s))) (run-other b s e) ∙ lt-ltb 0 (suc (length s)) (omega arith)
 
 -- ---- what stands after them
 
@@ -55,32 +36,29 @@ by-tail End end point other = end refl
 by-tail Point end point other = point refl
 by-tail Other end point other = other refl
 
-pub apart : {t : Tail} → t ≡ End → t ≡ Point → ⊥
-apart e f = let z : _≡_ {A = ℕ} 0 1 = cc in omega arith
-
-pub beside : {t : Tail} → t ≡ Other → t ≡ End → ⊥
-beside e f = let z : _≡_ {A = ℕ} 0 1 = cc in omega arith
-
-behind : {t : Tail} → t ≡ Other → t ≡ Point → ⊥
-behind e f = let z : _≡_ {A = ℕ} 0 1 = cc in omega arith
+-- the three by a number, so that no two of them are one
+abbrev pub tail-number : Tail → ℕ
+tail-number End = 0
+tail-number Point = 1
+tail-number Other = 2
 
 f-closes : (s : List ℕ) → after-f s ≡ End → s ≡ []
 f-closes [] e = refl
-f-closes (b ∷ s) e = absurd (beside refl e)
+f-closes (b ∷ s) e = absurd (omega (arith, ap tail-number e))
 
 no-point-after-f : (s : List ℕ) → after-f s ≡ Point → ⊥
-no-point-after-f [] e = apart refl e
-no-point-after-f (b ∷ s) e = behind refl e
+no-point-after-f [] e = omega (arith, ap tail-number e)
+no-point-after-f (b ∷ s) e = omega (arith, ap tail-number e)
 
 -- one byte that ends them is an `f`, and the last
 end-is : (b : ℕ) (s : List ℕ) → tail-of (b ∷ s) ≡ End → (b ≡ letter-f) × (s ≡ [])
 unfolding tail-of
 end-is b s e =
     by-bool (eqb b point)
-    (λ t. absurd (apart (rw (tail-of, t) at e) refl))
+    (λ t. absurd (omega (arith, ap tail-number (rw (tail-of, t) at e))))
     (λ f. by-bool (eqb b letter-f)
     (λ t. (eqb-true b letter-f t, f-closes s (rw (tail-of, f, t) at e)))
-    (λ g. absurd (beside refl (rw (tail-of, f, g) at e))))
+    (λ g. absurd (omega (arith, ap tail-number (rw (tail-of, f, g) at e)))))
 
 pub point-is : (b : ℕ) (s : List ℕ) → tail-of (b ∷ s) ≡ Point → b ≡ point
 unfolding tail-of
@@ -89,7 +67,7 @@ point-is b s e =
     (λ t. eqb-true b point t)
     (λ f. by-bool (eqb b letter-f)
     (λ t. absurd (no-point-after-f s (rw (tail-of, f, t) at e)))
-    (λ g. absurd (behind refl (rw (tail-of, f, g) at e))))
+    (λ g. absurd (omega (arith, ap tail-number (rw (tail-of, f, g) at e)))))
 
 -- where nothing is left over, that is the end
 pub untailed-end : (s : List ℕ) → has-tail s ≡ false → tail-of (rest s) ≡ End
@@ -124,8 +102,8 @@ unfolding ends-in-f
 plain [] e = refl
 plain (b ∷ s) e =
     by-bool (is-digit b)
-    (λ t. digit-past b s t ∙ plain s (sym (tail-digit b s t) ∙ e))
-    (λ f. absurd (false≢true (sym e ∙ tail-other b s f)))
+    (λ t. digit-past b s t ∙ plain s (sym (tail-on b s t) ∙ e))
+    (λ f. absurd (false≢true (sym e ∙ tail-here b s f)))
 
 -- digits that something ends, and no point, end in an `f`
 pub closed : (s : List ℕ) → tail-of (rest s) ≡ End → has-tail s ≡ true → bare-f s ≡ true
@@ -133,13 +111,13 @@ unfolding digit-run ends-in-f holds
 closed [] e h = absurd (false≢true h)
 closed (b ∷ s) e h =
     by-bool (is-digit b)
-    (λ t. digit-past b s t ∙ closed s (ap tail-of (sym (rest-digit b s t)) ∙ e) (sym (tail-digit b s t) ∙ h))
+    (λ t. digit-past b s t ∙ closed s (ap tail-of (sym (rest-digit b s t)) ∙ e) (sym (tail-on b s t) ∙ h))
     (λ f. let parts = end-is b s (ap tail-of (sym (rest-other b s f)) ∙ e) in λ j. bare-f (parts .0 j ∷ parts .1 j))
 
 -- digits with a point behind them hold a point
 pointed-holds : (s : List ℕ) → tail-of (rest s) ≡ Point → has-point s ≡ true
 unfolding digit-run tail-of
-pointed-holds [] e = absurd (apart refl e)
+pointed-holds [] e = absurd (omega (arith, ap tail-number e))
 pointed-holds (b ∷ s) e =
     by-bool (is-digit b)
     (λ t. passed (λ x. eqb x point) b s (ne-eqb b point (λ p. omega (arith, digit-bounds b t)))
@@ -173,7 +151,7 @@ either-side (b ∷ r) = refl
 pub pointed-digit : (s : List ℕ) → tail-of (rest s) ≡ Point → tail-of (rest (drop 1 (rest s))) ≡ End
     → has-digit s ≡ some-digit (digit-run s) (digit-run (drop 1 (rest s)))
 unfolding digit-run tail-of some-digit
-pointed-digit [] e h = absurd (apart refl e)
+pointed-digit [] e h = absurd (omega (arith, ap tail-number e))
 pointed-digit (b ∷ s) e h =
     by-bool (is-digit b)
     (λ t. seen is-digit b s t ∙ ap (λ (r : List ℕ). some-digit r (digit-run (drop 1 (rest (b ∷ s))))) (sym (run-digit b s t)))

@@ -7,12 +7,13 @@ use Prim.Native.Nat.{ℕ, suc, _-_, _*_, _%_, _^_, _≤_, _<_}
 use native.Mathlib.Nat.{mod-eq-of-lt, mod-lt, mod-add-mod, lt-of-lt-of-le}
 use native.Mathlib.Omega.{arith}
 use borrow.Author.Tests.{lt-ltb, le-ltb, le-leb, ltb-true, ltb-false, leb-false}
-use lib.Dec.{ltb, leb, leb·suc-suc}
+use lib.Dec.{ltb, leb}
 use lib.ListN.{length}
 use Rattle.data.proofs.Cases.{by-bool}
 use Rattle.scalar.specs.Digits.{is-digit, digit-run, carry, value, most-u64}
 use Rattle.scalar.specs.Float.{rest}
 use Rattle.scalar.specs.Whole.{has-tail}
+use Rattle.scalar.proofs.Gathers.{tail-on, tail-here}
 use Rattle.scalar.proofs.Runs.{digit-bounds, value-wraps, value-grows}
 use Rattle.rust_scalar.specs.RustReadings.{Outcome, Ok, Err, AllDigits, Overflow, _>>=_, checked-mul, checked-add, from-length, less, index, part-from}
 use Rattle.rust_scalar.specs.RustReadings.{is-ascii-digit, digit-of, one-more, to-u64-partial, one-more-checked, check-overflow-init, is-sign}
@@ -49,14 +50,6 @@ partial-is (b ∷ s) acc h =
 abbrev pub unless-tail : Bool → ℕ → Outcome ℕ
 unless-tail true total = Err AllDigits
 unless-tail false total = Ok total
-
-pub tail-on : (b : ℕ) (s : List ℕ) → is-digit b ≡ true → has-tail (b ∷ s) ≡ has-tail s
-unfolding digit-run
-tail-on b s e = rw (digit-run, e) (leb·suc-suc (suc (length (digit-run s))) (length s))
-
-pub tail-here : (b : ℕ) (s : List ℕ) → is-digit b ≡ false → has-tail (b ∷ s) ≡ true
-unfolding digit-run
-tail-here b s e = rw (digit-run, e) (lt-ltb 0 (suc (length s)) (omega arith))
 
 pub value-on : (b : ℕ) (s : List ℕ) (acc : ℕ) → is-digit b ≡ true → value acc (digit-run (b ∷ s)) ≡ value (carry acc b) (digit-run s)
 unfolding digit-run value

@@ -19,6 +19,7 @@ use Rattle.scalar.specs.Float.{rest}
 use Rattle.scalar.specs.Whole.{has-tail, u64-digits, u64-read, most-i64, signed, i64-digits, i64-part, i64-read}
 use Rattle.scalar.specs.declared.whole.I64Part.the-variants as Part
 use Rattle.scalar.specs.declared.whole.I64Part.{I64Part}
+use Rattle.scalar.proofs.Gathers.{tail-on, tail-here}
 use Rattle.scalar.proofs.Runs.{digit-bounds, number-below}
 use Rattle.scalar.proofs.Wholes.{u64-plus, u64-none, u64-bare, u64-tail, u64-past, u64-is, i64-none, i64-minus, i64-plus, i64-bare, i64-other, i64-past}
 use Rattle.scalar.proofs.Wholes.{i64-is, read-tail, read-is, read-none, read-past}
@@ -29,7 +30,7 @@ use Rattle.rust_scalar.specs.RustReadings.{i64-start}
 use Rattle.rust_scalar.specs.RustReadings.{times-sign}
 use Rattle.rust_scalar.specs.RustReadings.{to-i64-t, to-i64}
 use Rattle.rust_scalar.specs.RustReadingsAlike.{rust-u64, rust-i64-part, rust-i64}
-use Rattle.rust_scalar.proofs.RustReadings.Digits.{digit-same, digit-is, unless-tail, tail-on, tail-here, value-on, partial-is, all-digits-is, checked}
+use Rattle.rust_scalar.proofs.RustReadings.Digits.{digit-same, digit-is, unless-tail, value-on, partial-is, all-digits-is, checked}
 use Rattle.rust_scalar.proofs.RustReadings.Digits.{check-signed, check-bare, within, spared}
 
 -- `OVERFLOW_CUTOFF`, the number of digits of 2^64 - 1, is 20, and most checks are made from 19 on. What the proofs ask is that neither is more
