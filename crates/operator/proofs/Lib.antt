@@ -1,2 +1,3 @@
 pub mod Widths
 pub mod Numbers
+pub mod Tree

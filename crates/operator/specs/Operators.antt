@@ -64,33 +64,32 @@ symbol-of Exact = with-equals equals
 symbol-of Equal = one-byte equals
 symbol-of Exists = with-equals question
 
--- the two-byte operator where `=` follows, else the one-byte one
-abbrev pub bare-or-doubled : Bool → Operator → Operator → Sighted
-bare-or-doubled true bare long = Sign long 2
-bare-or-doubled false bare long = Sign bare 1
+-- a line of the decision: whether its first byte stands, whether its second does, and what stands there with both and with the first alone
+pub record Line : Type 0 where
+  pub first : Bool
+  pub second : Bool
+  pub both : Sighted
+  pub alone : Sighted
 
--- the two-byte operator where `=` follows, else none
-abbrev pub only-doubled : Bool → Operator → Sighted
-only-doubled true long = Sign long 2
-only-doubled false long = Nothing
+abbrev line : Bool → Bool → Sighted → Sighted → Line
+line first second both alone = record { first = first; second = second; both = both; alone = alone }
 
--- the operator that two bytes begin with: `<=` `<` `>=` `>` `!=` `?=` `==` `=`, or none
+-- what the first of some lines whose first byte stands tells, or nothing
+abbrev pub first-line : List Line → Sighted
+first-line [] = Nothing
+first-line (l ∷ ls) =
+    elim (l .first) [ true ↦ elim (l .second) [ true ↦ l .both | false ↦ l .alone ] | false ↦ first-line ls ]
+
+-- the decision by two bytes: `<=` `<` `>=` `>` `!=` `?=` `==` `=`
+abbrev pub decision : ℕ → ℕ → List Line
+decision first second =
+    line (eqb first less-than) (eqb second equals) (Sign LessThanEqual 2) (Sign LessThan 1)
+    ∷ line (eqb first greater-than) (eqb second equals) (Sign GreaterThanEqual 2) (Sign GreaterThan 1)
+    ∷ line (eqb first exclamation) (eqb second equals) (Sign NotEqual 2) Nothing
+    ∷ line (eqb first question) (eqb second equals) (Sign Exists 2) Nothing
+    ∷ line (eqb first equals) (eqb second equals) (Sign Exact 2) (Sign Equal 1)
+    ∷ []
+
+-- the operator that two bytes begin with, or none
 unfoldable pub sighted : ℕ → ℕ → Sighted
-sighted first second =
-    let doubled : Bool = eqb second equals in
-    elim (eqb first less-than) [
-      | true ↦ bare-or-doubled doubled LessThan LessThanEqual
-      | false ↦ elim (eqb first greater-than) [
-        | true ↦ bare-or-doubled doubled GreaterThan GreaterThanEqual
-        | false ↦ elim (eqb first exclamation) [
-          | true ↦ only-doubled doubled NotEqual
-          | false ↦ elim (eqb first question) [
-            | true ↦ only-doubled doubled Exists
-            | false ↦ elim (eqb first equals) [
-              | true ↦ bare-or-doubled doubled Equal Exact
-              | false ↦ Nothing
-            ]
-          ]
-        ]
-      ]
-    ]
+sighted first second = first-line (decision first second)

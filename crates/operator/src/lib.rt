@@ -1,6 +1,6 @@
 // The operators of the save format: eight kinds, their numbers and signs, and which of them stands at a place.
 ghost use mathlib.Core.Path.{_≡_};
-ghost use Rattle.operator.specs.Operators.{number-of, numbered, is-equal, symbol-of, sighted, bare-or-doubled, only-doubled};
+ghost use Rattle.operator.specs.Operators.{number-of, numbered, is-equal, symbol-of, sighted};
 
 pub enum Operator {
     LessThan,
@@ -136,54 +136,39 @@ pub fn operator_numbered(number: u32) -> Numbered
     Numbered::Nothing
 }
 
-// The operator that two bytes begin with, in the order of the Rust's tests; second is 0 at the text's end.
+// The operator that two bytes begin with, a line for each in the order of their numbers; `0..=b'<' | b'>'..=255` is every byte but `=`, the 0
+// that stands for the text's end among them.
 pub fn operator_at(first: u8, second: u8) -> Sighted
     ensures { λ r. ⌜ r ≡ sighted first second ⌝ }
 {
-    let doubled = second == b'=';
-    if first == b'<' {
-        return bare_or_doubled(doubled, Operator::LessThan, Operator::LessThanEqual);
-    }
-    if first == b'>' {
-        return bare_or_doubled(doubled, Operator::GreaterThan, Operator::GreaterThanEqual);
-    }
-    if first == b'!' {
-        return only_doubled(doubled, Operator::NotEqual);
-    }
-    if first == b'?' {
-        return only_doubled(doubled, Operator::Exists);
-    }
-    if first == b'=' {
-        return bare_or_doubled(doubled, Operator::Equal, Operator::Exact);
-    }
-    Sighted::Nothing
-}
-
-// One of two operators, by whether `=` follows.
-fn bare_or_doubled(doubled: bool, bare: Operator, long: Operator) -> Sighted
-    ensures { λ r. ⌜ r ≡ bare-or-doubled doubled bare long ⌝ }
-{
-    if doubled {
-        return Sighted::Sign {
-            operator: long,
-            width: 2,
-        };
-    }
-    Sighted::Sign {
-        operator: bare,
-        width: 1,
+    match first {
+        b'<' => match second {
+            0..=b'<' | b'>'..=255 => sign(Operator::LessThan, 1),
+            b'=' => sign(Operator::LessThanEqual, 2),
+        },
+        b'>' => match second {
+            0..=b'<' | b'>'..=255 => sign(Operator::GreaterThan, 1),
+            b'=' => sign(Operator::GreaterThanEqual, 2),
+        },
+        b'!' => match second {
+            b'=' => sign(Operator::NotEqual, 2),
+            0..=b'<' | b'>'..=255 => Sighted::Nothing,
+        },
+        b'=' => match second {
+            b'=' => sign(Operator::Exact, 2),
+            0..=b'<' | b'>'..=255 => sign(Operator::Equal, 1),
+        },
+        b'?' => match second {
+            b'=' => sign(Operator::Exists, 2),
+            0..=b'<' | b'>'..=255 => Sighted::Nothing,
+        },
+        0..=b' ' | b'"'..=b';' | b'@'..=255 => Sighted::Nothing,
     }
 }
 
-// An operator that is none without its `=`.
-fn only_doubled(doubled: bool, long: Operator) -> Sighted
-    ensures { λ r. ⌜ r ≡ only-doubled doubled long ⌝ }
+// An operator that stands, and how many bytes it takes.
+fn sign(operator: Operator, width: usize) -> Sighted
+    ensures { λ r. ⌜ r ≡ Sighted.Sign operator width ⌝ }
 {
-    if doubled {
-        return Sighted::Sign {
-            operator: long,
-            width: 2,
-        };
-    }
-    Sighted::Nothing
+    Sighted::Sign { operator, width }
 }
