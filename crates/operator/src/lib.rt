@@ -137,32 +137,32 @@ pub fn operator_numbered(number: u32) -> Numbered
 }
 
 // The operator that two bytes begin with, a line for each in the order of their numbers; `0..=b'<' | b'>'..=255` is every byte but `=`, the 0
-// that stands for the text's end among them.
+// that stands for the text's end among them. A line returns at once: where the lines met first, the parser was slower.
 pub fn operator_at(first: u8, second: u8) -> Sighted
     ensures { λ r. ⌜ r ≡ sighted first second ⌝ }
 {
     match first {
         b'<' => match second {
-            0..=b'<' | b'>'..=255 => sign(Operator::LessThan, 1),
-            b'=' => sign(Operator::LessThanEqual, 2),
+            0..=b'<' | b'>'..=255 => return sign(Operator::LessThan, 1),
+            b'=' => return sign(Operator::LessThanEqual, 2),
         },
         b'>' => match second {
-            0..=b'<' | b'>'..=255 => sign(Operator::GreaterThan, 1),
-            b'=' => sign(Operator::GreaterThanEqual, 2),
+            0..=b'<' | b'>'..=255 => return sign(Operator::GreaterThan, 1),
+            b'=' => return sign(Operator::GreaterThanEqual, 2),
         },
         b'!' => match second {
-            b'=' => sign(Operator::NotEqual, 2),
-            0..=b'<' | b'>'..=255 => Sighted::Nothing,
+            b'=' => return sign(Operator::NotEqual, 2),
+            0..=b'<' | b'>'..=255 => return Sighted::Nothing,
         },
         b'=' => match second {
-            b'=' => sign(Operator::Exact, 2),
-            0..=b'<' | b'>'..=255 => sign(Operator::Equal, 1),
+            b'=' => return sign(Operator::Exact, 2),
+            0..=b'<' | b'>'..=255 => return sign(Operator::Equal, 1),
         },
         b'?' => match second {
-            b'=' => sign(Operator::Exists, 2),
-            0..=b'<' | b'>'..=255 => Sighted::Nothing,
+            b'=' => return sign(Operator::Exists, 2),
+            0..=b'<' | b'>'..=255 => return Sighted::Nothing,
         },
-        0..=b' ' | b'"'..=b';' | b'@'..=255 => Sighted::Nothing,
+        0..=b' ' | b'"'..=b';' | b'@'..=255 => return Sighted::Nothing,
     }
 }
 
