@@ -64,32 +64,31 @@ symbol-of Exact = with-equals equals
 symbol-of Equal = one-byte equals
 symbol-of Exists = with-equals question
 
--- a line of the decision: whether its first byte stands, whether its second does, and what stands there with both and with the first alone
-pub record Line : Type 0 where
-  pub first : Bool
-  pub second : Bool
-  pub both : Sighted
-  pub alone : Sighted
+-- a line of the decision: a first byte, and what stands there where `=` follows it and where none does
+pub data Line : Type 0 where
+  line : ℕ → Sighted → Sighted → Line
 
-abbrev line : Bool → Bool → Sighted → Sighted → Line
-line first second both alone = record { first = first; second = second; both = both; alone = alone }
+-- what a line tells by whether its byte stands and `=` follows, or what the others tell
+abbrev pub by-line : Bool → Bool → Sighted → Sighted → Sighted → Sighted
+by-line stands follows followed alone others =
+    elim stands [ true ↦ elim follows [ true ↦ followed | false ↦ alone ] | false ↦ others ]
 
--- what the first of some lines whose first byte stands tells, or nothing
-abbrev pub first-line : List Line → Sighted
-first-line [] = Nothing
-first-line (l ∷ ls) =
-    elim (l .first) [ true ↦ elim (l .second) [ true ↦ l .both | false ↦ l .alone ] | false ↦ first-line ls ]
+-- what some lines tell of two bytes
+abbrev pub told-by : List Line → ℕ → ℕ → Sighted
+told-by [] first second = Nothing
+told-by (line byte followed alone ∷ ls) first second =
+    by-line (eqb first byte) (eqb second equals) followed alone (told-by ls first second)
 
 -- the decision by two bytes: `<=` `<` `>=` `>` `!=` `?=` `==` `=`
-abbrev pub decision : ℕ → ℕ → List Line
-decision first second =
-    line (eqb first less-than) (eqb second equals) (Sign LessThanEqual 2) (Sign LessThan 1)
-    ∷ line (eqb first greater-than) (eqb second equals) (Sign GreaterThanEqual 2) (Sign GreaterThan 1)
-    ∷ line (eqb first exclamation) (eqb second equals) (Sign NotEqual 2) Nothing
-    ∷ line (eqb first question) (eqb second equals) (Sign Exists 2) Nothing
-    ∷ line (eqb first equals) (eqb second equals) (Sign Exact 2) (Sign Equal 1)
+abbrev pub decision : List Line
+decision =
+    line less-than (Sign LessThanEqual 2) (Sign LessThan 1)
+    ∷ line greater-than (Sign GreaterThanEqual 2) (Sign GreaterThan 1)
+    ∷ line exclamation (Sign NotEqual 2) Nothing
+    ∷ line question (Sign Exists 2) Nothing
+    ∷ line equals (Sign Exact 2) (Sign Equal 1)
     ∷ []
 
 -- the operator that two bytes begin with, or none
 unfoldable pub sighted : ℕ → ℕ → Sighted
-sighted first second = first-line (decision first second)
+sighted first second = told-by decision first second
