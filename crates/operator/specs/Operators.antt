@@ -68,7 +68,7 @@ symbol-of Exists = with-equals question
 pub data Line : Type 0 where
   line : ℕ → Sighted → Sighted → Line
 
--- what a line tells by whether its byte stands and `=` follows, or what the others tell
+-- what a line tells by whether its byte stands and `=` follows, or what the others tell; the tests are arguments, where a rewriting finds them
 abbrev pub by-line : Bool → Bool → Sighted → Sighted → Sighted → Sighted
 by-line stands follows followed alone others =
     elim stands [ true ↦ elim follows [ true ↦ followed | false ↦ alone ] | false ↦ others ]
