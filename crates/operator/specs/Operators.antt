@@ -69,15 +69,15 @@ pub data Line : Type 0 where
   line : ℕ → Sighted → Sighted → Line
 
 -- what a line tells by whether its byte stands and `=` follows, or what the others tell; the tests are arguments, where a rewriting finds them
-abbrev pub by-line : Bool → Bool → Sighted → Sighted → Sighted → Sighted
-by-line stands follows followed alone others =
+abbrev pub line-tells : Bool → Bool → Sighted → Sighted → Sighted → Sighted
+line-tells stands follows followed alone others =
     elim stands [ true ↦ elim follows [ true ↦ followed | false ↦ alone ] | false ↦ others ]
 
 -- what some lines tell of two bytes
-abbrev pub told-by : List Line → ℕ → ℕ → Sighted
-told-by [] first second = Nothing
-told-by (line byte followed alone ∷ ls) first second =
-    by-line (eqb first byte) (eqb second equals) followed alone (told-by ls first second)
+abbrev pub lines-tell : List Line → ℕ → ℕ → Sighted
+lines-tell [] first second = Nothing
+lines-tell (line byte followed alone ∷ ls) first second =
+    line-tells (eqb first byte) (eqb second equals) followed alone (lines-tell ls first second)
 
 -- the decision by two bytes: `<=` `<` `>=` `>` `!=` `?=` `==` `=`
 abbrev pub decision : List Line
@@ -91,4 +91,4 @@ decision =
 
 -- the operator that two bytes begin with, or none
 unfoldable pub sighted : ℕ → ℕ → Sighted
-sighted first second = told-by decision first second
+sighted first second = lines-tell decision first second

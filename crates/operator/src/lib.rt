@@ -137,7 +137,7 @@ pub fn operator_numbered(number: u32) -> Numbered
 }
 
 // The operator that two bytes begin with, a line for each in the order of their numbers; `0..=b'<' | b'>'..=255` is every byte but `=`, the 0
-// that stands for the text's end among them. A line returns at once: where the lines met first, the parser was slower.
+// that stands for the text's end among them. A line returns at once: where the lines met first, `bench/run` had the parser slower.
 pub fn operator_at(first: u8, second: u8) -> Sighted
     ensures { λ r. ⌜ r ≡ sighted first second ⌝ }
 {
