@@ -16,17 +16,17 @@ use Rattle.writer.specs.Write as sheet
 use Rattle.tape.specs.Words.{words-for}
 use Rattle.put.specs.Append.{Wrote, wrote, place-of, append}
 use Rattle.report.specs.Dump.{dump-of}
-use Rattle.report.specs.Readings.{readings-of}
+use Rattle.report.specs.Readings.{readings-of, leading-of}
 use Rattle.report.specs.Room.{most-input, most-tokens, Held}
 use Rattle.report.specs.Sheets as sheets
 use Rattle.report.proofs.Room.{put-whole}
-use Rattle.report.proofs.Lengths.{readings-short, verdict-short, view-short, written-short}
+use Rattle.report.proofs.Lengths.{readings-short, leading-short, verdict-short, view-short, written-short}
 use Rattle.file_lines.specs.Lines as lines
 use Rattle.file_lines.proofs.Told.{reads-given}
 use Rattle.file_lines.proofs.Room.{file-short}
 use Rattle.answers.specs.declared.Answer.{Answer}
 use Rattle.answers.specs.declared.Answer.the-variants.{Put}
-use Rattle.answers.specs.Whole.{most-answer, most-words, Answers, dump, readings, verdict, view, written, filed, found, All, Left, Whole}
+use Rattle.answers.specs.Whole.{most-answer, most-words, Answers, dump, readings, leading, verdict, view, written, filed, found, All, Left, Whole}
 
 -- what was put, and the buffer of a text that was written back
 abbrev put-of : sheets.Reported → Wrote
@@ -65,6 +65,11 @@ module _ (capacity : ℕ) (body out : List ℕ) (at : ℕ) {r : ℕ} {o : List �
   -- the readings of a scalar
   pub readings-all : wrote r o ≡ append out at (readings-of body) → at + most-answer ≤ length out → All capacity body out at r o
   readings-all e room = fits (readings-of body) readings e (omega (arith, readings-short body)) room
+
+  -- the number that a scalar begins with
+  pub leading-all : wrote r o ≡ append out at (leading-of body) → length body ≤ most-input → at + most-answer ≤ length out
+      → All capacity body out at r o
+  leading-all e within room = fits (leading-of body) leading e (omega (arith, leading-short body within)) room
 
   -- a verdict
   pub verdict-all : {Holds : Type 0} → sheets.Judged Holds out at (wrote r o) → at + most-answer ≤ length out

@@ -131,6 +131,14 @@ fn readings_answer(out: &mut [u8], at: usize, capacity: usize, scalar: &[u8]) ->
     Answer::Put(report::readings::put_readings(out, at, scalar))
 }
 
+// Kind `N`: the number that a scalar begins with, and how many bytes are left over after it.
+fn leading_answer(out: &mut [u8], at: usize, capacity: usize, scalar: &[u8]) -> Answer
+    requires { ⌜ (at + most-answer ≤ length (now out)) × (length (now scalar) ≤ most-input) ⌝ }
+    ensures { λ r. ⌜ Whole capacity (now (scalar .entry)) (now (out .entry)) at r (now (out .exit)) ⌝ }
+{
+    Answer::Put(report::readings::put_leading(out, at, scalar))
+}
+
 // Kind `C`: whether a sheet is sound. The text's length, the count, and the words to the body's end.
 fn check_answer(
     out: &mut [u8],
@@ -259,6 +267,7 @@ fn answer_record(
     match kind {
         b'T' => tokens_answer(out, at, capacity, body, words),
         b'S' => readings_answer(out, at, capacity, body),
+        b'N' => leading_answer(out, at, capacity, body),
         b'C' => check_answer(out, at, capacity, body, words),
         b'V' => view_answer(out, at, capacity, body, words),
         b'W' => write_answer(out, at, capacity, body, words),

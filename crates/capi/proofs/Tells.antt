@@ -1,9 +1,13 @@
--- What the calls below answer is what C is told: one law for the readings, one for each answer of a parse, of a view, of the way back and of sheet files.
+-- What the calls below answer is what C is told: one law for the readings, one for a number with its rest, one for each answer of a parse, of a view, of the way back and of sheet files.
 -- Assumes nothing.
 use Prim.Native.Nat.{ℕ}
 use mathlib.Core.Bool.{Bool}
 use mathlib.Core.List.{List}
 use mathlib.Core.Path.{_≡_, sym, ap, _∙_}
+use lib.IntN.{ℤ}
+use lib.ListN.{length}
+use Rattle.scalar.specs.Numbers.{i64-refusal-of, i64-value-of}
+use Rattle.scalar.specs.declared.whole.I64Read.{I64Read}
 use Rattle.machine.specs.declared.Parsed.{Parsed}
 use Rattle.machine.specs.declared.Parsed.the-variants.{Tokens, Refused}
 use Rattle.machine.specs.declared.Refusal.{Refusal}
@@ -30,12 +34,18 @@ use Rattle.file.specs.declared.Found.the-variants as Found
 use Rattle.file.specs.Refusals.{number as unfiled-number}
 use Rattle.file.specs.Files as file
 use Rattle.file.proofs.Reading.{reads-told}
-use Rattle.capi.specs.Told.{read-told, view-told, tell-view, write-told, tell-write, file-told, tell-file, sheet-told, tell-sheet}
+use Rattle.capi.specs.Told.{read-told, part-told, tell-part, view-told, tell-view, write-told, tell-write, file-told, tell-file, sheet-told, tell-sheet}
 
 -- the refusal and the value of a reading, told as they are
 pub reads : {Read Value : Type 0} (refusal : Read → ℕ) (value : Read → Value) {told said : ℕ} {v : Value} {read spec : Read} →
     read ≡ spec → v ≡ value read → said ≡ refusal read → told ≡ said → read-told told v ≡ read-told (refusal spec) (value spec)
 reads refusal value p v n t = cc
+
+-- and of the number that a scalar begins with, how long the part is that it leaves over
+pub reads-part : {told said : ℕ} {v : ℤ} {read spec : I64Read} {part rest : List ℕ} →
+    read ≡ spec → v ≡ i64-value-of read → said ≡ i64-refusal-of read → told ≡ said → part ≡ rest
+    → part-told told v (length part) ≡ tell-part spec rest
+reads-part p v n t l = cc
 
 -- a parsed text
 pub tells-tokens : {r : Parsed} {words : List ℕ} {spec : Outcome} {count b : ℕ} {bom : Bool} →

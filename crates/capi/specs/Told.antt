@@ -4,6 +4,7 @@ use Prim.Native.Nat.{ℕ}
 use mathlib.Core.List.{List}
 use lib.Ieee.{Float}
 use lib.IntN.{ℤ}
+use lib.ListN.{length}
 use Rattle.parse.specs.Told.{bit}
 use Rattle.scalar.specs.Numbers.{bool-refusal-of, bool-value-of, u64-refusal-of, u64-value-of}
 use Rattle.scalar.specs.Numbers.{i64-refusal-of, i64-value-of, f64-refusal-of, f64-value-of}
@@ -69,6 +70,14 @@ tell-i64 r = read-told (i64-refusal-of r) (i64-value-of r)
 
 abbrev pub tell-f64 : F64Read → ReadTold Float
 tell-f64 r = read-told (f64-refusal-of r) (f64-value-of r)
+
+-- the number that a scalar begins with: its refusal, its value, and how many bytes are left over
+pub data PartTold : Type 0 where
+  part-told : (refusal : ℕ) (value : ℤ) (left : ℕ) → PartTold
+
+-- a refusal leaves none over
+abbrev pub tell-part : I64Read → List ℕ → PartTold
+tell-part r rest = part-told (i64-refusal-of r) (i64-value-of r) (length rest)
 
 -- a token: its code, a and b
 pub data TokenTold : Type 0 where

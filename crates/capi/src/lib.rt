@@ -14,7 +14,7 @@ ghost use lib.ListN.{length};
 ghost use Rattle.parse.specs.Parse.{parse-of};
 ghost use Rattle.parse.specs.Told.{bit, parse-told, tell-parse};
 ghost use Rattle.scalar.specs.Truth.{bool-read};
-ghost use Rattle.scalar.specs.Whole.{u64-read, i64-read};
+ghost use Rattle.scalar.specs.Whole.{u64-read, i64-read, i64-number, i64-rest};
 ghost use Rattle.scalar.specs.Float.{f64-read};
 ghost use Rattle.scalar.specs.Kind.{kind-of};
 ghost use Rattle.scalar.specs.Numbers.{kind-number-of};
@@ -28,7 +28,7 @@ ghost use Rattle.file.specs.Files.{Reads-as};
 ghost use Rattle.file.specs.declared.layout.Version.the-variants.{V1};
 ghost use Rattle.capi.specs.Told.{view-told, tell-view, token-told, tell-token, write-told, tell-write};
 ghost use Rattle.capi.specs.Told.{file-told, tell-file, sheet-told, tell-sheet};
-ghost use Rattle.capi.specs.Told.{read-told, tell-bool, tell-u64, tell-i64, tell-f64};
+ghost use Rattle.capi.specs.Told.{read-told, tell-bool, tell-u64, tell-i64, tell-f64, part-told, tell-part};
 
 // 1 for yes and 0 for no.
 fn bit_of(yes: bool) -> u32
@@ -240,6 +240,18 @@ pub extern "C" fn tackacorn_to_i64(scalar: &[u8], value: &mut i64) -> u32
 {
     let read = scalar::to_i64(scalar);
     *value = scalar::i64_value(read);
+    wide(scalar::i64_refusal(read))
+}
+
+// Reads the number with a sign that a scalar begins with, and says how many bytes are left over after it.
+#[no_mangle]
+pub extern "C" fn tackacorn_to_i64_part(scalar: &[u8], value: &mut i64, left: &mut usize) -> u32
+    ensures { λ r. ⌜ part-told r (now (value .exit)) (now (left .exit))
+        ≡ tell-part (i64-number (now (scalar .entry))) (i64-rest (now (scalar .entry))) ⌝ }
+{
+    let read = scalar::to_i64_t(scalar);
+    *value = scalar::i64_value(read);
+    *left = scalar::to_i64_rest(scalar).len();
     wide(scalar::i64_refusal(read))
 }
 

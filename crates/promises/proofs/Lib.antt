@@ -6,6 +6,7 @@ pub mod Demand3
 pub mod Each
 pub mod Escapes
 pub mod Full
+pub mod LeadingNumber
 pub mod Links
 pub mod Mixed
 pub mod ReadingKinds

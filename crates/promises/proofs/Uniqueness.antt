@@ -14,7 +14,7 @@ use Rattle.file.specs.declared.Found.{Found}
 use Rattle.file.specs.Open.{open-file}
 use Rattle.file.specs.Files.{Left, Read-opened, Reads-as}
 use Rattle.put.specs.Append.{Wrote, wrote}
-use Rattle.promises.specs.Unique.{One-result, One-left, One-line}
+use Rattle.promises.specs.Unique.{One-result, One-left, One-line, One-part}
 use Rattle.data.proofs.character_class.Reads as character-class
 use Rattle.operator.proofs.Operator.number.Reads as operator-number
 use Rattle.operator.proofs.Operator.is_equal.Reads as operator-is-equal
@@ -25,6 +25,7 @@ use Rattle.scalar.proofs.to_bool.Reads as to-bool
 use Rattle.scalar.proofs.to_u64.Reads as to-u64
 use Rattle.scalar.proofs.to_i64.Reads as to-i64
 use Rattle.scalar.proofs.to_i64_t.Reads as to-i64-t
+use Rattle.scalar.proofs.to_i64_rest.Reads as to-i64-rest
 use Rattle.scalar.proofs.to_f64.Reads as to-f64
 use Rattle.scalar.proofs.kind.Reads as kind
 use Rattle.scalar.proofs.magnitude.Reads as magnitude
@@ -143,6 +144,7 @@ use Rattle.report.proofs.readings.put_u64.Reads as put-u64
 use Rattle.report.proofs.readings.put_i64.Reads as put-i64
 use Rattle.report.proofs.readings.put_f64.Reads as put-f64
 use Rattle.report.proofs.readings.put_readings.Reads as put-readings
+use Rattle.report.proofs.readings.put_leading.Reads as put-leading
 use Rattle.report.proofs.sheets.put_check.Reads as put-check
 use Rattle.report.proofs.sheets.put_hex_bytes.Reads as put-hex-bytes
 use Rattle.report.proofs.sheets.put_view.Reads as put-view
@@ -160,6 +162,7 @@ use Rattle.capi.proofs.tackacorn_sheet_read.Reads as tackacorn-sheet-read
 use Rattle.capi.proofs.tackacorn_to_bool.Reads as tackacorn-to-bool
 use Rattle.capi.proofs.tackacorn_to_u64.Reads as tackacorn-to-u64
 use Rattle.capi.proofs.tackacorn_to_i64.Reads as tackacorn-to-i64
+use Rattle.capi.proofs.tackacorn_to_i64_part.Reads as tackacorn-to-i64-part
 use Rattle.capi.proofs.tackacorn_to_f64.Reads as tackacorn-to-f64
 use Rattle.capi.proofs.tackacorn_kind.Reads as tackacorn-kind
 
@@ -179,6 +182,10 @@ one-verdict P false false p q = cc
 by-bytes : {K : Type 0} {A X : K → Type 0} (out : (κs : K) → X κs → List ℕ) (definition : (κs : K) → A κs → Wrote)
     → One-line {R = λ κs. ℕ} (λ κs args r xs. wrote r (out κs xs) ≡ definition κs args) out
 by-bytes out definition = (λ κs args r s xs ys p q. cc, λ κs args r s xs ys p q. cc)
+
+-- one that says the bytes of a part and where it lies allows one part
+one-part : {Bytes Place : Type 0} {r s bytes : Bytes} {x y place : Place} → (r ≡ bytes) × (x ≡ place) → (s ≡ bytes) × (y ≡ place) → (r ≡ s) × (x ≡ y)
+one-part p q = (p .0 ∙ sym (q .0), p .1 ∙ sym (q .1))
 
 -- and one that names what is answered by whether a claim holds allows one answer, with all that it leaves
 one-decided : {Answer : Type 0} (P : Type 0) (answer : Bool → Answer) (x y : Answer) → Decided P answer x → Decided P answer y → x ≡ y
@@ -206,11 +213,8 @@ data-calls =
 pub record Put : Type 0 where
   pub put-byte : One-line put-byte.Post (λ κs xs. xs .0 .now)
   pub put-bytes : One-line put-bytes.Post (λ κs xs. xs .0 .now)
-  -- the part's bytes, and where they stand
-  pub front : (κs : _) (args : _) (r s : _) (xs ys : _) → front.Post κs args r xs → front.Post κs args s ys
-      → (r .now ≡ s .now) × (r .ptr ≡ s .ptr)
-  pub part : (κs : _) (args : _) (r s : _) (xs ys : _) → part.Post κs args r xs → part.Post κs args s ys
-      → (r .now ≡ s .now) × (r .ptr ≡ s .ptr)
+  pub front : One-part front.Post (λ κs r. r .now) (λ κs r. r .ptr)
+  pub part : One-part part.Post (λ κs r. r .now) (λ κs r. r .ptr)
   pub zeroed : One-left zeroed.Post (λ κs xs. xs .0 .now)
   pub equal-bytes : One-result equal-bytes.Post
 
@@ -219,8 +223,8 @@ put-calls =
     record {
       put-byte = by-bytes _ _;
       put-bytes = by-bytes _ _;
-      front = λ κs args r s xs ys p q. (p .0 ∙ sym (q .0), p .1 ∙ sym (q .1));
-      part = λ κs args r s xs ys p q. (p .0 ∙ sym (q .0), p .1 ∙ sym (q .1));
+      front = λ κs args r s xs ys p q. one-part p q;
+      part = λ κs args r s xs ys p q. one-part p q;
       zeroed = λ κs args r s xs ys p q. p ∙ sym q;
       equal-bytes = by-definition _ _;
     }
@@ -247,6 +251,7 @@ pub record Scalar : Type 0 where
   pub to-u64 : One-result to-u64.Post
   pub to-i64 : One-result to-i64.Post
   pub to-i64-t : One-result to-i64-t.Post
+  pub to-i64-rest : One-part to-i64-rest.Post (λ κs r. r .now) (λ κs r. r .ptr)
   pub to-f64 : One-result to-f64.Post
   pub kind : One-result kind.Post
   pub magnitude : One-result magnitude.Post
@@ -268,6 +273,7 @@ scalar-calls =
       to-u64 = by-definition _ _;
       to-i64 = by-definition _ _;
       to-i64-t = by-definition _ _;
+      to-i64-rest = λ κs args r s xs ys p q. one-part p q;
       to-f64 = by-definition _ _;
       kind = by-definition _ _;
       magnitude = by-definition _ _;
@@ -493,7 +499,7 @@ pub record Sheet : Type 0 where
   pub link : One-result link.Post
   pub view-of : One-result view-of.Post
   -- the part by its bytes and its place: what is left is a name that no program sees
-  pub view : (κs : _) (args : _) (r s : _) (xs ys : _) → view.Post κs args r xs → view.Post κs args s ys → (r .now ≡ s .now) × (r .ptr ≡ s .ptr)
+  pub view : One-part view.Post (λ κs r. r .now) (λ κs r. r .ptr)
 
 pub sheet-calls : Sheet
 sheet-calls =
@@ -506,7 +512,7 @@ sheet-calls =
       code = by-definition _ _;
       link = by-definition _ _;
       view-of = by-definition _ _;
-      view = λ κs args r s xs ys p q. (p .0 ∙ sym (q .0), p .1 ∙ sym (q .1));
+      view = λ κs args r s xs ys p q. one-part p q;
     }
 
 pub record Alike : Type 0 where
@@ -550,6 +556,7 @@ pub record Report : Type 0 where
   pub put-i64 : One-line put-i64.Post (λ κs xs. xs .0 .now)
   pub put-f64 : One-line put-f64.Post (λ κs xs. xs .0 .now)
   pub put-readings : One-line put-readings.Post (λ κs xs. xs .0 .now)
+  pub put-leading : One-line put-leading.Post (λ κs xs. xs .0 .now)
   pub put-hex-bytes : One-line put-hex-bytes.Post (λ κs xs. xs .0 .now)
   pub put-view : One-line put-view.Post (λ κs xs. xs .0 .now)
   pub put-check : One-line put-check.Post (λ κs xs. xs .0 .now)
@@ -580,6 +587,7 @@ report-calls =
       put-i64 = by-bytes _ _;
       put-f64 = by-bytes _ _;
       put-readings = by-bytes _ _;
+      put-leading = by-bytes _ _;
       put-hex-bytes = by-bytes _ _;
       put-view = by-bytes _ _;
       put-check = (
@@ -658,6 +666,9 @@ pub record Capi : Type 0 where
   pub tackacorn-to-u64-value : One-left tackacorn-to-u64.Post (λ κs xs. xs .1 .0 .now)
   pub tackacorn-to-i64-result : One-result tackacorn-to-i64.Post
   pub tackacorn-to-i64-value : One-left tackacorn-to-i64.Post (λ κs xs. xs .1 .0 .now)
+  pub tackacorn-to-i64-part-result : One-result tackacorn-to-i64-part.Post
+  pub tackacorn-to-i64-part-value : One-left tackacorn-to-i64-part.Post (λ κs xs. xs .1 .0 .now)
+  pub tackacorn-to-i64-part-left : One-left tackacorn-to-i64-part.Post (λ κs xs. xs .1 .1 .0 .now)
   pub tackacorn-to-f64-result : One-result tackacorn-to-f64.Post
   pub tackacorn-to-f64-value : One-left tackacorn-to-f64.Post (λ κs xs. xs .1 .0 .now)
   pub tackacorn-kind : One-result tackacorn-kind.Post
@@ -694,6 +705,9 @@ capi-calls =
       tackacorn-to-u64-value = λ κs args r s xs ys p q. cc;
       tackacorn-to-i64-result = λ κs args r s xs ys p q. cc;
       tackacorn-to-i64-value = λ κs args r s xs ys p q. cc;
+      tackacorn-to-i64-part-result = λ κs args r s xs ys p q. cc;
+      tackacorn-to-i64-part-value = λ κs args r s xs ys p q. cc;
+      tackacorn-to-i64-part-left = λ κs args r s xs ys p q. cc;
       tackacorn-to-f64-result = λ κs args r s xs ys p q. cc;
       tackacorn-to-f64-value = λ κs args r s xs ys p q. cc;
       tackacorn-kind = by-definition _ _;

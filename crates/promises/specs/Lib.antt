@@ -3,6 +3,7 @@ pub mod Demand1
 pub mod Demand3
 pub mod Each
 pub mod Escapes
+pub mod LeadingNumber
 pub mod Mixed
 pub mod Reached
 pub mod ReadingKinds

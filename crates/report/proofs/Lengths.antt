@@ -1,9 +1,9 @@
 -- How long the lines are that answer for a scalar and for a sheet.
 -- Assumes nothing.
-use mathlib.Core.Path.{_≡_, refl}
+use mathlib.Core.Path.{_≡_, refl, _∙_}
 use mathlib.Core.Bool.{Bool, true, false}
 use mathlib.Core.List.{List, [], _∷_}
-use Prim.Native.Nat.{ℕ, zero, suc, _+_, _*_, _/_, _≤_, _<_, min}
+use Prim.Native.Nat.{ℕ, zero, suc, _+_, _*_, _/_, _^_, _≤_, _<_, min}
 use native.Mathlib.Omega.{arith}
 use borrow.Author.Tests.{ltb-false}
 use lib.Dec.{eqb, ltb}
@@ -16,7 +16,7 @@ use Rattle.scalar.specs.Float.{f64-read, pattern-of}
 use Rattle.scalar.specs.Kind.{kind-of}
 use Rattle.scalar.specs.Numbers.{kind-number-of}
 use Rattle.scalar.specs.Truth.{bool-read}
-use Rattle.scalar.specs.Whole.{most-i64, has-tail, u64-digits, u64-read, signed, i64-digits, i64-part, whole-only, i64-read}
+use Rattle.scalar.specs.Whole.{most-i64, has-tail, u64-digits, u64-read, signed, i64-part, whole-only, i64-read, number-of, i64-number, i64-rest}
 use Rattle.scalar.specs.declared.float.F64Read.the-variants as F64
 use Rattle.scalar.specs.declared.float.F64Read.{F64Read}
 use Rattle.scalar.specs.declared.kinds.ReadingKind.the-variants as Kind
@@ -26,6 +26,8 @@ use Rattle.scalar.specs.declared.truth.BoolRead.{BoolRead}
 use Rattle.scalar.specs.declared.whole.I64Part.the-variants as Part
 use Rattle.scalar.specs.declared.whole.I64Part.{I64Part}
 use Rattle.scalar.specs.declared.whole.I64Read.the-variants as I64
+use Rattle.scalar.specs.declared.whole.I64Read.{I64Read}
+use Rattle.scalar.proofs.Wholes.{by-part, by-size, rest-within}
 use Rattle.sheet.specs.declared.views.Viewed.{Viewed}
 use Rattle.writer.specs.declared.Refusal.{Refusal}
 use Rattle.writer.specs.declared.Refusal.the-variants.{NotSound, TooDeep, TooLong, NoRoom, ReadsOtherwise, OtherForm}
@@ -35,7 +37,8 @@ use Rattle.writer.specs.Refusals.{number}
 use Rattle.sheet.specs.declared.views.Viewed.the-variants.{At, NoScalar}
 use Rattle.report.proofs.Room.{decimal-short, bit-short, number-short}
 use Rattle.report.specs.Digits.{decimal, hex-by, most-hex, hex}
-use Rattle.report.specs.Readings.{integer, bool-text, u64-text, i64-text, f64-text, exact-of, readings-of}
+use Rattle.report.specs.Readings.{integer, bool-text, u64-text, i64-text, f64-text, exact-of, readings-of, left-text, leading-of}
+use Rattle.report.specs.Room.{most-input}
 use Rattle.report.specs.Sheets.{verdict, hex-bytes, view-text, written-text}
 
 -- a refusal of a reading has two digits
@@ -94,24 +97,13 @@ Part-short (Part.Is i rest) = length (integer i) ≤ 21
 Part-short Part.AllDigits = Unit {0}
 Part-short Part.Overflow = Unit {0}
 
-i64-digits-short : (negative : Bool) (sign : ℕ) (s : List ℕ) → Part-short (i64-digits negative sign s)
-unfolding i64-digits
-i64-digits-short negative sign s =
-    by-bool (ltb most-i64 (value 0 (digit-run s)))
-    (λ over. rw (i64-digits, over) tt)
-    (λ within. rw (i64-digits, within) (signed-short negative (value 0 (digit-run s)) (ltb-false _ _ within)))
-
 i64-part-short : (d : List ℕ) → Part-short (i64-part d)
-unfolding i64-part
-i64-part-short [] = tt
-i64-part-short (b ∷ d) =
-    by-bool (eqb b minus)
-    (λ e. rw (i64-part, e) (i64-digits-short true 1 d))
-    (λ e. by-bool (eqb b plus)
-    (λ f. rw (i64-part, e, f) (i64-digits-short false 1 d))
-    (λ f. by-bool (is-digit b)
-    (λ g. rw (i64-part, e, f, g) (i64-digits-short false 0 (b ∷ d)))
-    (λ g. rw (i64-part, e, f, g) tt)))
+i64-part-short d =
+    by-part d
+    (λ negative sign h e. by-size negative sign (drop sign d)
+    (λ past p. rw (e ∙ p) tt)
+    (λ held p. rw (e ∙ p) (signed-short negative (value 0 (digit-run (drop sign d))) held)))
+    (λ e. rw e tt)
 
 kept-short : (tail : Bool) (i : ℤ) → length (integer i) ≤ 21 → length (i64-text (elim tail [ true ↦ I64.AllDigits | false ↦ I64.Is i ])) ≤ 22
 kept-short true i h = omega (arith, two-short 21 (omega arith))
@@ -125,6 +117,17 @@ whole-short n Part.Overflow h = omega (arith, two-short 22 (omega arith))
 i64-short : (d : List ℕ) → length (i64-text (i64-read d)) ≤ 22
 unfolding i64-read
 i64-short d = whole-short (length d) (i64-part d) (i64-part-short d)
+
+-- the number that a scalar begins with, and how many bytes are left over
+number-short-of : (p : I64Part) → Part-short p → length (i64-text (number-of p)) ≤ 22
+number-short-of (Part.Is i rest) h = omega arith
+number-short-of Part.AllDigits h = omega (arith, two-short 21 (omega arith))
+number-short-of Part.Overflow h = omega (arith, two-short 22 (omega arith))
+
+left-short : (r : I64Read) (left : ℕ) → left < 2 ^ 64 → length (left-text r left) ≤ 21
+left-short (I64.Is i) left h = omega (arith, number-short left h)
+left-short I64.AllDigits left h = omega arith
+left-short I64.Overflow left h = omega arith
 
 f64-short : (r : F64Read) → length (f64-text r) ≤ 19
 f64-short (F64.Is x) = omega (arith, hex-short 16 (pattern-of x))
@@ -144,6 +147,13 @@ unfolding readings-of exact-of
 readings-short d =
     simp length-append
     (omega (arith, bool-short (bool-read d), u64-short d, i64-short d, f64-short (f64-read d), kind-short (kind-of d)))
+
+-- the line of the number that it begins with
+pub leading-short : (d : List ℕ) → length d ≤ most-input → length (leading-of d) ≤ 44
+unfolding leading-of i64-number
+leading-short d h =
+    simp length-append
+    (omega (arith, number-short-of (i64-part d) (i64-part-short d), left-short (i64-number d) (length (i64-rest d)) (omega (arith, rest-within d))))
 
 -- the line of a check, and of a view
 pub verdict-short : (sound : Bool) → length (verdict sound) ≤ 8

@@ -1,13 +1,14 @@
--- The readings of a scalar as a line: each an `=` and its value, or its refusal's number.
+-- The readings of a scalar as a line: each an `=` and its value, or its refusal's number; and the number that it begins with.
 use Prim.Native.Nat.{ℕ, suc}
 use mathlib.Core.List.{List, [], _∷_, _++_}
 use lib.IntN.{ℤ, pos, negsuc}
+use lib.ListN.{length}
 use Rattle.data.specs.Bytes.{space, line-feed, equals, minus}
 use Rattle.scalar.specs.Float.{f64-read, pattern-of}
 use Rattle.scalar.specs.Kind.{kind-of}
 use Rattle.scalar.specs.Numbers.{all-digits, overflow, invalid-bool, precision-loss, kind-number-of}
 use Rattle.scalar.specs.Truth.{bool-read}
-use Rattle.scalar.specs.Whole.{u64-read, i64-read}
+use Rattle.scalar.specs.Whole.{u64-read, i64-read, i64-number, i64-rest}
 use Rattle.scalar.specs.declared.float.F64Read.the-variants as F64
 use Rattle.scalar.specs.declared.float.F64Read.{F64Read}
 use Rattle.scalar.specs.declared.truth.BoolRead.the-variants as Truth
@@ -57,3 +58,13 @@ exact-of d = bool-text (bool-read d) ++ (space ∷ []) ++ u64-text (u64-read d) 
 unfoldable pub readings-of : List ℕ → List ℕ
 readings-of d =
     exact-of d ++ (space ∷ []) ++ f64-text (f64-read d) ++ (space ∷ []) ++ decimal (kind-number-of (kind-of d)) ++ (line-feed ∷ [])
+
+-- how many bytes are left over after a number, behind a space; a refusal leaves none
+abbrev pub left-text : I64Read → ℕ → List ℕ
+left-text (I64.Is i) left = space ∷ [] ++ decimal left
+left-text I64.AllDigits left = []
+left-text I64.Overflow left = []
+
+-- the number that a scalar begins with, and how many bytes are left over after it
+unfoldable pub leading-of : List ℕ → List ℕ
+leading-of d = i64-text (i64-number d) ++ left-text (i64-number d) (length (i64-rest d)) ++ (line-feed ∷ [])

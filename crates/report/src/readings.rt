@@ -1,4 +1,5 @@
-// The readings of a scalar as a line, which is what a record of kind `S` is answered with.
+// The readings of a scalar as a line, which is what a record of kind `S` is answered with, and the number that it begins
+// with, for kind `N`.
 use crate::numbers::put_decimal;
 use crate::numbers::put_hex;
 use crate::numbers::put_integer;
@@ -13,7 +14,7 @@ ghost use mathlib.Core.List.{[], _∷_, _++_};
 ghost use Rattle.data.specs.Bytes.{equals};
 ghost use Rattle.put.specs.Append.{wrote, append};
 ghost use Rattle.report.specs.Digits.{decimal};
-ghost use Rattle.report.specs.Readings.{bool-text, u64-text, i64-text, f64-text, exact-of, readings-of};
+ghost use Rattle.report.specs.Readings.{bool-text, u64-text, i64-text, f64-text, exact-of, readings-of, left-text, leading-of};
 
 // Puts an `=` and a number.
 fn put_value(out: &mut [u8], at: usize, n: u64) -> usize
@@ -98,4 +99,28 @@ pub fn put_readings(out: &mut [u8], at: usize, d: &[u8]) -> usize
     let fourth = put_byte(out, float, b' ');
     let kind = put_decimal(out, fourth, scalar::kind_number(scalar::kind(d)) as u64);
     put_byte(out, kind, b'\n')
+}
+
+// Puts how many bytes are left over after a number, and nothing for a refusal.
+fn put_left(out: &mut [u8], at: usize, r: I64Read, left: usize) -> usize
+    ensures { λ n. ⌜ wrote n (now (out .exit)) ≡ append (now (out .entry)) at (left-text r left) ⌝ }
+{
+    match r {
+        I64Read::Is(_) => {
+            let next = put_byte(out, at, b' ');
+            put_decimal(out, next, left as u64)
+        }
+        I64Read::AllDigits => at,
+        I64Read::Overflow => at,
+    }
+}
+
+// Puts the number that some bytes begin with, and how many are left over after it.
+pub fn put_leading(out: &mut [u8], at: usize, d: &[u8]) -> usize
+    ensures { λ r. ⌜ wrote r (now (out .exit)) ≡ append (now (out .entry)) at (leading-of (now (d .entry))) ⌝ }
+{
+    let read = scalar::to_i64_t(d);
+    let number = put_i64(out, at, read);
+    let next = put_left(out, number, read, scalar::to_i64_rest(d).len());
+    put_byte(out, next, b'\n')
 }

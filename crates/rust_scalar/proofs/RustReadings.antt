@@ -9,16 +9,13 @@ use mathlib.Core.Path.{_≡_, sym, _∙_, ap}
 use mathlib.Core.List.{List}
 use Prim.Native.Nat.{ℕ}
 use native.Mathlib.Omega.{arith}
-use lib.ListN.{drop}
 use Rattle.scalar.specs.Float.{f64-read}
 use Rattle.scalar.specs.Truth.{bool-read}
-use Rattle.scalar.specs.Whole.{u64-read, i64-part, i64-read}
+use Rattle.scalar.specs.Whole.{u64-read, i64-number, i64-rest, i64-read}
 use Rattle.scalar.specs.declared.float.F64Read.the-variants as F64
 use Rattle.scalar.specs.declared.float.F64Read.{F64Read}
 use Rattle.scalar.specs.declared.truth.BoolRead.the-variants as Truth
 use Rattle.scalar.specs.declared.truth.BoolRead.{BoolRead}
-use Rattle.scalar.specs.declared.whole.I64Part.the-variants as Part
-use Rattle.scalar.specs.declared.whole.I64Part.{I64Part}
 use Rattle.scalar.specs.declared.whole.I64Read.the-variants as I64
 use Rattle.scalar.specs.declared.whole.I64Read.{I64Read}
 use Rattle.scalar.specs.declared.whole.U64Read.the-variants as U64
@@ -54,10 +51,10 @@ u64-answers (U64.Is n) e = answers n e
 u64-answers U64.AllDigits e = refuses AllDigits e
 u64-answers U64.Overflow e = refuses Overflow e
 
-i64-part-answers : (d : List ℕ) (r : I64Part) → rust-i64-part d r ≡ Panic → ⊥
-i64-part-answers d (Part.Is i at) e = answers (i, drop at d) e
-i64-part-answers d Part.AllDigits e = refuses AllDigits e
-i64-part-answers d Part.Overflow e = refuses Overflow e
+i64-part-answers : (r : I64Read) (rest : List ℕ) → rust-i64-part r rest ≡ Panic → ⊥
+i64-part-answers (I64.Is i) rest e = answers (i, rest) e
+i64-part-answers I64.AllDigits rest e = refuses AllDigits e
+i64-part-answers I64.Overflow rest e = refuses Overflow e
 
 i64-answers : (r : I64Read) → rust-i64 r ≡ Panic → ⊥
 i64-answers (I64.Is i) e = answers i e
@@ -74,7 +71,7 @@ pub readings-end : (d : List ℕ) → Slice d → Unpanicked d
 readings-end d sized = record {
   bool-ends = λ e. bool-answers (bool-read d) (sym (bool-same d) ∙ e);
   u64-ends = λ e. u64-answers (u64-read d) (sym (u64-same d) ∙ e);
-  i64-part-ends = λ e. i64-part-answers d (i64-part d) (sym (i64-part-same d) ∙ e);
+  i64-part-ends = λ e. i64-part-answers (i64-number d) (i64-rest d) (sym (i64-part-same d) ∙ e);
   i64-ends = λ e. i64-answers (i64-read d) (sym (i64-same d) ∙ e);
   f64-ends = λ e. f64-answers (f64-read d) (sym (f64-same d sized) ∙ e);
 }
@@ -83,7 +80,9 @@ pub calls-alike : CallsAlike
 calls-alike = record {
   bool-called = λ κs args r xs p. bool-same (args .0 .now) ∙ ap rust-bool (sym p);
   u64-called = λ κs args r xs p. u64-same (args .0 .now) ∙ ap rust-u64 (sym p);
-  i64-part-called = λ κs args r xs p. i64-part-same (args .0 .now) ∙ ap (rust-i64-part (args .0 .now)) (sym p);
+  i64-part-called = λ κs args r xs p κt again rest ys q same.
+      let rest-is = ap i64-rest (sym same) ∙ sym (q .0) in
+      i64-part-same (args .0 .now) ∙ (λ j. rust-i64-part (sym p j) (rest-is j));
   i64-called = λ κs args r xs p. i64-same (args .0 .now) ∙ ap rust-i64 (sym p);
   f64-called = λ κs args r xs p sized. f64-same (args .0 .now) sized ∙ ap rust-f64 (sym p);
 }

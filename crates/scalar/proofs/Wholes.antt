@@ -1,21 +1,27 @@
 -- Laws of the whole numbers: each case of the two readings, by what leads to it.
 -- Assumes nothing.
-use mathlib.Core.Path.{_≡_, refl, _∙_, ap}
+use mathlib.Core.Path.{_≡_, refl, sym, _∙_, ap}
 use mathlib.Core.Bool.{Bool, true, false}
 use mathlib.Core.List.{List, [], _∷_}
-use Prim.Native.Nat.{ℕ, zero, suc, _+_, _≤_, _<_, zero-le}
+use Prim.Native.Nat.{ℕ, zero, suc, _+_, _-_, _≤_, _<_, zero-le}
+use native.Mathlib.Nat.{le-refl, le-trans, le-of-eq}
 use native.Mathlib.Omega.{arith}
-use borrow.Author.Tests.{eq-eqb, ne-eqb, lt-ltb, le-ltb}
-use lib.Dec.{ltb}
+use borrow.Author.Tests.{eq-eqb, ne-eqb, lt-ltb, le-ltb, eqb-true, eqb-false, ltb-true, ltb-false}
+use lib.Dec.{eqb, ltb}
 use lib.IntN.{ℤ, pos, negℤ}
-use lib.ListN.{length}
+use lib.ListN.{length, take, drop, length-drop}
+use lib.Seq.{take-all, drop-length}
 use lib.Signed.{mag}
+use Rattle.data.proofs.Cases.{by-bool}
 use Rattle.data.specs.Bytes.{plus, minus}
 use Rattle.scalar.specs.Digits.{is-digit, digit-run, value, most-u64}
 use Rattle.scalar.specs.Whole.{has-tail, u64-digits, u64-read, signed, most-i64, i64-digits, i64-part, whole-only, i64-read}
+use Rattle.scalar.specs.Whole.{number-of, left-of, i64-number, i64-rest, place-of-rest}
 use Rattle.scalar.specs.declared.whole.I64Part.the-variants as Part
+use Rattle.scalar.specs.declared.whole.I64Part.{I64Part}
 use Rattle.scalar.specs.declared.whole.I64Read.the-variants as I64
 use Rattle.scalar.specs.declared.whole.U64Read.the-variants as U64
+use Rattle.scalar.proofs.Runs.{run-length}
 
 -- ---- without a minus
 
@@ -74,6 +80,78 @@ pub i64-is : (negative : Bool) (sign : ℕ) (s : List ℕ) → value 0 (digit-ru
     → i64-digits negative sign s ≡ Part.Is (signed negative (value 0 (digit-run s))) (sign + length (digit-run s))
 unfolding i64-digits
 i64-is negative sign s h = rw (i64-digits, le-ltb most-i64 (value 0 (digit-run s)) h)
+
+-- by how the bytes begin: with a sign of so many bytes, or none, and then their digits decide; or as no number does
+pub by-part : {P : Type 0} (d : List ℕ)
+    → ((negative : Bool) (sign : ℕ) → sign ≤ length d → i64-part d ≡ i64-digits negative sign (drop sign d) → P)
+    → (i64-part d ≡ Part.AllDigits → P)
+    → P
+by-part [] digits none = none i64-none
+by-part (b ∷ s) digits none =
+    by-bool (eqb b minus) (λ t. digits true 1 (omega arith) (i64-minus b s (eqb-true b minus t))) (λ f.
+    let h = eqb-false b minus f in
+    by-bool (eqb b plus) (λ t. digits false 1 (omega arith) (i64-plus b s h (eqb-true b plus t))) (λ g.
+    let k = eqb-false b plus g in
+    by-bool (is-digit b) (λ t. digits false 0 (omega arith) (i64-bare b s h k t)) (λ e. none (i64-other b s h k e))))
+
+-- by the size of the digits after a sign
+pub by-size : {P : Type 0} (negative : Bool) (sign : ℕ) (s : List ℕ)
+    → (most-i64 < value 0 (digit-run s) → i64-digits negative sign s ≡ Part.Overflow → P)
+    → (value 0 (digit-run s) ≤ most-i64 → i64-digits negative sign s ≡ Part.Is (signed negative (value 0 (digit-run s))) (sign + length (digit-run s)) → P)
+    → P
+by-size negative sign s past is =
+    by-bool (ltb most-i64 (value 0 (digit-run s)))
+    (λ t. let h = ltb-true _ _ t in past h (i64-past negative sign s h))
+    (λ f. let h = ltb-false _ _ f in is h (i64-is negative sign s h))
+
+-- ---- the number that bytes begin with, and what is left over
+
+pub number-told : (d : List ℕ) (p : I64Part) → i64-part d ≡ p → i64-number d ≡ number-of p
+unfolding i64-number
+number-told d p e = ap number-of e
+
+pub rest-told : (d : List ℕ) (p : I64Part) → i64-part d ≡ p → i64-rest d ≡ left-of d p
+unfolding i64-rest
+rest-told d p e = ap (left-of d) e
+
+-- the place after a number, which is within the bytes
+abbrev place-in : I64Part → ℕ
+place-in (Part.Is i rest) = rest
+place-in Part.AllDigits = 0
+place-in Part.Overflow = 0
+
+place-within : (d : List ℕ) → place-in (i64-part d) ≤ length d
+place-within d =
+    by-part d
+    (λ negative sign h e. by-size negative sign (drop sign d)
+    (λ past p. rw (e ∙ p) zero-le)
+    (λ held p. rw (e ∙ p) (omega (arith, run-length (drop sign d), length-drop sign d))))
+    (λ e. rw e zero-le)
+
+pub part-within : (d : List ℕ) (i : ℤ) (rest : ℕ) → i64-part d ≡ Part.Is i rest → rest ≤ length d
+part-within d i rest e = le-trans (le-of-eq (sym (ap place-in e))) (place-within d)
+
+-- so what is left over is no longer than the bytes
+pub rest-within : (d : List ℕ) → length (i64-rest d) ≤ length d
+unfolding i64-rest
+rest-within d = go (i64-part d)
+  where
+    go : (p : I64Part) → length (left-of d p) ≤ length d
+    go (Part.Is i rest) = rw length-drop (omega arith)
+    go Part.AllDigits = omega arith
+    go Part.Overflow = omega arith
+
+-- the part from a place on, where what is left over begins there: its bytes, and where it lies
+pub rest-from : (d : List ℕ) (start : ℕ × ℕ) (at : ℕ) → at ≤ length d → i64-rest d ≡ drop at d
+    → (take (length d - at) (drop at d) ≡ i64-rest d) × ((start .0, at + start .1) ≡ place-of-rest start d (i64-rest d))
+rest-from d start at h e =
+    let all = take-all (length d - at) (drop at d) (le-of-eq (length-drop at d)) in
+    let behind : at + start .1 ≡ start .1 + (length d - length (drop at d)) = omega (arith, length-drop at d) in
+    (all ∙ sym e, rw e (ap (λ (n : ℕ). (start .0, n)) behind))
+
+-- where nothing is left over that is their end
+pub rest-none : (d : List ℕ) → i64-rest d ≡ [] → i64-rest d ≡ drop (length d) d
+rest-none d e = e ∙ sym (drop-length d)
 
 -- ---- with a sign, and nothing after it
 

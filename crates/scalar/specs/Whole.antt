@@ -4,7 +4,7 @@ use mathlib.Core.List.{List, [], _∷_}
 use Prim.Native.Nat.{ℕ, _+_, _-_, _^_}
 use lib.Dec.{eqb, ltb}
 use lib.IntN.{ℤ, pos, negℤ}
-use lib.ListN.{length}
+use lib.ListN.{length, drop}
 use Rattle.data.specs.Bytes.{plus, minus}
 use Rattle.scalar.specs.Digits.{is-digit, digit-run, value, most-u64}
 use Rattle.scalar.specs.declared.whole.I64Part.the-variants as Part
@@ -63,6 +63,32 @@ i64-part (b ∷ d) =
         | false ↦ elim (is-digit b) [ true ↦ i64-digits false 0 (b ∷ d) | false ↦ Part.AllDigits ]
       ]
     ]
+
+-- of such a part the number alone, or the refusal
+abbrev pub number-of : I64Part → I64Read
+number-of (Part.Is i rest) = I64.Is i
+number-of Part.AllDigits = I64.AllDigits
+number-of Part.Overflow = I64.Overflow
+
+-- and what is left over of the bytes, nothing after a refusal
+abbrev pub left-of : List ℕ → I64Part → List ℕ
+left-of d (Part.Is i rest) = drop rest d
+left-of d Part.AllDigits = []
+left-of d Part.Overflow = []
+
+-- the number that bytes begin with (request W7)
+unfoldable pub i64-number : List ℕ → I64Read
+unfolding i64-part
+i64-number d = number-of (i64-part d)
+
+-- and the part of them after it
+unfoldable pub i64-rest : List ℕ → List ℕ
+unfolding i64-part
+i64-rest d = left-of d (i64-part d)
+
+-- where the end of some bytes lies that start at a place: so many bytes behind the start as stand before it
+abbrev pub place-of-rest : ℕ × ℕ → List ℕ → List ℕ → ℕ × ℕ
+place-of-rest start d end = (start .0, start .1 + (length d - length end))
 
 -- a part of so many bytes that leaves something over is refused
 abbrev pub whole-only : ℕ → I64Part → I64Read

@@ -6,7 +6,7 @@ ghost use mathlib.Core.Path.{_≡_};
 ghost use Prim.Native.Nat.{_≤_};
 ghost use lib.IntN.{natAbs};
 ghost use lib.ListN.{drop};
-ghost use Rattle.scalar.specs.Whole.{u64-read, u64-digits, i64-part, i64-digits, i64-read, signed, most-i64};
+ghost use Rattle.scalar.specs.Whole.{u64-read, u64-digits, i64-part, i64-digits, i64-number, i64-rest, i64-read, signed, most-i64, place-of-rest};
 
 // The most that an i64 holds.
 pub(crate) const MOST_I64: u64 = 0x7fff_ffff_ffff_ffff;
@@ -18,14 +18,15 @@ pub enum U64Read {
     Overflow,
 }
 
-// What bytes begin with as a number with a sign: the number, and the place after its digits.
+// What bytes begin with as a number with a sign: the number, and the place after its digits. Who asks from outside gets the
+// part that begins there, and no place.
 pub enum I64Part {
     Is(i64, usize),
     AllDigits,
     Overflow,
 }
 
-// What bytes say as a number with a sign.
+// What bytes say, or begin with, as a number with a sign.
 pub enum I64Read {
     Is(i64),
     AllDigits,
@@ -64,7 +65,7 @@ fn u64_digits(d: &[u8], sign: usize) -> U64Read
 pub fn to_i64(d: &[u8]) -> I64Read
     ensures { λ r. ⌜ r ≡ i64-read (now (d .entry)) ⌝ }
 {
-    match to_i64_t(d) {
+    match i64_part(d) {
         I64Part::Is(i, rest) => {
             if rest < d.len() {
                 I64Read::AllDigits
@@ -77,8 +78,31 @@ pub fn to_i64(d: &[u8]) -> I64Read
     }
 }
 
+// Reads an optional sign and digits, with whatever stands after them: the number that bytes begin with.
+pub fn to_i64_t(d: &[u8]) -> I64Read
+    ensures { λ r. ⌜ r ≡ i64-number (now (d .entry)) ⌝ }
+{
+    match i64_part(d) {
+        I64Part::Is(i, _) => I64Read::Is(i),
+        I64Part::AllDigits => I64Read::AllDigits,
+        I64Part::Overflow => I64Read::Overflow,
+    }
+}
+
+// The part of the bytes after that number, none where it is refused: its bytes, and where it lies, which is at their end.
+pub fn to_i64_rest(d: &[u8]) -> &[u8]
+    ensures bytes { λ r. ⌜ now r ≡ i64-rest (now (d .entry)) ⌝ }
+    ensures place { λ r. ⌜ r .ptr ≡ place-of-rest (d .entry .ptr) (now (d .entry)) (i64-rest (now (d .entry))) ⌝ }
+{
+    match i64_part(d) {
+        I64Part::Is(_, rest) => &d[rest..],
+        I64Part::AllDigits => &d[d.len()..],
+        I64Part::Overflow => &d[d.len()..],
+    }
+}
+
 // Reads an optional sign and digits, and says where what stands after them begins.
-pub fn to_i64_t(d: &[u8]) -> I64Part
+fn i64_part(d: &[u8]) -> I64Part
     ensures { λ r. ⌜ r ≡ i64-part (now (d .entry)) ⌝ }
 {
     if d.len() == 0 {

@@ -23,7 +23,7 @@ use Rattle.promises.specs.ReadingKinds.{holds, has-digit, has-point, end
 
 -- ---- the digits in front
 
-rest-digit : (b : ℕ) (s : List ℕ) → is-digit b ≡ true → rest (b ∷ s) ≡ rest s
+pub rest-digit : (b : ℕ) (s : List ℕ) → is-digit b ≡ true → rest (b ∷ s) ≡ rest s
 rest-digit b s e = ap (λ (r : List ℕ). drop (length r) (b ∷ s)) (run-digit b s e)
 
 pub rest-other : (b : ℕ) (s : List ℕ) → is-digit b ≡ false → rest (b ∷ s) ≡ b ∷ s

@@ -16,7 +16,7 @@ use Rattle.data.proofs.Cases.{by-bool}
 use Rattle.data.specs.Bytes.{plus, minus}
 use Rattle.scalar.specs.Digits.{is-digit, digit-run, value, most-u64}
 use Rattle.scalar.specs.Float.{rest}
-use Rattle.scalar.specs.Whole.{has-tail, u64-digits, u64-read, most-i64, signed, i64-digits, i64-part, i64-read}
+use Rattle.scalar.specs.Whole.{has-tail, u64-digits, u64-read, most-i64, signed, i64-digits, i64-part, number-of, left-of, i64-number, i64-rest, i64-read}
 use Rattle.scalar.specs.declared.whole.I64Part.the-variants as Part
 use Rattle.scalar.specs.declared.whole.I64Part.{I64Part}
 use Rattle.scalar.proofs.Gathers.{tail-on, tail-here}
@@ -141,21 +141,25 @@ answer-of sign n left = do
   val ← ok-or val Overflow
   Ok (val, left)
 
+-- our part in the Rust's words: its number, and what it leaves of the bytes
+abbrev part-as-rust : List ℕ → I64Part → Outcome (ℤ × List ℕ)
+part-as-rust d p = rust-i64-part (number-of p) (left-of d p)
+
 -- after the sign: the check from a length on, the number, and what stands after it
-i64-rest : (negative : Bool) (d t : List ℕ) (sign len : ℕ) (left : List ℕ) → length t ≤ len → drop (sign + length (digit-run t)) d ≡ left
+digits-same : (negative : Bool) (d t : List ℕ) (sign len : ℕ) (left : List ℕ) → length t ≤ len → drop (sign + length (digit-run t)) d ≡ left
     → (from-length (check-from) len (checked (number t)) >>= λ _. answer-of (sign-of negative) (number t % 2 ^ 64) left)
-    ≡ rust-i64-part d (i64-digits negative sign t)
-i64-rest negative d t sign len left h e =
+    ≡ part-as-rust d (i64-digits negative sign t)
+digits-same negative d t sign len left h e =
     spared (check-from) len (number t) (answer-of (sign-of negative) (number t % 2 ^ 64) left) (few t len h)
     ∙ by-bool (ltb most-u64 (number t))
-    (λ u. rw (within, u) (ap (rust-i64-part d) (sym (i64-past negative sign t (omega (arith, ltb-true most-u64 (number t) u))))))
+    (λ u. rw (within, u) (ap (part-as-rust d) (sym (i64-past negative sign t (omega (arith, ltb-true most-u64 (number t) u))))))
     (λ u. rw (within, u, mod-eq-of-lt {n = number t} {m = 2 ^ 64} (omega (arith, ltb-false most-u64 (number t) u)))
     (by-bool (ltb most-i64 (number t))
     (λ p. let past = ltb-true most-i64 (number t) p in
-    rw (times-sign-past (sign-of negative) (number t) past) (ap (rust-i64-part d) (sym (i64-past negative sign t past))))
+    rw (times-sign-past (sign-of negative) (number t) past) (ap (part-as-rust d) (sym (i64-past negative sign t past))))
     (λ f. let held = ltb-false most-i64 (number t) f in
     rw (times-sign-is negative (number t) held)
-    ((λ j. Ok (signed negative (number t), sym e j)) ∙ ap (rust-i64-part d) (sym (i64-is negative sign t held))))))
+    ((λ j. Ok (signed negative (number t), sym e j)) ∙ ap (part-as-rust d) (sym (i64-is negative sign t held))))))
 
 -- the first byte
 minus-sign : (b : ℕ) → eqb b minus ≡ true → is-sign b ≡ true
@@ -189,23 +193,27 @@ after-digit b s e =
     let counted : 0 + suc (length (digit-run s)) ≡ suc (length (digit-run s)) = omega arith in
     rw (digit-run, e) (ap (λ (n : ℕ). drop n (b ∷ s)) counted)
 
-pub i64-part-same : (d : List ℕ) → to-i64-t d ≡ rust-i64-part d (i64-part d)
+part-same : (d : List ℕ) → to-i64-t d ≡ part-as-rust d (i64-part d)
 unfolding to-i64-t
-i64-part-same [] = ap (rust-i64-part []) (sym i64-none)
-i64-part-same (b ∷ s) =
+part-same [] = ap (part-as-rust []) (sym i64-none)
+part-same (b ∷ s) =
     let d = b ∷ s in
     by-bool (eqb b minus)
     (λ m. rw (i64-start-minus b m, partial-is s 0 (omega arith), check-signed b s (minus-sign b m))
-    (i64-rest true d s 1 (suc (length s)) (rest s) (omega arith) (after-sign b s) ∙ ap (rust-i64-part d) (sym (i64-minus b s (eqb-true b minus m)))))
+    (digits-same true d s 1 (suc (length s)) (rest s) (omega arith) (after-sign b s) ∙ ap (part-as-rust d) (sym (i64-minus b s (eqb-true b minus m)))))
     (λ m. by-bool (eqb b plus)
     (λ p. rw (i64-start-plus b p, partial-is s 0 (omega arith), check-signed b s (plus-sign b p))
-    (i64-rest false d s 1 (suc (length s)) (rest s) (omega arith) (after-sign b s)
-    ∙ ap (rust-i64-part d) (sym (i64-plus b s (eqb-false b minus m) (eqb-true b plus p)))))
+    (digits-same false d s 1 (suc (length s)) (rest s) (omega arith) (after-sign b s)
+    ∙ ap (part-as-rust d) (sym (i64-plus b s (eqb-false b minus m) (eqb-true b plus p)))))
     (λ p. by-bool (is-digit b)
     (λ t. rw (i64-start-digit b t, partial-is s (b - 48) (digit-small b t), first-value b s t, check-bare b s (digit-no-sign b t))
-    (i64-rest false d d 0 (suc (length s)) (rest s) (omega arith) (after-digit b s t)
-    ∙ ap (rust-i64-part d) (sym (i64-bare b s (eqb-false b minus m) (eqb-false b plus p) t))))
-    (λ f. rw (i64-start-none b m p f) (ap (rust-i64-part d) (sym (i64-other b s (eqb-false b minus m) (eqb-false b plus p) f))))))
+    (digits-same false d d 0 (suc (length s)) (rest s) (omega arith) (after-digit b s t)
+    ∙ ap (part-as-rust d) (sym (i64-bare b s (eqb-false b minus m) (eqb-false b plus p) t))))
+    (λ f. rw (i64-start-none b m p f) (ap (part-as-rust d) (sym (i64-other b s (eqb-false b minus m) (eqb-false b plus p) f))))))
+
+pub i64-part-same : (d : List ℕ) → to-i64-t d ≡ rust-i64-part (i64-number d) (i64-rest d)
+unfolding i64-number i64-rest
+i64-part-same d = part-same d
 
 -- nothing is left over exactly where the place is past the bytes
 left-over : (d : List ℕ) (at : ℕ) → at < length d → is-empty (drop at d) ≡ false
@@ -220,9 +228,9 @@ answered i used = elim used [ true ↦ Ok i | false ↦ Err AllDigits ]
 
 pub i64-same : (d : List ℕ) → to-i64 d ≡ rust-i64 (i64-read d)
 unfolding to-i64
-i64-same d = rw (i64-part-same d) (go (i64-part d) refl)
+i64-same d = rw (part-same d) (go (i64-part d) refl)
   where
-    go : (p : I64Part) → i64-part d ≡ p → (rust-i64-part d p >>= λ (result, left). answered result (is-empty left)) ≡ rust-i64 (i64-read d)
+    go : (p : I64Part) → i64-part d ≡ p → (part-as-rust d p >>= λ (result, left). answered result (is-empty left)) ≡ rust-i64 (i64-read d)
     go (Part.Is i at) e =
         by-bool (ltb at (length d))
         (λ t. ap (answered i) (left-over d at (ltb-true at (length d) t)) ∙ ap rust-i64 (sym (read-tail d i at e (ltb-true at (length d) t))))

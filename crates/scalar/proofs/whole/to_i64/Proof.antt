@@ -9,8 +9,8 @@ use Rattle.scalar.proofs.Wholes.{read-tail, read-is, read-none, read-pa
 use Rattle.scalar.proofs.whole.to_i64.Statement.{statement}
 use Rattle.scalar.proofs.whole.to_i64.Tie as tie
 
-to-i64-t-requires : tie.Need-to-i64-t-requires
-to-i64-t-requires c κs = search needs
+i64-part-requires : tie.Need-i64-part-requires
+i64-part-requires c κs = search needs
 
 enum-known-i : tie.Need-enum-known-i
 enum-known-i c = search needs
@@ -24,26 +24,26 @@ enum-told-2 c = search needs
 returns : tie.Need-returns
 returns c =
     let at-part = c .before .before in
-    let told = sym (at-part .before .before .to-i64-t .ensures) ∙ at-part .i .given .1 in
+    let told = sym (at-part .before .before .i64-part .ensures) ∙ at-part .i .given .1 in
     sym (read-tail _ _ _ told (c .if1 .taken))
 
 returns-2 : tie.Need-returns-2
 returns-2 c =
     let at-part = c .before .before in
-    let told = sym (at-part .before .before .to-i64-t .ensures) ∙ at-part .i .given .1 in
+    let told = sym (at-part .before .before .i64-part .ensures) ∙ at-part .i .given .1 in
     ap Is (toZ-ofZ w64 _ (record { sfits = c .before .known-told .given .0 .1 })) ∙ sym (read-is _ _ _ told (c .if1 .left))
 
 returns-3 : tie.Need-returns-3
-returns-3 c = sym (read-none _ (sym (c .before .before .to-i64-t .ensures) ∙ c .enum-told .given .1))
+returns-3 c = sym (read-none _ (sym (c .before .before .i64-part .ensures) ∙ c .enum-told .given .1))
 
 returns-4 : tie.Need-returns-4
-returns-4 c = sym (read-past _ (sym (c .before .before .to-i64-t .ensures) ∙ c .enum-told2 .given .1))
+returns-4 c = sym (read-past _ (sym (c .before .before .i64-part .ensures) ∙ c .enum-told2 .given .1))
 
 pub to-i64-spec : {M : Type 1} → statement M
 to-i64-spec =
     tie.close
     (tie.spec
-    to-i64-t-requires
+    i64-part-requires
     enum-known-i
     enum-told
     enum-told-2

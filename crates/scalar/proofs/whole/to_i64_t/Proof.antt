@@ -1,75 +1,38 @@
--- `scalar::whole::to_i64_t` meets its contract: the first byte is a sign, a digit, or refused.
+-- `scalar::whole::to_i64_t` meets its contract: it tells the number of the part, or its refusal.
 -- Assumes nothing.
 use mathlib.Core.Path.{sym, _∙_, ap}
-use mathlib.Core.Bool.{false}
 use borrow.Author.Needs.{needs}
-use Rattle.scalar.specs.Whole.{i64-part, i64-digits}
-use Rattle.scalar.proofs.Gathers.{no-byte, first-byte}
-use Rattle.scalar.proofs.Wholes.{i64-none, i64-minus, i64-plus, i64-bare, i64-other}
+use mir.Syntax.{w64}
+use mir.ValLaws.{toZ-ofZ}
+use Rattle.scalar.specs.declared.whole.I64Read.the-variants.{Is}
+use Rattle.scalar.proofs.Wholes.{number-told}
 use Rattle.scalar.proofs.whole.to_i64_t.Statement.{statement}
 use Rattle.scalar.proofs.whole.to_i64_t.Tie as tie
 
+i64-part-requires : tie.Need-i64-part-requires
+i64-part-requires c κs = search needs
+
+enum-known-i : tie.Need-enum-known-i
+enum-known-i c = search needs
+
+enum-told : tie.Need-enum-told
+enum-told c = search needs
+
+enum-told-2 : tie.Need-enum-told-2
+enum-told-2 c = search needs
+
 returns : tie.Need-returns
-returns c = sym (ap i64-part (no-byte _ (c .if1 .taken)) ∙ i64-none)
-
-shared-slice-read-b : tie.Need-shared-slice-read-b
-shared-slice-read-b c = search needs
-
-i64-digits-requires : tie.Need-i64-digits-requires
-i64-digits-requires c κs = search needs
+returns c =
+    let at-part = c .before in
+    ap Is (toZ-ofZ w64 _ (record { sfits = c .known-told .given .0 .1 }))
+    ∙ sym (number-told _ _ (sym (at-part .before .before .i64-part .ensures) ∙ at-part .i .given .1))
 
 returns-2 : tie.Need-returns-2
-returns-2 c =
-    let at-if2 = c .before in
-    let bytes = first-byte _ (at-if2 .before .before .if1 .left) in
-    c .i64-digits .ensures ∙ sym (ap i64-part bytes ∙ i64-minus _ _ (at-if2 .if2 .taken))
-
-i64-digits-requires-2 : tie.Need-i64-digits-requires-2
-i64-digits-requires-2 c κs = search needs
+returns-2 c = sym (number-told _ _ (sym (c .before .before .i64-part .ensures) ∙ c .enum-told .given .1))
 
 returns-3 : tie.Need-returns-3
-returns-3 c =
-    let at-if3 = c .before in
-    let at-if2 = at-if3 .before in
-    let bytes = first-byte _ (at-if2 .before .before .if1 .left) in
-    c .i64-digits2 .ensures ∙ sym (ap i64-part bytes ∙ i64-plus _ _ (at-if2 .if2 .left) (at-if3 .if3 .taken))
-
-is-digit-requires : tie.Need-is-digit-requires
-is-digit-requires c κs = search needs
-
-i64-digits-requires-3 : tie.Need-i64-digits-requires-3
-i64-digits-requires-3 c κs = search needs
-
-returns-4 : tie.Need-returns-4
-returns-4 c =
-    let at-digit = c .before .before in
-    let at-if3 = at-digit .before in
-    let at-if2 = at-if3 .before in
-    let bytes = first-byte _ (at-if2 .before .before .if1 .left) in
-    let digit = sym (at-digit .is-digit .ensures) ∙ c .before .if4 .taken in
-    c .i64-digits3 .ensures
-    ∙ ap (i64-digits false 0) bytes
-    ∙ sym (ap i64-part bytes ∙ i64-bare _ _ (at-if2 .if2 .left) (at-if3 .if3 .left) digit)
-
-returns-5 : tie.Need-returns-5
-returns-5 c =
-    let at-digit = c .before in
-    let at-if3 = at-digit .before in
-    let at-if2 = at-if3 .before in
-    let bytes = first-byte _ (at-if2 .before .before .if1 .left) in
-    sym (ap i64-part bytes ∙ i64-other _ _ (at-if2 .if2 .left) (at-if3 .if3 .left) (sym (at-digit .is-digit .ensures) ∙ c .if4 .left))
+returns-3 c = sym (number-told _ _ (sym (c .before .before .i64-part .ensures) ∙ c .enum-told2 .given .1))
 
 pub to-i64-t-spec : {M : Type 1} → statement M
 to-i64-t-spec =
-    tie.close
-    (tie.spec
-    returns
-    shared-slice-read-b
-    i64-digits-requires
-    returns-2
-    i64-digits-requires-2
-    returns-3
-    is-digit-requires
-    i64-digits-requires-3
-    returns-4
-    returns-5)
+    tie.close (tie.spec i64-part-requires enum-known-i enum-told enum-told-2 returns returns-2 returns-3)
