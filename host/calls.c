@@ -73,6 +73,98 @@ static void surprises(void) {
                         && tackacorn_kind(bytes("-9223372036854775808"), 20) == TACKACORN_NAME);
 }
 
+/* Whether a scalar begins with this number and has this rest, and is a number as a whole where the rest is empty. */
+static bool begins(const char *scalar, int64_t value, const char *rest) {
+    const size_t length = strlen(scalar);
+    const bool whole = strlen(rest) == 0;
+    int64_t number = 7, all = 7;
+    size_t left = 7;
+    return tackacorn_to_i64_part(bytes(scalar), length, &number, &left) == TACKACORN_OK && number == value
+           && left == strlen(rest) && strcmp(scalar + (length - left), rest) == 0
+           && tackacorn_to_i64(bytes(scalar), length, &all) == (uint32_t)(whole ? TACKACORN_OK : TACKACORN_ALL_DIGITS)
+           && all == (whole ? value : 0);
+}
+
+/* Whether a scalar begins with no number, for this reason, which leaves zeros and is that of the whole scalar too. */
+static bool begins_with_none(const char *scalar, uint32_t refusal) {
+    const size_t length = strlen(scalar);
+    int64_t number = 7, all = 7;
+    size_t left = 7;
+    return tackacorn_to_i64_part(bytes(scalar), length, &number, &left) == refusal && number == 0 && left == 0
+           && tackacorn_to_i64(bytes(scalar), length, &all) == refusal && all == 0;
+}
+
+/* Digits behind each sign and before each tail: the number by its sign and the tail, or the refusal. */
+static void try_digits(const char *digits, uint32_t refusal, int64_t value) {
+    static const char *const signs[] = {"", "+", "-"};
+    static const char *const tails[] = {"", ".", ".1.12", "x", " ", "-1", "E4"};
+    char scalar[64];
+    for (size_t i = 0; i < 3 * (sizeof tails / sizeof tails[0]); i++) {
+        const char *sign = signs[i % 3], *tail = tails[i / 3];
+        snprintf(scalar, sizeof scalar, "%s%s%s", sign, digits, tail);
+        expect(scalar, refusal == TACKACORN_OK ? begins(scalar, *sign == '-' ? -value : value, tail) : begins_with_none(scalar, refusal));
+    }
+}
+
+/* The number that a scalar begins with, both sides of its edges. */
+static void leading_numbers(void) {
+    int64_t number = 7;
+    size_t left = 7;
+    try_digits("0", TACKACORN_OK, 0);
+    try_digits("12", TACKACORN_OK, 12);
+    try_digits("007", TACKACORN_OK, 7);
+    try_digits("9223372036854775807", TACKACORN_OK, INT64_MAX);
+    try_digits("000000000000000000009223372036854775807", TACKACORN_OK, INT64_MAX);
+    try_digits("9223372036854775808", TACKACORN_OVERFLOW, 0);
+    try_digits("9999999999999999999", TACKACORN_OVERFLOW, 0);
+    try_digits("18446744073709551628", TACKACORN_OVERFLOW, 0); /* 12 in 64 bits */
+    try_digits("99999999999999999999", TACKACORN_OVERFLOW, 0);
+    expect("no byte of a part", begins_with_none("", TACKACORN_ALL_DIGITS));
+    expect("another first byte", begins_with_none(".5", TACKACORN_ALL_DIGITS) && begins_with_none("x12", TACKACORN_ALL_DIGITS)
+                                     && begins_with_none(" 12", TACKACORN_ALL_DIGITS) && begins_with_none("/1", TACKACORN_ALL_DIGITS)
+                                     && begins_with_none(":1", TACKACORN_ALL_DIGITS) && begins_with_none("\xb1", TACKACORN_ALL_DIGITS));
+    expect("a sign without a digit", begins("-", 0, "") && begins("+", 0, "") && begins("-x", 0, "x") && begins("+x", 0, "x")
+                                         && begins("-.12", 0, ".12") && begins("--5", 0, "-5") && begins("+-5", 0, "-5"));
+    expect("bytes next to the digits", begins("12/", 12, "/") && begins("12:3", 12, ":3"));
+    expect("a part of a scalar", tackacorn_to_i64_part(bytes("1936.1.12"), 6, &number, &left) == TACKACORN_OK && number == 1936 && left == 2
+                                     && tackacorn_to_i64_part(bytes("1936"), 2, &number, &left) == TACKACORN_OK && number == 19 && left == 0);
+}
+
+/* The header's example to the letter, which host/test holds against it. */
+static bool read_date(const uint8_t *scalar, size_t length, int64_t parts[3]) {
+    size_t at = 0;
+    for (size_t i = 0; i < 3; i++) {
+        size_t left;
+        if (i > 0 && (at == length || scalar[at++] != '.')) {
+            return false;
+        }
+        if (at == length || scalar[at] < '0' || scalar[at] > '9') {
+            return false;
+        }
+        if (tackacorn_to_i64_part(scalar + at, length - at, &parts[i], &left) != TACKACORN_OK) {
+            return false;
+        }
+        at = length - left;
+    }
+    return at == length;
+}
+
+/* Dates that the example reads, and what it takes for none. */
+static void dates(void) {
+    static const char *const none[] = {
+        "", ".", "x", "1936", "1936.", "1936.1", "1936.1.", "1936.1.x", "1936.x.12", ".1.12", "1936..12", "1936.-.12",
+        "1936.1.-", "1936.-1.12", "-1936.1.12", "+1936.1.12", "1936.1.12.", "1936.1.12.3", "1936.1.12x", "1936.1.12 ",
+        " 1936.1.12", "1936.1 .12", "1936,1.12", "1936.1-12", "9223372036854775808.1.12", "1936.1.99999999999999999999",
+    };
+    int64_t day[3] = {7, 7, 7};
+    expect("a date", read_date(bytes("1936.1.12"), 9, day) && day[0] == 1936 && day[1] == 1 && day[2] == 12);
+    expect("a date with zeros", read_date(bytes("0036.01.012"), 11, day) && day[0] == 36 && day[1] == 1 && day[2] == 12);
+    expect("a date of the largest", read_date(bytes("9223372036854775807.0.0"), 23, day) && day[0] == INT64_MAX && day[1] == 0 && day[2] == 0);
+    for (size_t i = 0; i < sizeof none / sizeof none[0]; i++) {
+        expect(none[i], !read_date(bytes(none[i]), strlen(none[i]), day));
+    }
+}
+
 enum { ROOM = 10 * TACKACORN_WORDS_PER_TOKEN };
 
 /* A parse that succeeds, and what is asked of its tape. */
@@ -372,7 +464,7 @@ static void unread(void) {
                                               && refuses_read(TACKACORN_FILE_NO_ROOM, read_bytes(&lent, sheet_file, SHEET_BYTES, 0), &lent, 0));
 }
 
-/* The number of a version's words: 20201 of "2.2.1". */
+/* The number of a version's words: 20300 of "2.3.0". */
 static uint32_t version_number(const char *version) {
     uint32_t number = 0, part = 0;
     for (; *version != 0; version++) {
@@ -404,6 +496,8 @@ static void words(void) {
 int main(void) {
     readings();
     surprises();
+    leading_numbers();
+    dates();
     tokens();
     refused();
     written();

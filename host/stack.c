@@ -52,6 +52,11 @@ static void read_number(void) {
     double value;
     answer = tackacorn_to_f64((const uint8_t *)"-1844674407370955161.5f", 23, &value);
 }
+static void read_part(void) {
+    int64_t value;
+    size_t left;
+    answer = tackacorn_to_i64_part((const uint8_t *)"-9223372036854775807.12", 23, &value, &left);
+}
 static void read_kind(void) {
     answer = tackacorn_kind((const uint8_t *)"-18446744073709551615", 21) != TACKACORN_NAME;
 }
@@ -101,7 +106,7 @@ static bool within(const char *name, void (*call)(void), size_t most) {
 
 int main(void) {
     const char *const nested[][2] = {{"{", "{"}, {"{a=", "{a="}, {"{", "{a="}};
-    bool well = within("to_f64", read_number, MOST) && within("kind", read_kind, MOST);
+    bool well = within("to_f64", read_number, MOST) && within("to_i64_part", read_part, MOST) && within("kind", read_kind, MOST);
     for (size_t i = 0; i < sizeof nested / sizeof nested[0]; i++) {
         nest(nested[i][0], nested[i][1]);
         well = well && within("parse", parse, MOST) && within("check", check, MOST) && within("view", view, MOST)

@@ -15,6 +15,8 @@
  *  - tackacorn_to_f64 takes "18446744073709551616.5" for 0.5. See there for why, and for what to do. It
  *    takes the airframe "109f" for 109, and tackacorn_to_i64 takes "-" for 0: ask tackacorn_kind first,
  *    to which these are names.
+ *  - tackacorn_to_i64_part takes the airframe "109E4" for 109 with 2 bytes left over, and the month of
+ *    "1936.-.12" for 0. See there for a date that is read part by part, with what must be looked at.
  *  - A text save of the game begins with a line like "HOI4txt", which is no part of the format: the
  *    parser takes it for a key, and what follows for something else than it is. Before you parse, write
  *    spaces over that line, so that every offset stays the file's; or pass the text behind the line and
@@ -22,8 +24,8 @@
  *  - A call that refuses still writes: tackacorn_parse leaves the whole tape, the count and the BOM zero
  *    and tells the place, tackacorn_write leaves buffer, scratch and length zero, tackacorn_sheet_write
  *    buffer and length, tackacorn_sheet_read words, text length and count, the readings leave their value
- *    zero. What stood there before is gone, and a 0 that is left is no number that was read. Look at the
- *    answer of every call.
+ *    zero, tackacorn_to_i64_part what is left over too. What stood there before is gone, and a 0 that stands
+ *    there then is no number that was read. Look at the answer of every call.
  *  - Not every save that parses can be written back, and what is written may be read otherwise by another
  *    program. See tackacorn_write before you hand its text to the game.
  *  - A sheet file holds no text, and a sound one may fit another text than yours. See tackacorn_sheet_read
@@ -66,8 +68,8 @@ extern "C" {
 /* The version of this header, as words and as a number that rises: 10000 * first + 100 * second + third.
  * The first part rises where a program that was built with an older header would read a tape wrongly, and
  * with it the name of the shared library; the second where something is added; the third else. */
-#define TACKACORN_VERSION "2.2.1"
-#define TACKACORN_VERSION_NUMBER 20201
+#define TACKACORN_VERSION "2.3.0"
+#define TACKACORN_VERSION_NUMBER 20300
 
 /* The most bytes that a text may have. */
 #define TACKACORN_TEXT_LIMIT 16777215
@@ -353,13 +355,14 @@ uint32_t tackacorn_sheet_read(const uint8_t *file, size_t file_length, uint32_t 
 /* The readings of a scalar's bytes. Each reads the bytes and writes *value: what it reads, or 0 on a
  * refusal, but for PRECISION_LOSS. They answer as the Rust does, also where that surprises:
  *
- *  - A lone sign is a number: "-" is 0 to to_i64 and to_f64, "+" is 0 to to_u64 as well. So are ".", "-."
- *    and ".f" to to_f64 (0, -0 and 0), and "+f" and "-f". "f" alone is none. If a number must have a digit,
- *    ask tackacorn_kind first: none of these is a number to it.
- *  - -2^63, "-9223372036854775808", is OVERFLOW to to_i64, and to to_f64 where it has no point: the digits
- *    are read before the minus.
- *  - No letter is an exponent: "109E4" is ALL_DIGITS to every reading. A closing 'f' is part of a decimal:
- *    to_f64 reads "109f" as 109, though it may be an airframe. tackacorn_kind calls it a Name. */
+ *  - A lone sign is a number: "-" is 0 to to_i64, to_i64_part and to_f64, "+" is 0 to to_u64 as well. So are
+ *    ".", "-." and ".f" to to_f64 (0, -0 and 0), and "+f" and "-f". "f" alone is none. If a number must have a
+ *    digit, ask tackacorn_kind first: none of these is a number to it. For to_i64_part see there.
+ *  - -2^63, "-9223372036854775808", is OVERFLOW to to_i64 and to_i64_part, and to to_f64 where it has no
+ *    point: the digits are read before the minus.
+ *  - No letter is an exponent: "109E4" is ALL_DIGITS to every reading but to_i64_part, which reads the 109
+ *    and leaves "E4" over. A closing 'f' is part of a decimal: to_f64 reads "109f" as 109, though it may be
+ *    an airframe. tackacorn_kind calls it a Name. */
 
 /* 'yes' is 1 and 'no' is 0; all else is INVALID_BOOL. */
 uint32_t tackacorn_to_bool(const uint8_t *scalar, size_t length, uint32_t *value);
@@ -371,6 +374,51 @@ uint32_t tackacorn_to_u64(const uint8_t *scalar, size_t length, uint64_t *value)
 /* An optional sign and digits. OVERFLOW where the digits are above 2^63 - 1, also after a minus and
  * before other bytes; else ALL_DIGITS where another byte follows them, and for no byte at all. */
 uint32_t tackacorn_to_i64(const uint8_t *scalar, size_t length, int64_t *value);
+
+/* The number that a scalar begins with, and how many bytes are left over behind it: an optional sign, digits,
+ * and whatever stands after them.
+ *
+ * Answers TACKACORN_OK: *value is the number, and the rest is the last *left bytes of the scalar. It begins at
+ * scalar + (length - *left), and with no digit. Or answers a refusal, and *value and *left are 0: OVERFLOW
+ * where the digits are above 2^63 - 1, also after a minus and whatever follows them; ALL_DIGITS for no byte at
+ * all, and where the first is neither a sign nor a digit.
+ *
+ * "1936.1.12" is 1936 and leaves ".1.12", "12" is 12 and leaves nothing. tackacorn_to_i64 is this reading where
+ * nothing is left, and ALL_DIGITS where bytes are.
+ *
+ * BEFORE YOU TAKE THE NUMBER
+ *
+ *  - Nothing of the rest is looked at: "109E4" is 109 and leaves "E4", "12.5" is 12 and leaves ".5". Where the
+ *    whole scalar must be the number, ask tackacorn_kind and tackacorn_to_i64.
+ *  - A refusal leaves 0 bytes too: *left does not tell whether all was read. Only the answer does.
+ *  - A sign with no digit behind it is the number 0: "-" is 0 and leaves nothing, "-x" is 0 and leaves "x", and
+ *    "1936.-.12" has a 0 for its second part, with no refusal. Where a part must have a digit, look at the byte
+ *    that it begins with.
+ *  - Each part may have a sign, and zeros before its digits: the parts of "1936.-1.012" are 1936, -1 and 12.
+ *
+ * This reads the three parts of a date like "1936.1.12": a digit at the begin of each, a point before the second
+ * and the third, and nothing behind them. Where it answers false, the parts say nothing; and whether the
+ * calendar has such a day it does not tell.
+ *
+ *     static bool read_date(const uint8_t *scalar, size_t length, int64_t parts[3]) {
+ *         size_t at = 0;
+ *         for (size_t i = 0; i < 3; i++) {
+ *             size_t left;
+ *             if (i > 0 && (at == length || scalar[at++] != '.')) {
+ *                 return false;
+ *             }
+ *             if (at == length || scalar[at] < '0' || scalar[at] > '9') {
+ *                 return false;
+ *             }
+ *             if (tackacorn_to_i64_part(scalar + at, length - at, &parts[i], &left) != TACKACORN_OK) {
+ *                 return false;
+ *             }
+ *             at = length - left;
+ *         }
+ *         return at == length;
+ *     }
+ */
+uint32_t tackacorn_to_i64_part(const uint8_t *scalar, size_t length, int64_t *value, size_t *left);
 
 /* A sign, digits, a point, digits and a closing 'f', each as it may be left out. ALL_DIGITS for any other
  * form, OVERFLOW for a number too large or over 22 digits behind the point. A number without a point

@@ -13,6 +13,11 @@ pub fn fallback_boundary(byte: u8) -> bool {
     data::is_boundary(byte)
 }
 
+/// The inner routine of the Rust's i64 reading: the number at a scalar's front, and what is left.
+pub fn leading_number(scalar: &[u8]) -> Result<(i64, &[u8]), ScalarError> {
+    scalar::to_i64_t(scalar)
+}
+
 pub mod text {
     pub use crate::operator::Operator;
 

@@ -6,7 +6,7 @@ use crate::numbers::{LONGEST, MOST_ROOM, MOST_SCRATCH, MOST_TOKENS, UNQUOTED, WO
 use crate::record::Record;
 use crate::rng::Rng;
 use crate::sheets::Sheet;
-use crate::{domain, edges, edits, oracle, scalars, sheets, texts, writer};
+use crate::{domain, edges, edits, leading, oracle, scalars, sheets, texts, writer};
 
 /// All cases of one seed, one after another.
 pub struct Generator {
@@ -17,6 +17,7 @@ pub struct Generator {
     scalars: usize,
     sheets: usize,
     writes: Writes,
+    leading: leading::Scalars,
     pub files: Files,
     pub left_out: LeftOut,
 }
@@ -39,10 +40,13 @@ pub fn short_is_due(made: &mut usize) -> bool {
     made.is_multiple_of(every)
 }
 
-/// How many of a hundred cases are sheets to put on file and files to read.
+/// How many of a hundred cases are scalars whose leading number is asked.
+const LEADING: usize = 10;
+
+/// How many of a hundred other cases are sheets to put on file and files to read.
 const FILES: usize = 31;
 
-/// How many of a hundred other cases are sheets to write out.
+/// How many of a hundred cases that are none of these are sheets to write out.
 const WRITES: usize = 34;
 
 /// The sheets to write out of one seed. They have a chance of their own, so that they do not change which
@@ -105,9 +109,11 @@ impl Generator {
     pub fn new(seed: u64) -> Self {
         let (rng, edges) = (Rng::new(seed), edges::records().into_iter());
         let writes = Writes { rng: Rng::new(seed ^ u64::from(b'W')), made: 0, short: 0 };
+        let leading = leading::Scalars::new(Rng::new(seed ^ u64::from(b'N')));
         let files = Files::new(Rng::new(seed ^ u64::from(b'F')));
         let left_out = LeftOut::default();
-        Generator { rng, edges, made: 0, texts: 0, scalars: 0, sheets: 0, writes, files, left_out }
+        let (made, texts, scalars, sheets) = (0, 0, 0, 0);
+        Generator { rng, edges, made, texts, scalars, sheets, writes, leading, files, left_out }
     }
 
     fn take(number: &mut usize) -> usize {
@@ -171,6 +177,9 @@ impl Iterator for Generator {
         if let Some(edge) = self.edges.next() {
             return Some(edge);
         }
+        if self.leading.are_due(LEADING) {
+            return Some(self.leading.record());
+        }
         if self.files.are_due(FILES) {
             return Some(self.files.record());
         }
@@ -210,7 +219,7 @@ pub fn bad(rng: &mut Rng) -> Vec<u8> {
             bytes.truncate(rng.between(5, 7));
             return bytes;
         }
-        2 => Record { kind: *rng.pick(b"AUNtsvfr\0\n"), ..good.clone() }.bytes(),
+        2 => Record { kind: *rng.pick(b"AUDYOntsvfr\0\n"), ..good.clone() }.bytes(),
         3 => Record { body: vec![b' '; rng.between(LONGEST + 1, 65_535)], ..good.clone() }.bytes(),
         4 => {
             let length = *rng.pick(&UNEVEN);

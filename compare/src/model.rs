@@ -452,13 +452,13 @@ impl Parser<'_> {
 
 // ---- Reading a scalar ----
 
-/// The digits at the front as a number, as far as 128 bits tell it: longer ones stay at the top.
-fn number(digits: &[u8]) -> u128 {
+/// The digits as a number, as far as 128 bits tell it: longer ones stay at the top.
+pub fn number(digits: &[u8]) -> u128 {
     digits.iter().fold(0, |n: u128, d| n.saturating_mul(10).saturating_add(u128::from(d - b'0')))
 }
 
 /// The digits gathered modulo 2^64.
-fn gathered(digits: &[u8]) -> u64 {
+pub fn gathered(digits: &[u8]) -> u64 {
     digits.iter().fold(0, |n: u64, d| n.wrapping_mul(10).wrapping_add(u64::from(d - b'0')))
 }
 
@@ -482,19 +482,38 @@ pub fn to_u64(bytes: &[u8]) -> Result<u64, u8> {
     u64::try_from(number(digits)).map_err(|_| OVERFLOW)
 }
 
-pub fn to_i64(bytes: &[u8]) -> Result<i64, u8> {
-    let (negative, rest) = match bytes {
-        [b'-', rest @ ..] => (true, rest),
-        [b'+', rest @ ..] => (false, rest),
-        [] => return Err(ALL_DIGITS),
-        _ => (false, bytes),
-    };
-    let (digits, tail) = rest.split_at(digits_in_front(rest));
-    let value = i64::try_from(number(digits)).map_err(|_| OVERFLOW)?;
-    if !tail.is_empty() {
+/// The parts of a scalar for request W7: a sign or none, digits or none, and the rest behind them.
+#[derive(Clone, Copy)]
+pub struct Split<'s> {
+    pub sign: &'s [u8],
+    pub digits: &'s [u8],
+    pub rest: &'s [u8],
+}
+
+/// Splits a scalar behind its sign and behind the digits that follow.
+pub fn split(bytes: &[u8]) -> Split<'_> {
+    let signed = bytes.starts_with(b"+") || bytes.starts_with(b"-");
+    let (sign, unsigned) = bytes.split_at(usize::from(signed));
+    let (digits, rest) = unsigned.split_at(digits_in_front(unsigned));
+    Split { sign, digits, rest }
+}
+
+/// Request W7: the number at the front and how many bytes are left, or the refusal's number.
+pub fn leading(bytes: &[u8]) -> Result<(i64, usize), u8> {
+    let Split { sign, digits, rest } = split(bytes);
+    if sign.is_empty() && digits.is_empty() {
         return Err(ALL_DIGITS);
     }
-    Ok(if negative { -value } else { value })
+    let value = i64::try_from(number(digits)).map_err(|_| OVERFLOW)?;
+    Ok((if sign == b"-" { -value } else { value }, rest.len()))
+}
+
+/// The i64 reading: a leading number with nothing left behind it.
+pub fn to_i64(bytes: &[u8]) -> Result<i64, u8> {
+    match leading(bytes)? {
+        (value, 0) => Ok(value),
+        _ => Err(ALL_DIGITS),
+    }
 }
 
 /// What the f64 reading refuses: a number alone, or 24 with the float.

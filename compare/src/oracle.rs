@@ -1,7 +1,7 @@
 //! The Rust's answers, in document 01's words and numbers.
 
 use crate::numbers::*;
-use crate::record::{self, Question, bits, reading};
+use crate::record::{self, Leading, Question, bits, reading};
 use crate::{file, kind, sheet, writer};
 use jomini::text::Operator;
 use jomini::{ErrorKind, Scalar, ScalarError, TextTape, TextToken};
@@ -120,6 +120,15 @@ fn readings(bytes: &[u8]) -> String {
     format!("{yes} {whole} {signed} {float} {}\n", kind::by_form(bytes))
 }
 
+/// What the Rust's inner routine makes of a scalar. The bytes that it leaves are the scalar's own,
+/// at its end; where it leaves none, its empty rest lies elsewhere.
+pub fn leading(bytes: &[u8]) -> Leading {
+    let (number, rest) = jomini::leading_number(bytes).map_err(|error| scalar_number(&error))?;
+    let end = &bytes[bytes.len() - rest.len()..];
+    assert!(rest.is_empty() || std::ptr::eq(rest, end), "a rest from elsewhere: {bytes:?}");
+    Ok((number, rest.len()))
+}
+
 pub fn answer(question: Question<'_>, out: &mut String) {
     match question {
         Question::Text { text, capacity } => {
@@ -130,6 +139,7 @@ pub fn answer(question: Question<'_>, out: &mut String) {
             }
         }
         Question::Scalar { bytes } => out.push_str(&readings(bytes)),
+        Question::Leading { bytes } => record::write_leading(out, leading(bytes)),
         Question::Check { length, count, words } => {
             record::write_sound(out, sheet::sound(length, &words, count));
         }

@@ -21,6 +21,11 @@ impl Record {
         Record { kind: b'S', capacity: 0, body: bytes }
     }
 
+    /// A scalar whose leading number is asked.
+    pub fn leading(bytes: Vec<u8>) -> Self {
+        Record { kind: b'N', capacity: 0, body: bytes }
+    }
+
     pub fn check(length: u32, count: u32, words: &[u32]) -> Self {
         let body = [length, count].iter().chain(words).flat_map(|w| w.to_be_bytes()).collect();
         Record { kind: b'C', capacity: 0, body }
@@ -67,6 +72,7 @@ impl Record {
 pub enum Question<'r> {
     Text { text: &'r [u8], capacity: usize },
     Scalar { bytes: &'r [u8] },
+    Leading { bytes: &'r [u8] },
     Check { length: u32, count: u32, words: Vec<u32> },
     View { index: u32, count: u32, words: Vec<u32>, text: &'r [u8] },
     Write(ToWrite<'r>),
@@ -114,6 +120,7 @@ impl Record {
                 Some(Question::Text { text: body, capacity })
             }
             b'S' => Some(Question::Scalar { bytes: body }),
+            b'N' => Some(Question::Leading { bytes: body }),
             b'C' => {
                 let (length, count, words) = sheet_to_end(body)?;
                 Some(Question::Check { length, count, words })
@@ -227,6 +234,15 @@ pub fn reading<T: ToString>(reading: Result<T, u8>) -> String {
     reading.map_or_else(|number| number.to_string(), |value| format!("={}", value.to_string()))
 }
 
+/// The number at a scalar's front and how many bytes are left behind it, or the refusal's number.
+pub type Leading = Result<(i64, usize), u8>;
+
+/// One line for a leading number and how many bytes are left, or for the refusal's number.
+pub fn write_leading(out: &mut String, leading: Leading) {
+    let told = leading.map(|(number, left)| format!("{number} {left}"));
+    writeln!(out, "{}", reading(told)).unwrap();
+}
+
 pub fn bits(float: f64) -> String {
     format!("{:016x}", float.to_bits())
 }
@@ -298,6 +314,8 @@ mod tests {
         let good = [
             Record::text(vec![b' '; LONGEST], u16::MAX),
             Record::scalar(Vec::new()),
+            Record::leading(Vec::new()),
+            Record::leading(vec![b'0'; LONGEST]),
             Record::check(0, 0, &[]),
             Record::view(0, 0, &[1], b""),
             Record::write(0, 0, u32::MAX, &[1], b""),
@@ -305,6 +323,7 @@ mod tests {
             Record::unpack(0, Vec::new()),
             Record::unpack(u16::MAX, vec![0; 13]),
             Record { capacity: 65_535, ..Record::scalar(Vec::new()) },
+            Record { capacity: 65_535, ..Record::leading(Vec::new()) },
         ];
         let input: Vec<u8> = good.iter().flat_map(Record::bytes).collect();
         assert_eq!(served(&input), "answer\n".repeat(good.len()));
@@ -329,7 +348,9 @@ mod tests {
         let body = |kind, length| Record { kind, capacity: 0, body: vec![0; length] };
         for bad in [
             body(b'X', 0),
+            body(b'n', 0),
             body(b'T', LONGEST + 1),
+            body(b'N', LONGEST + 1),
             body(b'C', 7),
             body(b'C', 9),
             body(b'V', 9),

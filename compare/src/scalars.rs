@@ -8,7 +8,7 @@ const SIGNS: &[u8] = b"019+-.fE_yn";
 const KIND_SIGNS: &[u8] = b"+-.09fexysno";
 
 /// The scalar of this number among all of up to so many signs, or how far the number is past the last of them.
-fn spelt(signs: &[u8], longest: u32, number: usize) -> Result<Vec<u8>, usize> {
+pub fn spelt(signs: &[u8], longest: u32, number: usize) -> Result<Vec<u8>, usize> {
     let mut left = number;
     for length in 0..=longest {
         let all = signs.len().pow(length);
@@ -92,7 +92,7 @@ pub fn any(rng: &mut Rng) -> Vec<u8> {
     }
 }
 
-fn digits(rng: &mut Rng, length: usize) -> String {
+pub fn digits(rng: &mut Rng, length: usize) -> String {
     let narrow = rng.chance(30);
     let from: &[u8] = if narrow { b"09" } else { b"0123456789" };
     (0..length).map(|_| char::from(*rng.pick(from))).collect()

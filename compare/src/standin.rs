@@ -1,20 +1,22 @@
 //! The model's answers, for testing the comparison, and the faults that it can be given.
 
 use crate::kind::{self, NoNumber};
+use crate::leading_faults::{self, Fault as LeadingFault};
 use crate::model::{self, F64Refusal, Refusal};
 use crate::model_file::{self, Fault as FileFault};
 use crate::model_writer::{self, Fault as WriterFault};
 use crate::numbers::*;
 use crate::record::{self, Question, bits, reading};
 
-fn readings(bytes: &[u8], wrong: Option<WrongKind>) -> String {
+fn readings(bytes: &[u8], wrong: Option<WrongKind>, i64_fault: Option<LeadingFault>) -> String {
     let float = match model::to_f64(bytes) {
         Ok(float) => format!("={}", bits(float)),
         Err(F64Refusal::PrecisionLoss(float)) => format!("{PRECISION_LOSS}:{}", bits(float)),
         Err(F64Refusal::Number(number)) => number.to_string(),
     };
     let yes = reading(model::to_bool(bytes).map(u8::from));
-    let (whole, signed) = (reading(model::to_u64(bytes)), reading(model::to_i64(bytes)));
+    let whole = reading(model::to_u64(bytes));
+    let signed = reading(leading_faults::to_i64(bytes, i64_fault));
     let right = model::kind(bytes);
     let kind = wrong.map_or(right, |wrong| wrong(bytes, right));
     format!("{yes} {whole} {signed} {float} {kind}\n")
@@ -22,9 +24,11 @@ fn readings(bytes: &[u8], wrong: Option<WrongKind>) -> String {
 
 /// The model's answer, or that of a wrong program.
 pub fn answer(question: Question<'_>, fault: Option<Fault>, out: &mut String) {
-    let (mut kind_fault, mut writer_fault, mut file_fault) = (None, None, None);
+    let (mut kind_fault, mut leading_fault, mut writer_fault, mut file_fault) =
+        (None, None, None, None);
     match fault {
         Some((_, Wrong::Kind(fault))) => kind_fault = Some(fault),
+        Some((_, Wrong::Leading(fault))) => leading_fault = Some(fault),
         Some((_, Wrong::Writer(fault))) => writer_fault = Some(fault),
         Some((_, Wrong::File(fault))) => file_fault = Some(fault),
         Some((_, Wrong::Answer(_))) | None => {}
@@ -37,7 +41,10 @@ pub fn answer(question: Question<'_>, fault: Option<Fault>, out: &mut String) {
                 Ok((count, bom)) => record::write_tape(out, &tape[..WORDS * count], bom),
             }
         }
-        Question::Scalar { bytes } => out.push_str(&readings(bytes, kind_fault)),
+        Question::Scalar { bytes } => out.push_str(&readings(bytes, kind_fault, leading_fault)),
+        Question::Leading { bytes } => {
+            record::write_leading(out, leading_faults::leading(bytes, leading_fault));
+        }
         Question::Check { length, count, words } => {
             record::write_sound(out, model::check(length, &words, count));
         }
@@ -60,12 +67,13 @@ pub fn answer(question: Question<'_>, fault: Option<Fault>, out: &mut String) {
 /// A wrong kind of a scalar, from its bytes and the right one.
 pub type WrongKind = fn(&[u8], u8) -> u8;
 
-/// What is wrong with a program: what it makes of a right answer or a right kind, how it writes a sheet, or how
-/// it puts one on file and reads it.
+/// What is wrong with a program: what it makes of a right answer or a right kind, how it takes a
+/// leading number, how it writes a sheet, or how it puts one on file and reads it.
 #[derive(Clone, Copy)]
 pub enum Wrong {
     Answer(fn(&str) -> String),
     Kind(WrongKind),
+    Leading(LeadingFault),
     Writer(WriterFault),
     File(FileFault),
 }
@@ -78,7 +86,7 @@ pub fn fault(name: &str) -> Option<Fault> {
     FAULTS.into_iter().find(|fault| fault.0 == name)
 }
 
-pub const FAULTS: [Fault; 57] = [
+pub const FAULTS: [Fault; 78] = [
     ("exists_is_equal", Wrong::Answer(|right| right.replace(&operator(EXISTS), &operator(EQUAL)))),
     (
         "not_equal_is_exact",
@@ -116,6 +124,27 @@ pub const FAULTS: [Fault; 57] = [
         "most_u64_a_name",
         Wrong::Kind(|bytes, right| given(right, NAME, bytes == b"18446744073709551615")),
     ),
+    ("rest_refused", Wrong::Leading(LeadingFault::RestRefused)),
+    ("lone_sign_refused", Wrong::Leading(LeadingFault::LoneSignRefused)),
+    ("plus_refused", Wrong::Leading(LeadingFault::PlusRefused)),
+    ("empty_is_zero", Wrong::Leading(LeadingFault::EmptyIsZero)),
+    ("name_is_zero", Wrong::Leading(LeadingFault::NameIsZero)),
+    ("second_sign_taken", Wrong::Leading(LeadingFault::SecondSignTaken)),
+    ("rest_before_overflow", Wrong::Leading(LeadingFault::RestBeforeOverflow)),
+    ("most_i64_refused", Wrong::Leading(LeadingFault::MostRefused)),
+    ("one_over_i64_taken", Wrong::Leading(LeadingFault::OneOverTaken)),
+    ("least_i64_taken", Wrong::Leading(LeadingFault::LeastTaken)),
+    ("number_modulo_2_64", Wrong::Leading(LeadingFault::Modulo)),
+    ("digits_counted", Wrong::Leading(LeadingFault::DigitsCounted)),
+    ("bytes_counted", Wrong::Leading(LeadingFault::BytesCounted)),
+    ("minus_lost", Wrong::Leading(LeadingFault::MinusLost)),
+    ("last_digit_left", Wrong::Leading(LeadingFault::LastDigitLeft)),
+    ("sign_left", Wrong::Leading(LeadingFault::SignLeft)),
+    ("point_taken", Wrong::Leading(LeadingFault::PointTaken)),
+    ("closing_f_taken", Wrong::Leading(LeadingFault::ClosingFTaken)),
+    ("taken_for_left", Wrong::Leading(LeadingFault::TakenForLeft)),
+    ("i64_of_any_rest", Wrong::Leading(LeadingFault::I64OfAnyRest)),
+    ("i64_rest_before_overflow", Wrong::Leading(LeadingFault::I64RestBeforeOverflow)),
     ("form_to_level_64", Wrong::Writer(WriterFault::FormTo64)),
     ("room_before_depth", Wrong::Writer(WriterFault::RoomBeforeDepth)),
     ("escape_without_quotes", Wrong::Writer(WriterFault::EscapeBare)),

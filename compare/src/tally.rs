@@ -1,6 +1,6 @@
-//! What a run reached: cases by kind, refusals, token codes, operators, escapes, readings, numbers of document 01
-//! that are names now, faults of sheets, what sheets that were to be written out came to, and what became of sheets to put on file and of
-//! files to read.
+//! What a run reached: cases by kind, refusals, token codes, operators, escapes, readings, numbers of
+//! document 01 that are names now, leading numbers, faults of sheets, what sheets that were to be
+//! written out came to, and what became of sheets to put on file and of files to read.
 
 use crate::file::{self, Cause};
 use crate::kind::{self, NoNumber};
@@ -29,10 +29,17 @@ impl Tally {
 
     /// What a long run should have reached and did not.
     pub fn missing(&self) -> Vec<String> {
-        let reached = |(heading, name): &(&'static str, String)| {
-            !self.0.contains_key(&(*heading, name.clone()))
-        };
-        expected().into_iter().filter(reached).map(|(h, n)| format!("{h} {n}")).collect()
+        self.not_reached(expected())
+    }
+
+    /// What a long run of scalars whose leading number is asked should have reached and did not.
+    pub fn missing_of_leading(&self) -> Vec<String> {
+        self.not_reached(expected_of_leading())
+    }
+
+    fn not_reached(&self, expected: Vec<Feature>) -> Vec<String> {
+        let missing = expected.into_iter().filter(|feature| !self.0.contains_key(feature));
+        missing.map(|(heading, name)| format!("{heading} {name}")).collect()
     }
 }
 
@@ -71,7 +78,7 @@ const CAUSES: [NoScalar; 4] = [
 /// All that records can reach. Refusal 1 needs a text longer than a record holds.
 fn expected() -> Vec<Feature> {
     let mut all: Vec<Feature> = Vec::new();
-    all.extend(["T", "S", "C", "V", "W", "F", "R"].map(|kind| ("cases", kind.to_string())));
+    all.extend(["T", "S", "N", "C", "V", "W", "F", "R"].map(|kind| ("cases", kind.to_string())));
     all.extend((EOF..=FULL).map(|number| ("refusals", number.to_string())));
     all.extend(NAMES.map(|(_, name)| ("tokens", name.to_string())));
     all.extend((LESS_THAN..=EXISTS).map(|kind| ("operators", kind.to_string())));
@@ -105,9 +112,53 @@ fn expected() -> Vec<Feature> {
         let answer = if levels > MOST_LEVELS { "refused" } else { "written" };
         all.push(("levels", format!("{levels} {answer}")));
     }
+    all.extend(expected_of_leading());
     all.extend(expected_of_files());
     all
 }
+
+/// All that scalars whose leading number is asked can reach.
+fn expected_of_leading() -> Vec<Feature> {
+    let mut all: Vec<Feature> = Vec::new();
+    for left in [NOTHING_LEFT, A_REST] {
+        let numbers = ["positive", "zero", "negative"].map(|number| format!("{number}, {left}"));
+        let refusals = [ALL_DIGITS, OVERFLOW].map(|number| format!("{number}, {left}"));
+        all.extend(numbers.into_iter().chain(refusals).map(|name| ("leading number", name)));
+    }
+    for sign in ["no sign", "plus", "minus"] {
+        all.extend(["digits", "no digit"].map(|what| ("leading sign", format!("{sign}, {what}"))));
+        all.extend(LIMITS.map(|limit| ("leading limit", format!("{sign}, {limit}"))));
+    }
+    all.extend(DIGITS.map(|count| ("leading digits", count.to_string())));
+    all.extend(FIRST_LEFT.map(|(name, _)| ("rest begins with", name.to_string())));
+    all
+}
+
+/// Whether bytes are left behind a number, in words.
+const NOTHING_LEFT: &str = "nothing left";
+const A_REST: &str = "a rest";
+
+/// How many digits a number is looked for with, and what became of it: over 19 are read where zeros
+/// stand in front.
+const DIGITS: [&str; 7] =
+    ["18 read", "19 read", "19 refused", "20 read", "20 refused", "more read", "more refused"];
+
+/// The largest number that is read, the largest that 64 bits hold, and one more than each.
+const LIMITS: [&str; 4] =
+    ["9223372036854775807", "9223372036854775808", "18446744073709551615", "18446744073709551616"];
+
+/// Whether a byte is of some kind.
+type ByteTest = fn(u8) -> bool;
+
+/// What a rest can begin with, and how it is told: the first test that holds.
+const FIRST_LEFT: [(&str, ByteTest); 6] = [
+    ("a point", |byte| byte == b'.'),
+    ("a sign", |byte| matches!(byte, b'+' | b'-')),
+    ("a letter", |byte| byte.is_ascii_alphabetic()),
+    ("a blank", |byte| byte.is_ascii_whitespace()),
+    ("a byte past ASCII", |byte| !byte.is_ascii()),
+    ("another byte", |_| true),
+];
 
 /// All that sheets to put on file and files to read can reach. A file has the words that its count asks
 /// for, so that its sheet cannot fail for them.
@@ -187,6 +238,7 @@ pub fn features(record: &Record, answer: &str) -> Vec<Feature> {
                 found.push(("no number any more", format!("{old} {why:?}")));
             }
         }
+        Some(Question::Leading { bytes }) => found.extend(leading_features(bytes, answer)),
         Some(Question::Check { length, count, words }) => {
             found.push(("sheets", answer.trim_end().to_string()));
             if let [fault] = sheet::faults(length, &words, count)[..] {
@@ -205,6 +257,46 @@ pub fn features(record: &Record, answer: &str) -> Vec<Feature> {
         Some(Question::Unpack(asked)) => found.extend(unpack_features(&asked, answer)),
     }
     found
+}
+
+/// What a scalar whose leading number is asked shows: the number's sign or the refusal, with a rest or
+/// without; what stands in front, how many digits from 18 up, whether they are a limit, and how the
+/// rest begins.
+fn leading_features(bytes: &[u8], answer: &str) -> Vec<Feature> {
+    let (sign, unsigned) = match bytes {
+        [b'+', unsigned @ ..] => ("plus", unsigned),
+        [b'-', unsigned @ ..] => ("minus", unsigned),
+        _ => ("no sign", bytes),
+    };
+    let end = unsigned.iter().position(|byte| !byte.is_ascii_digit()).unwrap_or(unsigned.len());
+    let (digits, rest) = unsigned.split_at(end);
+    let left = if rest.is_empty() { NOTHING_LEFT } else { A_REST };
+    let what = if digits.is_empty() { "no digit" } else { "digits" };
+    let mut found: Vec<Feature> = vec![
+        ("leading number", format!("{}, {left}", number_name(answer))),
+        ("leading sign", format!("{sign}, {what}")),
+    ];
+    let became = if answer.starts_with('=') { "read" } else { "refused" };
+    match digits.len() {
+        ..18 => {}
+        count @ 18..=20 => found.push(("leading digits", format!("{count} {became}"))),
+        _ => found.push(("leading digits", format!("more {became}"))),
+    }
+    let limit = LIMITS.into_iter().find(|limit| digits == limit.as_bytes());
+    found.extend(limit.map(|limit| ("leading limit", format!("{sign}, {limit}"))));
+    let first = rest.first().and_then(|&byte| FIRST_LEFT.iter().find(|(_, is)| is(byte)));
+    found.extend(first.map(|(name, _)| ("rest begins with", name.to_string())));
+    found
+}
+
+/// A leading number's sign in words, or the refusal.
+fn number_name(answer: &str) -> &str {
+    match answer.split_whitespace().next() {
+        Some("=0") => "zero",
+        Some(told) if told.starts_with("=-") => "negative",
+        Some(told) if told.starts_with('=') => "positive",
+        refusal => refusal.unwrap_or_default(),
+    }
 }
 
 /// What a sheet that is to be put on file shows: that it was, or why it was not and what else stood against

@@ -7,10 +7,10 @@
 
 #include <stdio.h>
 
-/* How the command ends. Of several files the greatest counts. */
+/* How the command ends. Of several files or scalars the greatest counts. */
 enum status {
     STATUS_WELL = 0,      /* all was well */
-    STATUS_REFUSED = 1,   /* a save or a sheet file is refused, or cannot be written */
+    STATUS_REFUSED = 1,   /* a save, a sheet file or a scalar is refused, or a save cannot be written */
     STATUS_CALL = 2,      /* the command was called wrongly */
     STATUS_SYSTEM = 3,    /* the system refused: a missing file, no memory, a full disk */
     STATUS_NOT_FOUND = 4  /* get: the save is well, and has no such value */
@@ -54,7 +54,8 @@ struct input {
 };
 
 /* A save: its bytes, the tape that is lent to the parser, and what the parser answered; or the writer, whose
- * refusals have no place. A sheet that was read from a file is one without the bytes: of its text it has the length. */
+ * refusals have no place. A sheet that was read from a file is one without the bytes: of its text it has the length.
+ * A scalar that is refused is told as one, with its name and the refusal alone. */
 struct save {
     const char *name;
     uint8_t *text;
@@ -105,6 +106,7 @@ enum status write_back(const struct call *call); /* `write` is the C library's *
 enum status pack(const struct call *call);
 enum status unpack(const struct call *call);
 enum status verify(const struct call *call);
+enum status number(const struct call *call);
 enum status help(const struct call *call);
 
 #endif

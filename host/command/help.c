@@ -14,28 +14,29 @@ static void print_usage(const struct subcommand *subcommand) {
     printf("usage: tackacorn %s %s\n", subcommand->name, subcommand->usage);
 }
 
-/* What holds of every subcommand that reads files. */
+/* What holds of every subcommand: of their files and scalars, options, refusals and statuses. */
 static void print_common(void) {
     printf("FILE and SAVE are saves, SHEET is a sheet file. Each is read whole; '-' is standard input,\n"
            "and so is no file at all. A save may have %d bytes, a sheet file as many as such a\n"
            "save can give. A first line of letters and digits that ends in 'txt', as HOI4txt, is no part\n"
            "of the save and is passed over. Lines, columns and offsets are the file's: lines and columns\n"
-           "count from 1, a column is a byte, and a BOM has none. Options come before the file, and\n"
-           "'--' ends them:\n"
+           "count from 1, a column is a byte, and a BOM has none. SCALAR is no file but the bytes of a\n"
+           "value, and '-' is one. Options come before the file or the scalar, and '--' ends them:\n"
            "  --raw      leave the first line to the parser, which takes it for a key\n"
            "  --numbers  print a refusal as 'refused NUMBER PLACE' on standard output, not in words\n\n"
            "A refusal is one line of standard error: FILE:LINE:COLUMN: refusal NUMBER: WORDS, and of\n"
-           "write, where the save parses, and of a sheet file FILE: refusal NUMBER: WORDS\n\n"
-           "Status: 0 all was well; 1 a save or a sheet file is refused; 2 a wrong call; 3 the system\n"
-           "refused (a file is missing, unreadable or too large, no memory, the output cannot be\n"
+           "write, where the save parses, and of a sheet file FILE: refusal NUMBER: WORDS; of a scalar\n"
+           "SCALAR: refusal NUMBER: WORDS\n\n"
+           "Status: 0 all was well; 1 a save, a sheet file or a scalar is refused; 2 a wrong call; 3 the\n"
+           "system refused (a file is missing, unreadable or too large, no memory, the output cannot be\n"
            "written); 4 get found nothing.\n",
            TACKACORN_TEXT_LIMIT);
 }
 
 /* Prints what the command does. */
 void print_overview(void) {
-    fputs("tackacorn looks at text saves, checks them, gets values out of them, writes them back, and keeps\n"
-          "their tokens on file.\n\n",
+    fputs("tackacorn looks at text saves, checks them, gets values out of them, writes them back, keeps\n"
+          "their tokens on file, and reads the number that a scalar begins with.\n\n",
           stdout);
     print_warning();
     for (size_t i = 0; i < subcommand_count; i++) {

@@ -1,12 +1,13 @@
-/* tackacorn: looks at saves, checks them, gets values out of them, writes them back, and keeps their tokens on file.
+/* tackacorn: looks at saves, checks them, gets values out of them, writes them back, keeps their tokens on file, and
+ * reads the number that a scalar begins with.
  *
  * A call is 'tackacorn SUBCOMMAND [OPTION..] [WORD..]'. The table below has a line for each subcommand. */
 #include "command.h"
 
 #include <string.h>
 
-#define OPTIONS "[--numbers] [--raw]"
-#define OF_SHEETS "[--numbers]"
+#define NUMBERS "[--numbers]"
+#define OPTIONS NUMBERS " [--raw]"
 #define ANY_NUMBER ((size_t)-1)
 #define QUOTE(macro) #macro
 #define WORDS_OF(macro) QUOTE(macro)
@@ -52,19 +53,31 @@ const struct subcommand subcommands[] = {
      "sheet must have the very same save. Look at the status: without --numbers nothing is printed on\n"
      "a refusal, and an empty file is no sheet. Never write onto the file that is read.\n",
      0, 1, true, pack},
-    {"unpack", OF_SHEETS " [SHEET]", "print the tokens of a sheet file",
+    {"unpack", NUMBERS " [SHEET]", "print the tokens of a sheet file",
      "Prints 'sheet LENGTH COUNT', the length of the text that the sheet is of and how many tokens it\n"
      "has, then a line for each token as look does. Offsets are those of the text, which is not there.\n"
      "Any file may be tried: what is printed is sound, or nothing is printed. A sound sheet may still\n"
      "be no parse of any text, and the file does not prove who wrote it: see verify.\n",
      0, 1, false, unpack},
-    {"verify", OF_SHEETS " SHEET [SAVE]", "say whether a sheet file is sound, and fits a save in length",
+    {"verify", NUMBERS " SHEET [SAVE]", "say whether a sheet file is sound, and fits a save in length",
      "Prints 'sound', or on standard error why the file is refused. With a save, its length must be the\n"
      "text's length of the sheet, too, or a line on standard error says that it is not, and the status\n"
      "is 1. No more is known: another save of the same length fits as well, with wrong values, and a\n"
      "stranger's sheet may be sound and be no parse of any text. Hold a checksum of both against what\n"
      "was sent; or pack the save yourself, and compare the files.\n",
      1, 2, false, verify},
+    {"number", NUMBERS " SCALAR..", "print the number that each scalar begins with, and what is left over",
+     "Reads no file: a scalar is the bytes themselves. Prints a line for each: the number, how many\n"
+     "bytes are left over behind its digits, and where some are, these bytes as they stand. 12 is\n"
+     "'12 0', and 1936.1.12 is '1936 5 .1.12'. A control byte is printed as \\x0a. The status is that of\n"
+     "the worst scalar, and with --numbers a refused one has its line among the others. A scalar that\n"
+     "begins with '-' needs '--' before it, where it is the first: 'number -- -12 -7'; a lone '-' does\n"
+     "not.\n\n"
+     "Refusal 21: no byte at all, or the first is neither a sign nor a digit. 22: the digits are over\n"
+     "9223372036854775807, after a minus too, whatever follows them. Before you take the number, look\n"
+     "at what is left: 109E4 is '109 2 E4', and 12.5 is '12 2 .5'. A sign with no digit behind it is 0:\n"
+     "- is '0 0', and -.12 is '0 3 .12'.\n",
+     1, ANY_NUMBER, false, number},
     {"help", "[SUBCOMMAND]", "print this, or more about a subcommand", "", 0, 1, false, help},
 };
 const size_t subcommand_count = sizeof subcommands / sizeof subcommands[0];
@@ -135,7 +148,7 @@ static enum status run(const struct subcommand *subcommand, char **words, size_t
 /* Finds the subcommand that is called. */
 static enum status dispatch(char **words, size_t count) {
     if (count == 0) {
-        return wrong_call("no subcommand", "look, check, get, write, pack, unpack, verify or help is wanted");
+        return wrong_call("no subcommand", "look, check, get, write, pack, unpack, verify, number or help is wanted");
     }
     if (asks_for_help(words[0])) {
         print_overview();

@@ -1,5 +1,5 @@
 /* What the command says besides its answers: refusals in words, complaints about the system. Each is one line
- * of standard error, whatever bytes a file's name has. */
+ * of standard error, whatever bytes a file's name or a scalar has. */
 #include "command.h"
 
 #include <errno.h>
@@ -22,7 +22,7 @@ void show(FILE *out, const uint8_t *bytes, size_t length) {
     }
 }
 
-/* Writes a file's name. */
+/* Writes a file's name, or another word of the call. */
 void show_name(FILE *out, const char *name) {
     show(out, (const uint8_t *)name, strlen(name));
 }
@@ -74,7 +74,7 @@ static void show_place(FILE *out, const struct save *save, size_t place) {
     fprintf(out, ":%zu:%zu", line, place < begin ? 1 : place - begin + 1);
 }
 
-/* Says why a save or a sheet file is refused: "fleet.txt:12:7: refusal 5: a '}' where a value is due". */
+/* Says why a save, a sheet file or a scalar is refused: "fleet.txt:12:7: refusal 5: a '}' where a value is due". */
 static void tell_words(const struct save *save) {
     size_t place;
     fflush(stdout);
@@ -85,7 +85,8 @@ static void tell_words(const struct save *save) {
     fprintf(stderr, ": refusal %" PRIu32 ": %s\n", save->refusal, tackacorn_refusal_text(save->refusal));
 }
 
-/* Says why a save or a sheet file is refused, in words on standard error, or with --numbers as the program `dump` does. */
+/* Says why a save, a sheet file or a scalar is refused, in words on standard error, or with --numbers as the program
+ * `dump` does. */
 void tell_refusal(const struct save *save, const struct call *call) {
     if (call->numbers) {
         printf("refused %" PRIu32 " %zu\n", save->refusal, save->place);

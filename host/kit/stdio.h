@@ -14,3 +14,4 @@ int putchar(int byte);
 int puts(const char *words);
 int printf(const char *form, ...);
 int fprintf(FILE *file, const char *form, ...);
+int snprintf(char *into, size_t size, const char *form, ...);

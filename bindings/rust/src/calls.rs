@@ -73,6 +73,12 @@ mod library {
         pub fn tackacorn_to_bool(scalar: *const u8, length: usize, value: *mut u32) -> u32;
         pub fn tackacorn_to_u64(scalar: *const u8, length: usize, value: *mut u64) -> u32;
         pub fn tackacorn_to_i64(scalar: *const u8, length: usize, value: *mut i64) -> u32;
+        pub fn tackacorn_to_i64_part(
+            scalar: *const u8,
+            length: usize,
+            value: *mut i64,
+            left: *mut usize,
+        ) -> u32;
         pub fn tackacorn_to_f64(scalar: *const u8, length: usize, value: *mut f64) -> u32;
         pub fn tackacorn_kind(scalar: *const u8, length: usize) -> u32;
     }
@@ -221,6 +227,17 @@ pub(crate) fn to_i64(scalar: &[u8]) -> (u32, i64) {
     (refusal, value)
 }
 
+/// A refusal's number, the number that a scalar begins with, and how many bytes are left over behind it.
+pub(crate) fn to_i64_part(scalar: &[u8]) -> (u32, i64, usize) {
+    let (mut value, mut left) = (0, 0);
+    // SAFETY: `scalar` may be read for its length; the two numbers are ours alone and live through the
+    // call.
+    let refusal = unsafe {
+        library::tackacorn_to_i64_part(scalar.as_ptr(), scalar.len(), &mut value, &mut left)
+    };
+    (refusal, value, left)
+}
+
 pub(crate) fn to_f64(scalar: &[u8]) -> (u32, f64) {
     let mut value = 0.0;
     // SAFETY: `scalar` may be read for its length; `value` is ours alone and lives through the call.
@@ -239,7 +256,7 @@ pub(crate) fn refusal_text(number: u32) -> &'static str {
     unsafe { words_at(library::tackacorn_refusal_text(number)) }
 }
 
-/// The version of the library that this crate is linked with, as `2.2.1`.
+/// The version of the library that this crate is linked with, as `2.3.0`.
 pub fn version() -> &'static str {
     // SAFETY: it takes nothing, and the words that answer stay and end in a zero.
     unsafe { words_at(library::tackacorn_version()) }

@@ -115,6 +115,7 @@ impl ReadingKind {
 /// | `f` and nothing | `AllDigits` | `AllDigits` | `AllDigits` |
 ///
 /// Where a number must have one, ask for the [`kind`](Scalar::kind) first: none of these is a number to it.
+/// [`to_i64_part`](Scalar::to_i64_part) takes a sign with no digit behind it for 0 as well: see there.
 #[derive(PartialEq, Eq, Copy, Clone)]
 pub struct Scalar<'a> {
     data: &'a [u8],
@@ -249,6 +250,59 @@ impl<'a> Scalar<'a> {
     #[inline]
     pub fn to_i64(self) -> Result<i64, ScalarError> {
         answered(calls::to_i64(self.data), |_| None)
+    }
+
+    /// Reads the number that the scalar begins with: an optional sign and digits. With it comes the rest of the
+    /// scalar behind them, which begins with no digit. [`to_i64`](Self::to_i64) is this reading where the rest is
+    /// empty. It is the Rust's `to_i64_t`, which stands behind the Rust's own `to_i64` and is not public there.
+    ///
+    /// ```
+    /// use tackacorn::{Scalar, ScalarError};
+    ///
+    /// assert_eq!(Scalar::new(b"1936.1.12").to_i64_part(), Ok((1936, b".1.12".as_slice())));
+    /// assert_eq!(Scalar::new(b"-50").to_i64_part(), Ok((-50, b"".as_slice())));
+    /// // the first byte is a sign or a digit
+    /// assert_eq!(Scalar::new(b".5").to_i64_part(), Err(ScalarError::AllDigits));
+    /// assert_eq!(Scalar::new(b"").to_i64_part(), Err(ScalarError::AllDigits));
+    /// // digits over 2^63 - 1 are too large, after a minus too, whatever follows them
+    /// assert_eq!(Scalar::new(b"-9223372036854775808x").to_i64_part(), Err(ScalarError::Overflow));
+    /// ```
+    ///
+    /// # Before you take the number
+    ///
+    /// Nothing of the rest is looked at: the airframe `109E4` is 109 with `E4` left over. And **a sign with no
+    /// digit behind it is 0**, so that `1936.-.12`, read part by part, has a month of 0, and `1936.-1.12` one of
+    /// -1, with no refusal. A reader of dates looks at the byte that a part begins with:
+    ///
+    /// ```
+    /// use tackacorn::Scalar;
+    ///
+    /// /// The three parts of `1936.1.12`: digits, a point between them, and nothing behind them.
+    /// fn date(scalar: &[u8]) -> Option<[i64; 3]> {
+    ///     let (mut parts, mut rest) = ([0; 3], scalar);
+    ///     for (i, part) in parts.iter_mut().enumerate() {
+    ///         if i > 0 {
+    ///             rest = rest.strip_prefix(b".")?;
+    ///         }
+    ///         rest.first().filter(|byte| byte.is_ascii_digit())?;
+    ///         (*part, rest) = Scalar::new(rest).to_i64_part().ok()?;
+    ///     }
+    ///     rest.is_empty().then_some(parts)
+    /// }
+    /// assert_eq!(date(b"1936.1.12"), Some([1936, 1, 12]));
+    /// assert_eq!(date(b"1936.01.012"), Some([1936, 1, 12]));
+    /// for none in ["1936.1", "1936..12", "1936.-.12", "1936.-1.12", "1936.1.12.", "1936.1.12x"] {
+    ///     assert_eq!(date(none.as_bytes()), None);
+    /// }
+    /// // without that look a sign is a part
+    /// assert_eq!(Scalar::new(b"-.12").to_i64_part(), Ok((0, b".12".as_slice())));
+    /// assert_eq!(Scalar::new(b"109E4").to_i64_part(), Ok((109, b"E4".as_slice())));
+    /// ```
+    #[inline]
+    pub fn to_i64_part(self) -> Result<(i64, &'a [u8]), ScalarError> {
+        let (refusal, value, left) = calls::to_i64_part(self.data);
+        let rest = &self.data[self.data.len() - left..];
+        answered((refusal, (value, rest)), |_| None)
     }
 
     /// Reads a number that is not negative: an optional `+` and digits.

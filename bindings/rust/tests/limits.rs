@@ -322,6 +322,57 @@ fn numbers_without_a_digit() {
     }
 }
 
+/// Holds the number in front of a scalar, and the whole scalar, against the value of its digits, which is none
+/// where they are too large.
+fn try_leading(sign: &str, digits: &str, tail: &str, value: Option<i64>) {
+    let bytes = format!("{sign}{digits}{tail}");
+    let scalar = Scalar::new(bytes.as_bytes());
+    let number = value.map(|value| if sign == "-" { -value } else { value });
+    let number = number.ok_or(ScalarError::Overflow);
+    let part = number.clone().map(|number| (number, tail.as_bytes()));
+    assert_eq!(scalar.to_i64_part(), part, "{bytes}");
+    let no_tail = if tail.is_empty() { Ok(()) } else { Err(ScalarError::AllDigits) };
+    assert_eq!(scalar.to_i64(), number.and_then(|number| no_tail.map(|()| number)), "{bytes}");
+}
+
+#[test]
+fn the_number_that_a_scalar_begins_with() {
+    let table = [
+        ("0", Some(0)),
+        ("12", Some(12)),
+        ("007", Some(7)),
+        ("9223372036854775807", Some(i64::MAX)),
+        ("000000000000000000009223372036854775807", Some(i64::MAX)),
+        ("9223372036854775808", None),
+        ("18446744073709551628", None), // 12 in 64 bits
+        ("99999999999999999999", None),
+    ];
+    for (digits, value) in table {
+        for sign in ["", "+", "-"] {
+            for tail in ["", ".", ".1.12", "x", " ", "-1", "E4", "\0", "/", ":"] {
+                try_leading(sign, digits, tail, value);
+            }
+        }
+    }
+}
+
+/// A sign needs no digit behind it, another first byte is refused, and the rest is of the scalar's own bytes.
+#[test]
+fn the_edges_of_a_leading_number() {
+    let part = |bytes: &'static str| Scalar::new(bytes.as_bytes()).to_i64_part();
+    for (bytes, rest) in [("-", ""), ("+", ""), ("-x", "x"), ("+.5", ".5"), ("--5", "-5")] {
+        assert_eq!(part(bytes), Ok((0, rest.as_bytes())), "{bytes}");
+    }
+    for bytes in ["", ".5", "x12", " 12", "/1", ":1", "\0", "yes"] {
+        assert_eq!(part(bytes), Err(ScalarError::AllDigits), "{bytes}");
+    }
+    let scalar = b"1936.1.12";
+    let (year, rest) = Scalar::new(scalar).to_i64_part().unwrap();
+    assert!(year == 1936 && rest.as_ptr_range() == scalar[4..].as_ptr_range());
+    let (whole, none) = Scalar::new(&scalar[..4]).to_i64_part().unwrap();
+    assert!(whole == 1936 && none.as_ptr_range() == scalar[4..4].as_ptr_range());
+}
+
 #[test]
 fn the_library_is_of_this_version() {
     let first = |version: &'static str| version.split('.').next();

@@ -50,7 +50,8 @@ fn main() -> io::Result<()> {
     fs::write(Path::new(&folder).join("stdout"), output)
 }
 
-/// Texts and sheets at the limits of a record: as many bytes and as many tokens as it may have.
+/// Texts, sheets, files and a scalar at the limits of a record: as many bytes and as many tokens as it
+/// may have.
 fn limits() -> Vec<Record> {
     let longest = [b"a=".as_slice(), &[b'b'; LONGEST - 2]].concat();
     let just_room = b"a=b ".repeat(usize::from(MOST_TOKENS) / 2);
@@ -64,7 +65,13 @@ fn limits() -> Vec<Record> {
         let (room, scratch) = (MOST_ROOM as u16, MOST_SCRATCH as u16);
         Record::write(room, scratch, sheet.count, &sheet.words, &sheet.text)
     });
-    texts.into_iter().chain(sheets).chain(file_limits()).collect()
+    texts.into_iter().chain(sheets).chain(file_limits()).chain([leading_limit()]).collect()
+}
+
+/// A scalar as long as a record may be: one half is a digit behind zeros, and the other is left.
+fn leading_limit() -> Record {
+    let half = LONGEST / 2;
+    Record::leading([vec![b'0'; half - 1], vec![b'7'], vec![b'x'; half]].concat())
 }
 
 /// The largest sheet to put on file and the largest file, each with just room, and a file as long as a record

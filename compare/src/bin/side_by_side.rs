@@ -6,7 +6,7 @@ use compare::pipe::{answers, ask, from_hex, hex};
 use compare::record::Record;
 use compare::rng::Rng;
 use compare::tally::Tally;
-use compare::{kind, oracle, scalars, standin};
+use compare::{kind, leading, oracle, scalars, standin};
 use std::time::Instant;
 use std::{env, io, process};
 
@@ -35,13 +35,17 @@ fn run() -> io::Result<bool> {
         Some("--case") => replay(arguments.get(1).unwrap_or_else(|| usage())),
         Some("--probe") => Ok(probe()),
         Some("--kinds") => kinds(&ours()),
+        Some("--leading") => leading(&ours(), number(1, 1), number(2, 300_000) as usize),
         Some("--self-test") => self_test(number(1, 1), number(2, 1_000_000) as usize),
         _ => compare(&ours(), number(0, 1), number(1, 1_000_000) as usize),
     }
 }
 
 fn usage() -> ! {
-    eprintln!("run [SEED] [N] | --case HEX | --probe | --kinds | --self-test [SEED] [N]");
+    eprintln!(
+        "run [SEED] [N] | --case HEX | --probe | --kinds | --leading [SEED] [N] | \
+         --self-test [SEED] [N]"
+    );
     process::exit(2);
 }
 
@@ -176,29 +180,68 @@ fn probe() -> bool {
 /// Every scalar of up to five of the bytes that tell the kinds apart: our readings and kind against the Rust's
 /// readings and the request's form, and the kind against what the request makes of document 01's.
 fn kinds(ours: &[String]) -> io::Result<bool> {
-    let scalars: Vec<Vec<u8>> = scalars::kinds().collect();
+    let records: Vec<Record> = scalars::kinds().map(Record::scalar).collect();
     let mut moved = 0;
-    for batch in scalars.chunks(BATCH) {
-        let records: Vec<Vec<u8>> =
-            batch.iter().map(|scalar| Record::scalar(scalar.clone()).bytes()).collect();
-        let (output, difference) = ask_both(ours, &records)?;
+    let alike = ask_all(ours, &records, |Record { body, .. }, answer| {
+        let (old, new) = (kind::by_readings(body), kind::amended(body));
+        moved += usize::from(old != new);
+        let holds = answer.ends_with(format!(" {new}\n").as_bytes());
+        if !holds {
+            println!("{:?}: the theorem has {new}", String::from_utf8_lossy(body));
+        }
+        holds
+    })?;
+    if !alike {
+        return Ok(false);
+    }
+    println!(
+        "{} scalars, no difference; document 01 has a number in {moved} of them that are a name now",
+        records.len()
+    );
+    Ok(true)
+}
+
+/// Scalars whose leading number is asked, the edges and every short one and then others of a seed:
+/// our answers against those of the Rust's own inner routine.
+fn leading(ours: &[String], seed: u64, cases: usize) -> io::Result<bool> {
+    let records: Vec<Record> = leading::all(seed).take(cases).map(Record::leading).collect();
+    let mut tally = Tally::default();
+    let alike = ask_all(ours, &records, |record, answer| {
+        tally.count(record, &String::from_utf8_lossy(answer));
+        true
+    })?;
+    if !alike {
+        return Ok(false);
+    }
+    println!("{tally}");
+    for missing in tally.missing_of_leading() {
+        println!("never reached: {missing}");
+    }
+    let in_order = leading::in_order().count().min(cases);
+    println!(
+        "seed {seed}: {cases} scalars, no difference; the first {in_order} of them are the edges \
+         and short ones in order"
+    );
+    Ok(true)
+}
+
+/// Asks both sides all of these, until they differ or an answer does not hold; whether none did.
+fn ask_all(
+    ours: &[String],
+    records: &[Record],
+    mut holds: impl FnMut(&Record, &[u8]) -> bool,
+) -> io::Result<bool> {
+    for batch in records.chunks(BATCH) {
+        let asked: Vec<Vec<u8>> = batch.iter().map(Record::bytes).collect();
+        let (output, difference) = ask_both(ours, &asked)?;
         if let Some(difference) = &difference {
             show(difference);
             return Ok(false);
         }
-        for (scalar, answer) in batch.iter().zip(answers(&output)) {
-            let (old, new) = (kind::by_readings(scalar), kind::amended(scalar));
-            if !answer.ends_with(format!(" {new}\n").as_bytes()) {
-                println!("{:?}: the theorem has {new}", String::from_utf8_lossy(scalar));
-                return Ok(false);
-            }
-            moved += usize::from(old != new);
+        if !batch.iter().zip(answers(&output)).all(|(record, answer)| holds(record, answer)) {
+            return Ok(false);
         }
     }
-    println!(
-        "{} scalars, no difference; document 01 has a number in {moved} of them that are a name now",
-        scalars.len()
-    );
     Ok(true)
 }
 

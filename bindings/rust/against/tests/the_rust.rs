@@ -1,6 +1,6 @@
 //! The crate beside the Rust's own types, on the records of the comparison: every token and its place in
-//! the text, every reading bit for bit, every refusal by number and place, every sheet and view, what is
-//! written of a text, and sheets on file.
+//! the text, every reading bit for bit, every number in front with what is left over, every refusal by
+//! number and place, every sheet and view, what is written of a text, and sheets on file.
 //! `SEED` and `CASES` choose others than are tried by themselves.
 
 use compare::generate::Generator;
@@ -8,6 +8,7 @@ use compare::record::{Question, ToPack, ToUnpack, ToWrite};
 use compare::rng::Rng;
 use compare::{kind, oracle, texts};
 use std::env;
+use std::ops::Range;
 use tackacorn::sheet::{self, Sheet};
 use tackacorn::{FileError, Scalar, ScalarError, TextTape, TextToken, WORDS_PER_TOKEN, WriteError};
 
@@ -21,15 +22,15 @@ fn shown(bytes: &[u8]) -> String {
 
 // ---- scalars ----
 
-/// Whether both have the same answer, a float by its bits.
-fn same_answer<T>(
+/// Whether both have the same answer, by what is compared of it: of a float its bits.
+fn same_answer<T, U: PartialEq>(
     ours: Result<T, ScalarError>,
     theirs: Result<T, jomini::ScalarError>,
-    bits: impl Fn(T) -> u64,
+    compared: impl Fn(T) -> U,
 ) -> bool {
     use jomini::ScalarError as Theirs;
     match (ours, theirs) {
-        (Ok(ours), Ok(theirs)) => bits(ours) == bits(theirs),
+        (Ok(ours), Ok(theirs)) => compared(ours) == compared(theirs),
         (Err(ScalarError::PrecisionLoss(ours)), Err(Theirs::PrecisionLoss(theirs))) => {
             ours.to_bits() == theirs.to_bits()
         }
@@ -41,7 +42,19 @@ fn same_answer<T>(
     }
 }
 
+/// A number in front, and where the bytes behind it lie: the Rust's empty rest is no part of the scalar.
+fn placed((number, rest): (i64, &[u8])) -> (i64, Option<Range<*const u8>>) {
+    (number, (!rest.is_empty()).then(|| rest.as_ptr_range()))
+}
+
+/// The number that a scalar begins with and the bytes behind it, here and by the Rust's inner routine.
+fn same_part_read(bytes: &[u8]) {
+    let (ours, theirs) = (Scalar::new(bytes).to_i64_part(), jomini::leading_number(bytes));
+    assert!(same_answer(ours, theirs, placed), "the number in front of {:?} differs", shown(bytes));
+}
+
 fn same_readings(bytes: &[u8]) {
+    same_part_read(bytes);
     let (ours, theirs) = (Scalar::new(bytes), jomini::Scalar::new(bytes));
     let same = same_answer(ours.to_bool(), theirs.to_bool(), u64::from)
         && same_answer(ours.to_u64(), theirs.to_u64(), |value| value)
@@ -205,7 +218,7 @@ fn same_unpack(asked: &ToUnpack<'_>) {
 #[test]
 fn the_records_of_the_comparison() {
     let (seed, cases) = (number("SEED", 2026), number("CASES", 500_000));
-    let (mut parses, mut written, mut scalars, mut sheets) = (0, 0, 0, 0);
+    let (mut parses, mut written, mut scalars, mut fronts, mut sheets) = (0, 0, 0, 0, 0);
     let (mut views, mut writes, mut files) = (0, 0, 0);
     for record in Generator::new(seed).take(cases as usize) {
         match record.question().expect("a good record") {
@@ -218,6 +231,10 @@ fn the_records_of_the_comparison() {
             Question::Scalar { bytes } => {
                 same_readings(bytes);
                 scalars += 1;
+            }
+            Question::Leading { bytes } => {
+                same_part_read(bytes);
+                fronts += 1;
             }
             Question::Check { length, count, words } => {
                 let sound = compare::sheet::sound(length, &words, count);
@@ -246,8 +263,8 @@ fn the_records_of_the_comparison() {
         }
     }
     println!(
-        "seed {seed}: {parses} texts, {written} of them written back, {scalars} scalars, {sheets} sheets, \
-         {views} views, {writes} sheets to write and {files} on file, no difference"
+        "seed {seed}: {parses} texts, {written} of them written back, {scalars} scalars, {fronts} numbers in \
+         front, {sheets} sheets, {views} views, {writes} sheets to write and {files} on file, no difference"
     );
 }
 

@@ -1,0 +1,40 @@
+/* tackacorn number: the number that a scalar begins with, and what is left over behind it. */
+#include "command.h"
+
+#include <inttypes.h>
+#include <string.h>
+
+/* Says the number, how many bytes are left over, and where some are, these bytes. */
+static void tell_part(int64_t value, const uint8_t *rest, size_t left) {
+    printf("%" PRId64 " %zu", value, left);
+    if (left > 0) {
+        putc(' ', stdout);
+        show(stdout, rest, left);
+    }
+    putc('\n', stdout);
+}
+
+/* Reads one scalar, or says why it is refused, as of a save, but that a scalar has no place to point at. */
+static enum status read_one(const char *word, const struct call *call) {
+    const uint8_t *scalar = (const uint8_t *)word;
+    const size_t length = strlen(word);
+    int64_t value;
+    size_t left;
+    const uint32_t refusal = tackacorn_to_i64_part(scalar, length, &value, &left);
+    if (refusal != TACKACORN_OK) {
+        const struct save refused = {.name = length == 0 ? "an empty scalar" : word, .refusal = refusal};
+        tell_refusal(&refused, call);
+        return STATUS_REFUSED;
+    }
+    tell_part(value, scalar + (length - left), left);
+    return STATUS_WELL;
+}
+
+/* Reads every scalar that is given. */
+enum status number(const struct call *call) {
+    enum status status = STATUS_WELL;
+    for (size_t i = 0; i < call->count; i++) {
+        status = worse(status, read_one(call->words[i], call));
+    }
+    return status;
+}
