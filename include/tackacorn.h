@@ -396,9 +396,11 @@ uint32_t tackacorn_to_i64(const uint8_t *scalar, size_t length, int64_t *value);
  *    that it begins with.
  *  - Each part may have a sign, and zeros before its digits: the parts of "1936.-1.012" are 1936, -1 and 12.
  *
- * This reads the three parts of a date like "1936.1.12": a digit at the begin of each, a point before the second
- * and the third, and nothing behind them. Where it answers false, the parts say nothing; and whether the
- * calendar has such a day it does not tell.
+ * This reads the three parts of a date like "1936.1.12": each begins with a digit, a point stands before the
+ * second and the third, and nothing behind them. Where it answers false, the parts say nothing; and whether the
+ * calendar has such a day it does not tell. A date with an hour behind the day, "1939.9.1.12", as many saves
+ * have it, is answered false: where you want one, read a fourth part in the same way. So is a part above
+ * 2^63 - 1.
  *
  *     static bool read_date(const uint8_t *scalar, size_t length, int64_t parts[3]) {
  *         size_t at = 0;

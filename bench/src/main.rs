@@ -57,6 +57,11 @@ fn read_all(scalars: &[&[u8]], read: impl Fn(&[u8]) -> (u32, u64)) -> u64 {
     })
 }
 
+/// A number and how many bytes are left over behind it as one, by which two answers are compared.
+fn told_together(value: i64, left: usize) -> u64 {
+    value as u64 ^ (left as u64) << 32
+}
+
 macro_rules! reading {
     ($scalars:expr, $bytes:expr, $read:ident) => {{
         let (ours, theirs) = (read_all($scalars, ours::$read), read_all($scalars, theirs::$read));
@@ -219,5 +224,6 @@ fn main() {
     ];
     let sum = all.iter().fold((Duration::ZERO, Duration::ZERO), |s, t| (s.0 + t.0, s.1 + t.1));
     show("  all four", 4 * bytes, sum);
+    reading!(scalars, bytes, to_i64_part);
     kinds(scalars, bytes);
 }

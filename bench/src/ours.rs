@@ -1,5 +1,7 @@
 //! Our calls, as C sees them: `include/tackacorn.h` says what each reads and writes.
 
+use crate::told_together;
+
 unsafe extern "C" {
     fn tackacorn_parse(
         text: *const u8,
@@ -43,6 +45,12 @@ unsafe extern "C" {
     fn tackacorn_to_bool(scalar: *const u8, length: usize, value: &mut u32) -> u32;
     fn tackacorn_to_u64(scalar: *const u8, length: usize, value: &mut u64) -> u32;
     fn tackacorn_to_i64(scalar: *const u8, length: usize, value: &mut i64) -> u32;
+    fn tackacorn_to_i64_part(
+        scalar: *const u8,
+        length: usize,
+        value: &mut i64,
+        left: &mut usize,
+    ) -> u32;
     fn tackacorn_to_f64(scalar: *const u8, length: usize, value: &mut f64) -> u32;
     fn tackacorn_kind(scalar: *const u8, length: usize) -> u32;
 }
@@ -136,6 +144,14 @@ pub fn to_i64(scalar: &[u8]) -> (u32, u64) {
     let mut value = 0;
     let refusal = unsafe { tackacorn_to_i64(scalar.as_ptr(), scalar.len(), &mut value) };
     (refusal, value as u64)
+}
+
+/// The number in front, with how many bytes are left over behind it.
+pub fn to_i64_part(scalar: &[u8]) -> (u32, u64) {
+    let (mut value, mut left) = (0, 0);
+    let refusal =
+        unsafe { tackacorn_to_i64_part(scalar.as_ptr(), scalar.len(), &mut value, &mut left) };
+    (refusal, told_together(value, left))
 }
 
 pub fn to_f64(scalar: &[u8]) -> (u32, u64) {

@@ -1,8 +1,9 @@
 //! The Rust's parser and readings, and its readings' answers in document 01's numbers.
 
+use crate::told_together;
 use compare::kind::by_readings;
 use compare::oracle::scalar_number;
-use jomini::{Scalar, ScalarError, TextTape};
+use jomini::{Scalar, ScalarError, TextTape, leading_number};
 
 /// The count of a parsed text.
 pub fn parse<'a>(text: &'a [u8], tape: &mut TextTape<'a>) -> Option<usize> {
@@ -35,6 +36,11 @@ pub fn to_u64(scalar: &[u8]) -> (u32, u64) {
 
 pub fn to_i64(scalar: &[u8]) -> (u32, u64) {
     told(Scalar::new(scalar).to_i64(), |value| value as u64)
+}
+
+/// The Rust's inner routine, which its own `to_i64` stands on.
+pub fn to_i64_part(scalar: &[u8]) -> (u32, u64) {
+    told(leading_number(scalar), |(value, rest)| told_together(value, rest.len()))
 }
 
 pub fn to_f64(scalar: &[u8]) -> (u32, u64) {

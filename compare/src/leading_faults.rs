@@ -26,7 +26,7 @@ pub enum Fault {
     RestBeforeOverflow,
     /// Refuses 2^63 - 1.
     MostRefused,
-    /// Takes 2^63 where no minus stands before it, and has a sign of its own then.
+    /// Takes 2^63 where no minus stands before it, and answers -2^63.
     OneOverTaken,
     /// Takes -2^63.
     LeastTaken,

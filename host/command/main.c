@@ -68,11 +68,12 @@ const struct subcommand subcommands[] = {
      1, 2, false, verify},
     {"number", NUMBERS " SCALAR..", "print the number that each scalar begins with, and what is left over",
      "Reads no file: a scalar is the bytes themselves. Prints a line for each: the number, how many\n"
-     "bytes are left over behind its digits, and where some are, these bytes as they stand. 12 is\n"
-     "'12 0', and 1936.1.12 is '1936 5 .1.12'. A control byte is printed as \\x0a. The status is that of\n"
-     "the worst scalar, and with --numbers a refused one has its line among the others. A scalar that\n"
-     "begins with '-' needs '--' before it, where it is the first: 'number -- -12 -7'; a lone '-' does\n"
-     "not.\n\n"
+     "bytes are left over behind its digits, and where some are, these bytes, a control byte as \\x0a;\n"
+     "they are counted as they stand in the scalar. 12 is '12 0', and 1936.1.12 is '1936 5 .1.12'. The\n"
+     "status is that of the worst scalar, and with --numbers a refused one has its line among the\n"
+     "others. A scalar that begins with '-' needs '--' before it, where it is the first: 'number -- -12\n"
+     "-7'; a lone '-' does not. In a script always write 'number -- \"$value\"': a value of -h or --help\n"
+     "prints this, with status 0.\n\n"
      "Refusal 21: no byte at all, or the first is neither a sign nor a digit. 22: the digits are over\n"
      "9223372036854775807, after a minus too, whatever follows them. Before you take the number, look\n"
      "at what is left: 109E4 is '109 2 E4', and 12.5 is '12 2 .5'. A sign with no digit behind it is 0:\n"

@@ -291,7 +291,8 @@ impl<'a> Scalar<'a> {
     /// }
     /// assert_eq!(date(b"1936.1.12"), Some([1936, 1, 12]));
     /// assert_eq!(date(b"1936.01.012"), Some([1936, 1, 12]));
-    /// for none in ["1936.1", "1936..12", "1936.-.12", "1936.-1.12", "1936.1.12.", "1936.1.12x"] {
+    /// // the last has an hour, as many saves do: read a fourth part where you want it
+    /// for none in ["1936.1", "1936..12", "1936.-.12", "1936.-1.12", "1936.1.12x", "1939.9.1.12"] {
     ///     assert_eq!(date(none.as_bytes()), None);
     /// }
     /// // without that look a sign is a part

@@ -1,4 +1,5 @@
--- What the calls below answer is what C is told: one law for the readings, one for a number with its rest, one for each answer of a parse, of a view, of the way back and of sheet files.
+-- What the calls below answer is what C is told: one law for the readings, one for a number with its rest,
+-- one for each answer of a parse, of a view, of the way back and of sheet files.
 -- Assumes nothing.
 use Prim.Native.Nat.{ℕ}
 use mathlib.Core.Bool.{Bool}

@@ -75,7 +75,7 @@ tell-f64 r = read-told (f64-refusal-of r) (f64-value-of r)
 pub data PartTold : Type 0 where
   part-told : (refusal : ℕ) (value : ℤ) (left : ℕ) → PartTold
 
--- a refusal leaves none over
+-- what is told of a number and of the part after it
 abbrev pub tell-part : I64Read → List ℕ → PartTold
 tell-part r rest = part-told (i64-refusal-of r) (i64-value-of r) (length rest)
 

@@ -4,7 +4,7 @@ use mathlib.Core.Path.{_≡_, refl, sym, _∙_, ap}
 use mathlib.Core.Bool.{Bool, true, false, not, _&&_, _||_}
 use mathlib.Core.List.{List, [], _∷_, _++_, append-assoc}
 use mathlib.Core.Logic.{_⊎_, inl, inr}
-use Prim.Native.Nat.{ℕ, _+_, _-_, _≤_, _<_}
+use Prim.Native.Nat.{ℕ, _+_, _-_}
 use native.Mathlib.Omega.{arith}
 use borrow.Author.Tests.{lt-ltb, le-ltb, eqb-true, eqb-false}
 use lib.Dec.{eqb, ltb}
@@ -22,7 +22,8 @@ use Rattle.scalar.specs.declared.whole.I64Part.the-variants as Part
 use Rattle.scalar.specs.declared.whole.I64Read.the-variants as I64
 use Rattle.scalar.specs.declared.whole.I64Read.{I64Read}
 use Rattle.scalar.proofs.Runs.{run-digit, run-other, run-length}
-use Rattle.scalar.proofs.Wholes.{i64-none, i64-minus, i64-plus, i64-bare, i64-other, i64-is, by-size, number-told, rest-told, read-none, read-past, read-is, read-tail}
+use Rattle.scalar.proofs.Wholes.{i64-none, i64-minus, i64-plus, i64-bare, i64-other, i64-is, by-size}
+use Rattle.scalar.proofs.Wholes.{number-told, rest-told, read-none, read-past, read-is, read-tail}
 use Rattle.promises.specs.Cases.{bytes}
 use Rattle.promises.specs.LeadingNumber.{is-sign, sign-of, has-minus, after-sign, digits-of, after-digits, digit-first, is-empty, digits-alone, Apart}
 use Rattle.promises.specs.LeadingNumber.{no-number, too-large, left-over, number-reasons, whole-reasons, first-number, whole-of, Leading, Lone-sign}
@@ -93,7 +94,7 @@ record Begun (d : List ℕ) : Type 0 where
   pub part : i64-part d ≡ i64-digits (has-minus d) (length (sign-of d)) (after-sign d)
 
 -- or with none
-record Alien (d : List ℕ) : Type 0 where
+record Unbegun (d : List ℕ) : Type 0 where
   pub starts : no-number d ≡ true
   pub part : i64-part d ≡ Part.AllDigits
   pub small : too-large d ≡ false
@@ -125,9 +126,9 @@ digit-begins b s f g t =
       part = i64-bare b s (eqb-false b minus f) (eqb-false b plus g) t ∙ sym (λ j. i64-digits (f j) (length (sign .0 j)) (sign .1 j));
     }
 
-other-alien : (b : ℕ) (s : List ℕ) → eqb b minus ≡ false → eqb b plus ≡ false → is-digit b ≡ false → Alien (b ∷ s)
+other-unbegun : (b : ℕ) (s : List ℕ) → eqb b minus ≡ false → eqb b plus ≡ false → is-digit b ≡ false → Unbegun (b ∷ s)
 unfolding digit-first value
-other-alien b s f g e =
+other-unbegun b s f g e =
     let sign = no-sign b s (λ j. f j || g j) in
     record {
       starts = λ j. is-empty (sign .0 j) && not (e j);
@@ -135,16 +136,16 @@ other-alien b s f g e =
       small = ap (λ (r : List ℕ). ltb most-i64 (value 0 r)) (ap digit-run (sign .1) ∙ run-other b s e);
     }
 
-none-alien : Alien []
+none-unbegun : Unbegun []
 unfolding sign-of after-sign digit-first digit-run value
-none-alien = record { starts = refl; part = i64-none; small = refl }
+none-unbegun = record { starts = refl; part = i64-none; small = refl }
 
-start : (d : List ℕ) → Begun d ⊎ Alien d
-start [] = inr none-alien
+start : (d : List ℕ) → Begun d ⊎ Unbegun d
+start [] = inr none-unbegun
 start (b ∷ s) =
     by-bool (eqb b minus) (λ t. inl (minus-begins b s t)) (λ f.
     by-bool (eqb b plus) (λ t. inl (plus-begins b s f t)) (λ g.
-    by-bool (is-digit b) (λ t. inl (digit-begins b s f g t)) (λ e. inr (other-alien b s f g e))))
+    by-bool (is-digit b) (λ t. inl (digit-begins b s f g t)) (λ e. inr (other-unbegun b s f g e))))
 
 -- ---- what is promised
 
@@ -172,9 +173,9 @@ module _ (d : List ℕ) where
     whole = whole ∙ sym (λ j. whole-of (number j) (left j));
   }
 
-  alien : Alien d → Leading d
+  unbegun : Unbegun d → Leading d
   unfolding first-of
-  alien a =
+  unbegun a =
       refused I64.AllDigits (number-told d _ (a .part)) (rest-told d _ (a .part)) (read-none d (a .part)) (λ e. omega arith)
       (number-refused (a .starts) (a .small))
       (by-bool (left-over d) (λ t. whole-refused (a .starts) (a .small) t) (λ f. whole-refused (a .starts) (a .small) f))
@@ -235,12 +236,12 @@ module _ (d : List ℕ) where
   pub leading : Leading d
   leading = go (start d)
     where
-      go : Begun d ⊎ Alien d → Leading d
+      go : Begun d ⊎ Unbegun d → Leading d
       go (inl b) =
           by-size (has-minus d) (length (sign-of d)) (after-sign d)
           (λ h e. past b (b .part ∙ e) (lt-ltb _ _ h))
           (λ h e. within b (b .part ∙ e) (le-ltb _ _ h))
-      go (inr a) = alien a
+      go (inr a) = unbegun a
 
 -- ---- a sign without a digit
 

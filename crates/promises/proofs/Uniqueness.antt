@@ -498,7 +498,6 @@ pub record Sheet : Type 0 where
   pub code : One-result code.Post
   pub link : One-result link.Post
   pub view-of : One-result view-of.Post
-  -- the part by its bytes and its place: what is left is a name that no program sees
   pub view : One-part view.Post (λ κs r. r .now) (λ κs r. r .ptr)
 
 pub sheet-calls : Sheet

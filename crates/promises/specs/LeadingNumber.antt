@@ -7,7 +7,6 @@ use mathlib.Core.List.{List, [], _∷_, _++_, map}
 use mathlib.Core.Path.{_≡_}
 use lib.Dec.{eqb, ltb}
 use lib.IntN.{ℤ, pos, negsuc}
-use lib.ListN.{length, drop}
 use Rattle.data.specs.Bytes.{plus, minus}
 use Rattle.data.specs.Reasons.{Reason, if-so, first-of}
 use Rattle.scalar.specs.Digits.{is-digit, digit-run, value}
@@ -156,9 +155,10 @@ edges =
     ∷ refuses "18446744073709551616" 22 ∷ refuses "18446744073709551617.1" 22
     ∷ []
 
--- what is promised: each line holds
+-- what is told of a scalar
 abbrev pub told : List ℕ → ℕ × ℤ × List ℕ
 told d = (i64-refusal-of (i64-number d), i64-value-of (i64-number d), i64-rest d)
 
+-- what is promised: each line holds
 abbrev pub Edges-hold : Type 0
 Edges-hold = map (λ (e : Edge). told (bytes (e .text))) edges ≡ map (λ (e : Edge). (e .refusal, e .value, bytes (e .left))) edges

@@ -15,7 +15,7 @@ abbrev pub One-left : {K Value : Type 0} {A R X : K → Type 0} → ((κs : K) �
 One-left {K} {Value} {A} {R} {X} Post left =
     (κs : K) (args : A κs) (r s : R κs) (xs ys : X κs) → Post κs args r xs → Post κs args s ys → left κs xs ≡ left κs ys
 
--- and hands out one part of a slice: its bytes, and where it lies
+-- and hands out one part of a slice: its bytes, and where it lies; what is left is a name that no program sees
 abbrev pub One-part : {K : Type 0} {A R X : K → Type 0} → ((κs : K) → A κs → R κs → X κs → Type 0)
     → ((κs : K) → R κs → List ℕ) → ((κs : K) → R κs → ℕ × ℕ) → Type 0
 One-part {K} {A} {R} {X} Post bytes place =

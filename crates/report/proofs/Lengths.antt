@@ -10,8 +10,8 @@ use lib.Dec.{eqb, ltb}
 use lib.IntN.{ℤ}
 use lib.ListN.{length, take, drop, length-append, length-take, length-drop}
 use Rattle.data.proofs.Cases.{by-bool}
-use Rattle.data.specs.Bytes.{plus, minus}
-use Rattle.scalar.specs.Digits.{is-digit, digit-run, value, most-u64}
+use Rattle.data.specs.Bytes.{plus}
+use Rattle.scalar.specs.Digits.{digit-run, value, most-u64}
 use Rattle.scalar.specs.Float.{f64-read, pattern-of}
 use Rattle.scalar.specs.Kind.{kind-of}
 use Rattle.scalar.specs.Numbers.{kind-number-of}

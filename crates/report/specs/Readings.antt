@@ -61,7 +61,7 @@ readings-of d =
 
 -- how many bytes are left over after a number, behind a space; a refusal leaves none
 abbrev pub left-text : I64Read → ℕ → List ℕ
-left-text (I64.Is i) left = space ∷ [] ++ decimal left
+left-text (I64.Is i) left = (space ∷ []) ++ decimal left
 left-text I64.AllDigits left = []
 left-text I64.Overflow left = []
 

@@ -1,12 +1,12 @@
--- Laws of the whole numbers: each case of the two readings, by what leads to it.
+-- Laws of the whole numbers: each case of the two readings and of the number in front with its rest, by what leads to it.
 -- Assumes nothing.
 use mathlib.Core.Path.{_≡_, refl, sym, _∙_, ap}
-use mathlib.Core.Bool.{Bool, true, false}
+use mathlib.Core.Bool.{Bool, true, false, false≢true}
 use mathlib.Core.List.{List, [], _∷_}
 use Prim.Native.Nat.{ℕ, zero, suc, _+_, _-_, _≤_, _<_, zero-le}
-use native.Mathlib.Nat.{le-refl, le-trans, le-of-eq}
+use native.Mathlib.Nat.{le-trans, le-of-eq}
 use native.Mathlib.Omega.{arith}
-use borrow.Author.Tests.{eq-eqb, ne-eqb, lt-ltb, le-ltb, eqb-true, eqb-false, ltb-true, ltb-false}
+use borrow.Author.Tests.{eq-eqb, ne-eqb, lt-ltb, le-ltb, ltb-true, ltb-false}
 use lib.Dec.{eqb, ltb}
 use lib.IntN.{ℤ, pos, negℤ}
 use lib.ListN.{length, take, drop, length-drop}
@@ -16,7 +16,7 @@ use Rattle.data.proofs.Cases.{by-bool}
 use Rattle.data.specs.Bytes.{plus, minus}
 use Rattle.scalar.specs.Digits.{is-digit, digit-run, value, most-u64}
 use Rattle.scalar.specs.Whole.{has-tail, u64-digits, u64-read, signed, most-i64, i64-digits, i64-part, whole-only, i64-read}
-use Rattle.scalar.specs.Whole.{number-of, left-of, i64-number, i64-rest, place-of-rest}
+use Rattle.scalar.specs.Whole.{starts-number, sign-width, number-of, left-of, i64-number, i64-rest, place-of-rest}
 use Rattle.scalar.specs.declared.whole.I64Part.the-variants as Part
 use Rattle.scalar.specs.declared.whole.I64Part.{I64Part}
 use Rattle.scalar.specs.declared.whole.I64Read.the-variants as I64
@@ -79,20 +79,52 @@ i64-past negative sign s h = rw (i64-digits, lt-ltb most-i64 (value 0 (digit-run
 pub i64-is : (negative : Bool) (sign : ℕ) (s : List ℕ) → value 0 (digit-run s) ≤ most-i64
     → i64-digits negative sign s ≡ Part.Is (signed negative (value 0 (digit-run s))) (sign + length (digit-run s))
 unfolding i64-digits
-i64-is negative sign s h = rw (i64-digits, le-ltb most-i64 (value 0 (digit-run s)) h)
+i64-is negative sign s h =
+    rw (i64-digits, le-ltb most-i64 (value 0 (digit-run s)) h)
+    (ap (λ (n : ℕ). Part.Is (signed negative (value 0 (digit-run s))) n) (omega arith))
 
--- by how the bytes begin: with a sign of so many bytes, or none, and then their digits decide; or as no number does
+-- by whether a number may begin with the first byte: then its digits decide, after a sign of so many bytes
+i64-started : (b : ℕ) (s : List ℕ) → starts-number b ≡ true
+    → i64-part (b ∷ s) ≡ i64-digits (eqb b minus) (sign-width b) (drop (sign-width b) (b ∷ s))
+unfolding i64-part
+i64-started b s e =
+    by-bool (eqb b minus)
+    (λ t. rw (i64-part, sign-width, t))
+    (λ f. by-bool (eqb b plus)
+    (λ t. rw (i64-part, sign-width, f, t))
+    (λ g. let digit : is-digit b ≡ true = rw (starts-number, f, g) at e in rw (i64-part, sign-width, f, g, digit)))
+
+-- the same of bytes that begin with it, with the width by another name
+pub part-started : (d s : List ℕ) (b width : ℕ) → d ≡ b ∷ s → starts-number b ≡ true → width ≡ sign-width b
+    → i64-digits (eqb b minus) width (drop width d) ≡ i64-part d
+part-started d s b width bytes started e =
+    (λ j. i64-digits (eqb b minus) (e j) (drop (e j) (bytes j))) ∙ sym (ap i64-part bytes ∙ i64-started b s started)
+
+pub i64-unstarted : (b : ℕ) (s : List ℕ) → starts-number b ≡ false → i64-part (b ∷ s) ≡ Part.AllDigits
+unfolding i64-part
+i64-unstarted b s e =
+    by-bool (eqb b minus)
+    (λ t. absurd (false≢true (sym (rw (starts-number, t) at e))))
+    (λ f. by-bool (eqb b plus)
+    (λ t. absurd (false≢true (sym (rw (starts-number, f, t) at e))))
+    (λ g. let none : is-digit b ≡ false = rw (starts-number, f, g) at e in rw (i64-part, f, g, none)))
+
+width-within : (b : ℕ) (s : List ℕ) → sign-width b ≤ length (b ∷ s)
+width-within b s =
+    by-bool (eqb b minus)
+    (λ t. rw (sign-width, t) (omega arith))
+    (λ f. by-bool (eqb b plus) (λ t. rw (sign-width, f, t) (omega arith)) (λ g. rw (sign-width, f, g) (omega arith)))
+
+-- so by how the bytes begin: with a sign of so many bytes, or none, and then their digits decide; or as no number does
 pub by-part : {P : Type 0} (d : List ℕ)
     → ((negative : Bool) (sign : ℕ) → sign ≤ length d → i64-part d ≡ i64-digits negative sign (drop sign d) → P)
     → (i64-part d ≡ Part.AllDigits → P)
     → P
 by-part [] digits none = none i64-none
 by-part (b ∷ s) digits none =
-    by-bool (eqb b minus) (λ t. digits true 1 (omega arith) (i64-minus b s (eqb-true b minus t))) (λ f.
-    let h = eqb-false b minus f in
-    by-bool (eqb b plus) (λ t. digits false 1 (omega arith) (i64-plus b s h (eqb-true b plus t))) (λ g.
-    let k = eqb-false b plus g in
-    by-bool (is-digit b) (λ t. digits false 0 (omega arith) (i64-bare b s h k t)) (λ e. none (i64-other b s h k e))))
+    by-bool (starts-number b)
+    (λ t. digits (eqb b minus) (sign-width b) (width-within b s) (i64-started b s t))
+    (λ f. none (i64-unstarted b s f))
 
 -- by the size of the digits after a sign
 pub by-size : {P : Type 0} (negative : Bool) (sign : ℕ) (s : List ℕ)

@@ -51,6 +51,14 @@ i64-digits negative sign s =
       | false ↦ Part.Is (signed negative (value 0 (digit-run s))) (sign + length (digit-run s))
     ]
 
+-- whether a number may begin with a byte: a sign or a digit
+abbrev pub starts-number : ℕ → Bool
+starts-number b = elim (eqb b minus) [ true ↦ true | false ↦ elim (eqb b plus) [ true ↦ true | false ↦ is-digit b ] ]
+
+-- how many bytes of sign a number has that begins with a byte
+abbrev pub sign-width : ℕ → ℕ
+sign-width b = elim (eqb b minus) [ true ↦ 1 | false ↦ elim (eqb b plus) [ true ↦ 1 | false ↦ 0 ] ]
+
 -- an optional sign, then digits, with whatever stands after them left over; any other first byte is refused
 unfoldable pub i64-part : List ℕ → I64Part
 unfolding is-digit i64-digits

@@ -6,7 +6,8 @@ ghost use mathlib.Core.Path.{_≡_};
 ghost use Prim.Native.Nat.{_≤_};
 ghost use lib.IntN.{natAbs};
 ghost use lib.ListN.{drop};
-ghost use Rattle.scalar.specs.Whole.{u64-read, u64-digits, i64-part, i64-digits, i64-number, i64-rest, i64-read, signed, most-i64, place-of-rest};
+ghost use Rattle.scalar.specs.Whole.{u64-read, u64-digits, i64-part, i64-digits, i64-number, i64-rest, i64-read, signed, most-i64};
+ghost use Rattle.scalar.specs.Whole.{starts-number, sign-width, place-of-rest};
 
 // The most that an i64 holds.
 pub(crate) const MOST_I64: u64 = 0x7fff_ffff_ffff_ffff;
@@ -101,7 +102,34 @@ pub fn to_i64_rest(d: &[u8]) -> &[u8]
     }
 }
 
-// Reads an optional sign and digits, and says where what stands after them begins.
+// Whether a number may begin with a byte: a sign or a digit.
+fn starts_number(b: u8) -> bool
+    ensures { λ r. ⌜ r ≡ starts-number b ⌝ }
+{
+    if b == b'-' {
+        return true;
+    }
+    if b == b'+' {
+        return true;
+    }
+    is_digit(b)
+}
+
+// How many bytes of sign a number has that begins with a byte.
+fn sign_width(b: u8) -> usize
+    ensures { λ r. ⌜ r ≡ sign-width b ⌝ }
+{
+    if b == b'-' {
+        return 1;
+    }
+    if b == b'+' {
+        return 1;
+    }
+    0
+}
+
+// Reads an optional sign and digits, and says where what stands after them begins. The digits are read in one place, with or
+// without a sign, so that it stays short enough to be compiled into each of its callers.
 fn i64_part(d: &[u8]) -> I64Part
     ensures { λ r. ⌜ r ≡ i64-part (now (d .entry)) ⌝ }
 {
@@ -109,14 +137,8 @@ fn i64_part(d: &[u8]) -> I64Part
         return I64Part::AllDigits;
     }
     let b = d[0];
-    if b == b'-' {
-        return i64_digits(d, 1, true);
-    }
-    if b == b'+' {
-        return i64_digits(d, 1, false);
-    }
-    if is_digit(b) {
-        i64_digits(d, 0, false)
+    if starts_number(b) {
+        i64_digits(d, sign_width(b), b == b'-')
     } else {
         I64Part::AllDigits
     }
