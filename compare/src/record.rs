@@ -173,6 +173,15 @@ fn asked_write(room: u16, body: &[u8]) -> Option<Question<'_>> {
     }))
 }
 
+impl Record {
+    /// What an answerer writes of it alone, where it is no bad record.
+    pub fn answered_by(&self, answer: impl Fn(Question<'_>, &mut String)) -> String {
+        let mut line = String::new();
+        answer(self.question().expect("a good record"), &mut line);
+        line
+    }
+}
+
 /// The next record: nothing at the input's end, an error where it is cut short.
 fn read(input: &mut impl Read) -> io::Result<Option<Record>> {
     let mut kind = [0];

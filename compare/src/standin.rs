@@ -22,6 +22,11 @@ fn readings(bytes: &[u8], wrong: Option<WrongKind>, i64_fault: Option<LeadingFau
     format!("{yes} {whole} {signed} {float} {kind}\n")
 }
 
+/// The model as one who answers, or a wrong program.
+pub fn answering(fault: Option<Fault>) -> impl Fn(Question<'_>, &mut String) {
+    move |question, out| answer(question, fault, out)
+}
+
 /// The model's answer, or that of a wrong program.
 pub fn answer(question: Question<'_>, fault: Option<Fault>, out: &mut String) {
     let (mut kind_fault, mut leading_fault, mut writer_fault, mut file_fault) =

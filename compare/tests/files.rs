@@ -7,22 +7,8 @@ use compare::numbers::*;
 use compare::pipe::{from_hex, hex};
 use compare::record::{Question, Record, ToPack, ToUnpack};
 use compare::rng::Rng;
-use compare::standin::{self, FAULTS, Fault, Wrong};
+use compare::standin::{self, FAULTS, Wrong};
 use compare::{file_edges, model_file, oracle, sheet};
-
-/// The answer beside the Rust.
-fn answer(record: &Record) -> String {
-    let mut answer = String::new();
-    oracle::answer(record.question().expect("a good record"), &mut answer);
-    answer
-}
-
-/// The model's answer, or that of a wrong program.
-fn model_answer(record: &Record, fault: Option<Fault>) -> String {
-    let mut answer = String::new();
-    standin::answer(record.question().expect("a good record"), fault, &mut answer);
-    answer
-}
 
 /// The cases of a seed without the edges.
 fn cases(seed: u64) -> impl Iterator<Item = Record> {
@@ -34,8 +20,8 @@ fn cases(seed: u64) -> impl Iterator<Item = Record> {
 fn the_edges_have_their_answers() {
     for (record, told) in file_edges::cases() {
         let shown = hex(&record.bytes());
-        assert_eq!(answer(&record), told, "beside the Rust: {shown}");
-        assert_eq!(model_answer(&record, None), told, "the model: {shown}");
+        assert_eq!(record.answered_by(oracle::answer), told, "beside the Rust: {shown}");
+        assert_eq!(record.answered_by(standin::answering(None)), told, "the model: {shown}");
     }
 }
 
@@ -59,8 +45,8 @@ fn the_records_of_the_paper() {
     for (paper, told) in PAPER {
         let bytes = from_hex(paper).expect("hex");
         let record = edges.iter().find(|record| record.bytes() == bytes).expect("one of the edges");
-        assert_eq!(answer(record), told);
-        assert_eq!(model_answer(record, None), told);
+        assert_eq!(record.answered_by(oracle::answer), told);
+        assert_eq!(record.answered_by(standin::answering(None)), told);
     }
 }
 
@@ -145,11 +131,14 @@ fn the_longest_file() {
 /// The cases find every fault that has to do with files without the edges' help.
 #[test]
 fn the_cases_find_the_faults() {
-    let cases: Vec<(Record, String)> =
-        cases(22).take(10_000).map(|record| (record.clone(), answer(&record))).collect();
+    let cases: Vec<(Record, String)> = cases(22)
+        .take(10_000)
+        .map(|record| (record.clone(), record.answered_by(oracle::answer)))
+        .collect();
     for fault in FAULTS.into_iter().filter(|fault| matches!(fault.1, Wrong::File(_))) {
-        let differs =
-            |(record, told): &(Record, String)| model_answer(record, Some(fault)) != *told;
+        let differs = |(record, told): &(Record, String)| {
+            record.answered_by(standin::answering(Some(fault))) != *told
+        };
         let found = cases.iter().position(differs);
         println!("fault {}: {found:?}", fault.0);
         assert!(found.is_some(), "{} is not found", fault.0);
@@ -163,7 +152,7 @@ fn records_keep_to_their_limits() {
     for record in cases(23).take(20_000) {
         let most = if record.kind == b'F' { MOST_ROOM } else { MOST_SCRATCH };
         assert!(usize::from(record.capacity) <= most && record.body.len() <= LONGEST);
-        let lent = |capacity| answer(&Record { capacity, ..record.clone() });
+        let lent = |capacity| Record { capacity, ..record.clone() }.answered_by(oracle::answer);
         assert_eq!(lent(most as u16), lent(u16::MAX));
     }
 }

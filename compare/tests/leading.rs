@@ -6,23 +6,9 @@ use compare::numbers::{ALL_DIGITS, OVERFLOW};
 use compare::pipe::from_hex;
 use compare::record::{Question, Record};
 use compare::rng::Rng;
-use compare::standin::{self, FAULTS, Fault, Wrong};
+use compare::standin::{self, FAULTS, Wrong};
 use compare::{leading, leading_edges, model, oracle};
 use jomini::Scalar;
-
-/// The Rust's answer.
-fn answer(record: &Record) -> String {
-    let mut answer = String::new();
-    oracle::answer(record.question().expect("a good record"), &mut answer);
-    answer
-}
-
-/// The model's answer, or that of a wrong program.
-fn model_answer(record: &Record, fault: Option<Fault>) -> String {
-    let mut answer = String::new();
-    standin::answer(record.question().expect("a good record"), fault, &mut answer);
-    answer
-}
 
 #[test]
 fn the_edges_have_their_answers() {
@@ -47,8 +33,8 @@ fn records_and_answers_to_the_byte() {
         let bytes = from_hex(record).expect("hex");
         let record = Record::leading(bytes[5..].to_vec());
         assert_eq!(record.bytes(), bytes);
-        assert_eq!(answer(&record), told);
-        assert_eq!(model_answer(&record, None), told);
+        assert_eq!(record.answered_by(oracle::answer), told);
+        assert_eq!(record.answered_by(standin::answering(None)), told);
     }
 }
 
@@ -57,7 +43,7 @@ fn records_and_answers_to_the_byte() {
 fn any_capacity_will_do() {
     let record = Record { capacity: u16::MAX, ..Record::leading(b"12x".to_vec()) };
     assert!(matches!(record.question(), Some(Question::Leading { bytes: b"12x" })));
-    assert_eq!(answer(&record), "=12 1\n");
+    assert_eq!(record.answered_by(oracle::answer), "=12 1\n");
 }
 
 // ---- What holds of every scalar ----
@@ -141,14 +127,15 @@ fn the_cases_find_the_faults() {
         .take(10_000)
         .map(|record| {
             [Record::scalar(record.body.clone()), record].map(|record| {
-                let told = answer(&record);
+                let told = record.answered_by(oracle::answer);
                 (record, told)
             })
         })
         .collect();
     for fault in FAULTS.into_iter().filter(|fault| matches!(fault.1, Wrong::Leading(_))) {
-        let differs =
-            |(record, told): &(Record, String)| model_answer(record, Some(fault)) != *told;
+        let differs = |(record, told): &(Record, String)| {
+            record.answered_by(standin::answering(Some(fault))) != *told
+        };
         let found = cases.iter().position(|both| both.iter().any(differs));
         println!("fault {}: {found:?}", fault.0);
         assert!(found.is_some(), "{} is not found", fault.0);

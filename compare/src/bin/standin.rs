@@ -9,5 +9,5 @@ fn main() -> io::Result<()> {
     let fault = env::args()
         .nth(1)
         .map(|name| standin::fault(&name).unwrap_or_else(|| panic!("no fault {name}")));
-    record::serve(&mut input, &mut output, |question, out| standin::answer(question, fault, out))
+    record::serve(&mut input, &mut output, standin::answering(fault))
 }
