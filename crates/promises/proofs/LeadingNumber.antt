@@ -99,22 +99,14 @@ record Unbegun (d : List ℕ) : Type 0 where
   pub part : i64-part d ≡ Part.AllDigits
   pub small : too-large d ≡ false
 
-minus-begins : (b : ℕ) (s : List ℕ) → eqb b minus ≡ true → Begun (b ∷ s)
+sign-begins : (b : ℕ) (s : List ℕ) (negative : Bool) → is-sign b ≡ true → eqb b minus ≡ negative
+    → i64-part (b ∷ s) ≡ i64-digits negative 1 s → Begun (b ∷ s)
 unfolding has-minus
-minus-begins b s t =
-    let sign = sign-here b s (ap (λ (x : Bool). x || eqb b plus) t) in
+sign-begins b s negative here e part =
+    let sign = sign-here b s here in
     record {
       starts = ap (λ (r : List ℕ). is-empty r && not (digit-first (b ∷ s))) (sign .0);
-      part = i64-minus b s (eqb-true b minus t) ∙ sym (λ j. i64-digits (t j) (length (sign .0 j)) (sign .1 j));
-    }
-
-plus-begins : (b : ℕ) (s : List ℕ) → eqb b minus ≡ false → eqb b plus ≡ true → Begun (b ∷ s)
-unfolding has-minus
-plus-begins b s f t =
-    let sign = sign-here b s (λ j. f j || t j) in
-    record {
-      starts = ap (λ (r : List ℕ). is-empty r && not (digit-first (b ∷ s))) (sign .0);
-      part = i64-plus b s (eqb-false b minus f) (eqb-true b plus t) ∙ sym (λ j. i64-digits (f j) (length (sign .0 j)) (sign .1 j));
+      part = part ∙ sym (λ j. i64-digits (e j) (length (sign .0 j)) (sign .1 j));
     }
 
 digit-begins : (b : ℕ) (s : List ℕ) → eqb b minus ≡ false → eqb b plus ≡ false → is-digit b ≡ true → Begun (b ∷ s)
@@ -143,9 +135,11 @@ none-unbegun = record { starts = refl; part = i64-none; small = refl }
 start : (d : List ℕ) → Begun d ⊎ Unbegun d
 start [] = inr none-unbegun
 start (b ∷ s) =
-    by-bool (eqb b minus) (λ t. inl (minus-begins b s t)) (λ f.
-    by-bool (eqb b plus) (λ t. inl (plus-begins b s f t)) (λ g.
-    by-bool (is-digit b) (λ t. inl (digit-begins b s f g t)) (λ e. inr (other-unbegun b s f g e))))
+    by-bool (eqb b minus)
+    (λ t. inl (sign-begins b s true (ap (λ (x : Bool). x || eqb b plus) t) t (i64-minus b s (eqb-true b minus t))))
+    (λ f. by-bool (eqb b plus)
+    (λ t. inl (sign-begins b s false (λ j. f j || t j) f (i64-plus b s (eqb-false b minus f) (eqb-true b plus t))))
+    (λ g. by-bool (is-digit b) (λ t. inl (digit-begins b s f g t)) (λ e. inr (other-unbegun b s f g e))))
 
 -- ---- what is promised
 

@@ -184,7 +184,8 @@ by-bytes : {K : Type 0} {A X : K → Type 0} (out : (κs : K) → X κs → List
 by-bytes out definition = (λ κs args r s xs ys p q. cc, λ κs args r s xs ys p q. cc)
 
 -- one that says the bytes of a part and where it lies allows one part
-one-part : {Bytes Place : Type 0} {r s bytes : Bytes} {x y place : Place} → (r ≡ bytes) × (x ≡ place) → (s ≡ bytes) × (y ≡ place) → (r ≡ s) × (x ≡ y)
+one-part : {Bytes Place : Type 0} {r s bytes : Bytes} {x y place : Place} → (r ≡ bytes) × (x ≡ place) → (s ≡ bytes) × (y ≡ place)
+    → (r ≡ s) × (x ≡ y)
 one-part p q = (p .0 ∙ sym (q .0), p .1 ∙ sym (q .1))
 
 -- and one that names what is answered by whether a claim holds allows one answer, with all that it leaves

@@ -117,7 +117,8 @@ pub record Leading (d : List ℕ) : Type 0 where
 
 -- a sign without a digit: the number is 0, and the rest is what follows the sign
 abbrev pub Lone-sign : Type 0
-Lone-sign = (b : ℕ) (d : List ℕ) → is-sign b ≡ true → digit-first d ≡ false → (i64-number (b ∷ d) ≡ I64.Is (pos 0)) × (i64-rest (b ∷ d) ≡ d)
+Lone-sign = (b : ℕ) (d : List ℕ) → is-sign b ≡ true → digit-first d ≡ false
+    → (i64-number (b ∷ d) ≡ I64.Is (pos 0)) × (i64-rest (b ∷ d) ≡ d)
 
 -- so what the three calls answer of one scalar, by their own contracts, belongs together
 abbrev pub Calls-together : Type 0
@@ -145,7 +146,8 @@ refuses text refusal = record { text = text; refusal = refusal; value = pos 0; l
 unfoldable pub edges : List Edge
 edges =
     refuses "" 21 ∷ refuses "x" 21 ∷ refuses ".5" 21 ∷ refuses " 1" 21
-    ∷ gives "-" (pos 0) "" ∷ gives "+" (pos 0) "" ∷ gives "-x" (pos 0) "x" ∷ gives "+x" (pos 0) "x" ∷ gives "--1" (pos 0) "-1" ∷ gives "-.5" (pos 0) ".5"
+    ∷ gives "-" (pos 0) "" ∷ gives "+" (pos 0) "" ∷ gives "-x" (pos 0) "x" ∷ gives "+x" (pos 0) "x"
+    ∷ gives "--1" (pos 0) "-1" ∷ gives "-.5" (pos 0) ".5"
     ∷ gives "12" (pos 12) "" ∷ gives "12." (pos 12) "." ∷ gives "12x" (pos 12) "x" ∷ gives "+12 " (pos 12) " " ∷ gives "-12" (negsuc 11) ""
     ∷ gives "0012-" (pos 12) "-" ∷ gives "-0x" (pos 0) "x" ∷ gives "1936.1.12" (pos 1936) ".1.12"
     ∷ gives "9223372036854775807" (pos 9223372036854775807) "" ∷ gives "9223372036854775807x" (pos 9223372036854775807) "x"

@@ -105,25 +105,26 @@ i64-part-short d =
     (λ held p. rw (e ∙ p) (signed-short negative (value 0 (digit-run (drop sign d))) held)))
     (λ e. rw e tt)
 
+-- the number that a scalar begins with, and one that is all of it
+number-of-short : (p : I64Part) → Part-short p → length (i64-text (number-of p)) ≤ 22
+number-of-short (Part.Is i rest) h = omega arith
+number-of-short Part.AllDigits h = omega (arith, two-short 21 (omega arith))
+number-of-short Part.Overflow h = omega (arith, two-short 22 (omega arith))
+
 kept-short : (tail : Bool) (i : ℤ) → length (integer i) ≤ 21 → length (i64-text (elim tail [ true ↦ I64.AllDigits | false ↦ I64.Is i ])) ≤ 22
-kept-short true i h = omega (arith, two-short 21 (omega arith))
-kept-short false i h = omega arith
+kept-short true i h = number-of-short Part.AllDigits tt
+kept-short false i h = number-of-short (Part.Is i 0) h
 
 whole-short : (n : ℕ) (p : I64Part) → Part-short p → length (i64-text (whole-only n p)) ≤ 22
 whole-short n (Part.Is i rest) h = kept-short (ltb rest n) i h
-whole-short n Part.AllDigits h = omega (arith, two-short 21 (omega arith))
-whole-short n Part.Overflow h = omega (arith, two-short 22 (omega arith))
+whole-short n Part.AllDigits h = number-of-short Part.AllDigits h
+whole-short n Part.Overflow h = number-of-short Part.Overflow h
 
 i64-short : (d : List ℕ) → length (i64-text (i64-read d)) ≤ 22
 unfolding i64-read
 i64-short d = whole-short (length d) (i64-part d) (i64-part-short d)
 
--- the number that a scalar begins with, and how many bytes are left over
-number-short-of : (p : I64Part) → Part-short p → length (i64-text (number-of p)) ≤ 22
-number-short-of (Part.Is i rest) h = omega arith
-number-short-of Part.AllDigits h = omega (arith, two-short 21 (omega arith))
-number-short-of Part.Overflow h = omega (arith, two-short 22 (omega arith))
-
+-- and how many bytes are left over
 left-short : (r : I64Read) (left : ℕ) → left < 2 ^ 64 → length (left-text r left) ≤ 21
 left-short (I64.Is i) left h = omega (arith, number-short left h)
 left-short I64.AllDigits left h = omega arith
@@ -153,7 +154,7 @@ pub leading-short : (d : List ℕ) → length d ≤ most-input → length (leadi
 unfolding leading-of i64-number
 leading-short d h =
     simp length-append
-    (omega (arith, number-short-of (i64-part d) (i64-part-short d), left-short (i64-number d) (length (i64-rest d)) (omega (arith, rest-within d))))
+    (omega (arith, number-of-short (i64-part d) (i64-part-short d), left-short (i64-number d) (length (i64-rest d)) (omega (arith, rest-within d))))
 
 -- the line of a check, and of a view
 pub verdict-short : (sound : Bool) → length (verdict sound) ≤ 8

@@ -129,7 +129,8 @@ by-part (b ∷ s) digits none =
 -- by the size of the digits after a sign
 pub by-size : {P : Type 0} (negative : Bool) (sign : ℕ) (s : List ℕ)
     → (most-i64 < value 0 (digit-run s) → i64-digits negative sign s ≡ Part.Overflow → P)
-    → (value 0 (digit-run s) ≤ most-i64 → i64-digits negative sign s ≡ Part.Is (signed negative (value 0 (digit-run s))) (sign + length (digit-run s)) → P)
+    → (value 0 (digit-run s) ≤ most-i64
+    → i64-digits negative sign s ≡ Part.Is (signed negative (value 0 (digit-run s))) (sign + length (digit-run s)) → P)
     → P
 by-size negative sign s past is =
     by-bool (ltb most-i64 (value 0 (digit-run s)))

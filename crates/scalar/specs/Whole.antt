@@ -94,9 +94,9 @@ unfoldable pub i64-rest : List ℕ → List ℕ
 unfolding i64-part
 i64-rest d = left-of d (i64-part d)
 
--- where the end of some bytes lies that start at a place: so many bytes behind the start as stand before it
+-- where that part lies, of bytes that start at a place: it ends where they end
 abbrev pub place-of-rest : ℕ × ℕ → List ℕ → List ℕ → ℕ × ℕ
-place-of-rest start d end = (start .0, start .1 + (length d - length end))
+place-of-rest start d rest = (start .0, start .1 + (length d - length rest))
 
 -- a part of so many bytes that leaves something over is refused
 abbrev pub whole-only : ℕ → I64Part → I64Read
