@@ -14,43 +14,25 @@ use lib.Seq.{drop-append-add}
 use Rattle.data.proofs.Cases.{by-bool}
 use Rattle.data.specs.Bytes.{plus, minus}
 use Rattle.data.specs.Reasons.{first-of}
-use Rattle.scalar.specs.Digits.{is-digit, digit-run, value}
+use Rattle.scalar.specs.Digits.{is-digit, digit-first, digit-run, value}
 use Rattle.scalar.specs.Float.{rest}
 use Rattle.scalar.specs.Numbers.{answered, i64-refusal-of, i64-value-of}
 use Rattle.scalar.specs.Whole.{most-i64, signed, i64-digits, i64-part, i64-number, i64-rest, i64-read}
 use Rattle.scalar.specs.declared.whole.I64Part.the-variants as Part
 use Rattle.scalar.specs.declared.whole.I64Read.the-variants as I64
 use Rattle.scalar.specs.declared.whole.I64Read.{I64Read}
+use Rattle.scalar.proofs.Rests.{rest-digit, rest-other, run-alone, rest-plain}
 use Rattle.scalar.proofs.Runs.{run-digit, run-other, run-length}
 use Rattle.scalar.proofs.Wholes.{i64-none, i64-minus, i64-plus, i64-bare, i64-other, i64-is, by-size}
 use Rattle.scalar.proofs.Wholes.{number-told, rest-told, read-none, read-past, read-is, read-tail}
 use Rattle.promises.specs.Cases.{bytes}
-use Rattle.promises.specs.LeadingNumber.{is-sign, sign-of, has-minus, after-sign, digits-of, after-digits, digit-first, is-empty, digits-alone, Apart}
+use Rattle.promises.specs.LeadingNumber.{is-sign, sign-of, has-minus, after-sign, digits-of, after-digits, is-empty, Apart}
 use Rattle.promises.specs.LeadingNumber.{no-number, too-large, left-over, number-reasons, whole-reasons, first-number, whole-of, Leading, Lone-sign}
 use Rattle.promises.specs.LeadingNumber.{Calls-together, edges, Edges-hold}
-use Rattle.promises.proofs.ReadingKinds.Tails.{rest-digit, rest-other}
 
 -- ---- a scalar taken apart
 
--- the digits in front are digits
-run-alone : (s : List ℕ) → digits-alone (digit-run s) ≡ true
-unfolding digits-alone digit-run
-run-alone [] = refl
-run-alone (b ∷ s) =
-    by-bool (is-digit b)
-    (λ t. rw (run-digit b s t, digits-alone, t) (run-alone s))
-    (λ f. rw (run-other b s f))
-
--- what stands after them begins with none
-rest-plain : (s : List ℕ) → digit-first (rest s) ≡ false
-unfolding digit-first digit-run
-rest-plain [] = refl
-rest-plain (b ∷ s) =
-    by-bool (is-digit b)
-    (λ t. ap digit-first (rest-digit b s t) ∙ rest-plain s)
-    (λ f. ap digit-first (rest-other b s f) ∙ f)
-
--- and the two are all
+-- the digits in front and what stands after them are all
 run-split : (s : List ℕ) → digit-run s ++ rest s ≡ s
 unfolding digit-run
 run-split [] = refl

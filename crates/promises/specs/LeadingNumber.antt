@@ -9,7 +9,7 @@ use lib.Dec.{eqb, ltb}
 use lib.IntN.{ℤ, pos, negsuc}
 use Rattle.data.specs.Bytes.{plus, minus}
 use Rattle.data.specs.Reasons.{Reason, if-so, first-of}
-use Rattle.scalar.specs.Digits.{is-digit, digit-run, value}
+use Rattle.scalar.specs.Digits.{digits-alone, digit-first, digit-run, value}
 use Rattle.scalar.specs.Float.{rest}
 use Rattle.scalar.specs.Numbers.{answered, all-digits, overflow, i64-refusal-of, i64-value-of}
 use Rattle.scalar.specs.Whole.{most-i64, signed, i64-number, i64-rest, i64-read}
@@ -49,20 +49,10 @@ digits-of d = digit-run (after-sign d)
 abbrev pub after-digits : List ℕ → List ℕ
 after-digits d = rest (after-sign d)
 
--- whether bytes begin with a digit
-unfoldable pub digit-first : List ℕ → Bool
-digit-first [] = false
-digit-first (b ∷ d) = is-digit b
-
--- whether there are none
+-- whether there are no bytes
 abbrev pub is-empty : List ℕ → Bool
 is-empty [] = true
 is-empty (b ∷ d) = false
-
--- whether all of them are digits
-unfoldable pub digits-alone : List ℕ → Bool
-digits-alone [] = true
-digits-alone (b ∷ d) = is-digit b && digits-alone d
 
 -- what is promised: the scalar is sign, digits and rest, in that order; the digits are digits, and the rest begins with none
 pub record Apart (d : List ℕ) : Type 0 where

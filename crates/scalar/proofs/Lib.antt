@@ -1,4 +1,5 @@
 pub mod Runs
+pub mod Rests
 pub mod Words
 pub mod Gathers
 pub mod Wholes

@@ -4,7 +4,7 @@ ghost use mathlib.Core.Bool.{true};
 ghost use Prim.Native.Nat.{_*_, _%_, _^_};
 ghost use lib.Dec.{ltb};
 ghost use lib.ListN.{drop};
-ghost use Rattle.scalar.specs.Digits.{is-digit, carry, digit-run, value, gathered, most-u64};
+ghost use Rattle.scalar.specs.Digits.{is-digit, carry, digit-run, value, gathered, digits-in, most-u64};
 
 // Fewer bytes than this cannot write digits past 64 bits, with or without a point: 2^64 has twenty.
 pub(crate) const OVERFLOW_CUTOFF: usize = 20;
@@ -13,6 +13,13 @@ pub(crate) const OVERFLOW_CUTOFF: usize = 20;
 pub struct Gathered {
     pub total: u64,
     pub at: usize,
+}
+
+// The digits that stand at a place: the number that they write, or the most that 64 bits hold where it is more, and the place after
+// them.
+pub struct Digits {
+    pub number: u64,
+    pub end: usize,
 }
 
 // Whether a byte is a decimal digit.
@@ -85,5 +92,22 @@ pub(crate) fn exceeds(d: &[u8], at: usize) -> bool
         false
     } else {
         overflows(d, at, 0)
+    }
+}
+
+// The digits that stand at a place of some bytes, none of them where another byte or none stands there.
+pub fn digits_at(d: &[u8], at: usize) -> Digits
+    ensures { λ r. ⌜ r ≡ digits-in (now (d .entry)) at ⌝ }
+{
+    let run = gather(d, at, 0);
+    if exceeds(d, at) {
+        return Digits {
+            number: u64::MAX,
+            end: run.at,
+        };
+    }
+    Digits {
+        number: run.total,
+        end: run.at,
     }
 }

@@ -7,6 +7,8 @@ mod numbers;
 mod truth;
 mod whole;
 
+pub use digits::Digits;
+pub use digits::digits_at;
 pub use float::F64Read;
 pub use float::pattern;
 pub use float::to_f64;

@@ -22,10 +22,11 @@ use Rattle.scalar.specs.declared.whole.I64Read.{I64Read}
 use Rattle.scalar.proofs.Floats.{f64-none, f64-minus, f64-plus, f64-bare, f64-other}
 use Rattle.scalar.proofs.Forms.{unpointed-tail, sign-end, sign-other, nothing, after-minus, after-plus, unsigned}
 use Rattle.scalar.proofs.Gathers.{tail-here}
+use Rattle.scalar.proofs.Rests.{rest-other}
 use Rattle.scalar.proofs.Runs.{run-other}
 use Rattle.scalar.proofs.Wholes.{i64-none, i64-minus, i64-plus, i64-bare, i64-other, read-none}
 use Rattle.promises.specs.ReadingKinds.{kind-by-i64, i64-answers, has-digit, bare-f}
-use Rattle.promises.proofs.ReadingKinds.Tails.{rest-other, by-tail, point-is, passed, bare-past, plain}
+use Rattle.promises.proofs.ReadingKinds.Tails.{by-tail, point-is, passed, bare-past, plain}
 use Rattle.promises.proofs.ReadingKinds.AfterSign.{i64-after, past-is, tail-is, i64-is-after, no-number, unless, unless-both, after-sign}
 
 -- ---- how a scalar begins

@@ -1,4 +1,4 @@
--- The bytes of a scalar: its digits in front, what stands after them, and by that whether it holds a digit or a point, and whether it ends in `f`
+-- The bytes of a scalar: what stands after its digits in front, and by that whether it holds a digit or a point, and whether it ends in `f`
 -- without a point.
 -- Assumes nothing.
 use mathlib.Core.Path.{_≡_, refl, sym, _∙_, ap}
@@ -18,16 +18,9 @@ use Rattle.scalar.specs.Whole.{has-tail}
 use Rattle.scalar.specs.declared.float.Tail.the-variants.{End, Point, Other}
 use Rattle.scalar.specs.declared.float.Tail.{Tail}
 use Rattle.scalar.proofs.Gathers.{tail-on, tail-here}
+use Rattle.scalar.proofs.Rests.{rest-digit, rest-other}
 use Rattle.scalar.proofs.Runs.{digit-bounds, run-digit, run-other}
 use Rattle.promises.specs.ReadingKinds.{holds, has-digit, has-point, ends-in-f, bare-f}
-
--- ---- the digits in front
-
-pub rest-digit : (b : ℕ) (s : List ℕ) → is-digit b ≡ true → rest (b ∷ s) ≡ rest s
-rest-digit b s e = ap (λ (r : List ℕ). drop (length r) (b ∷ s)) (run-digit b s e)
-
-pub rest-other : (b : ℕ) (s : List ℕ) → is-digit b ≡ false → rest (b ∷ s) ≡ b ∷ s
-rest-other b s e = ap (λ (r : List ℕ). drop (length r) (b ∷ s)) (run-other b s e)
 
 -- ---- what stands after them
 

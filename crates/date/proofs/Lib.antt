@@ -1,0 +1,4 @@
+pub mod Months
+pub mod Ranges
+pub mod Shapes
+pub mod Readings

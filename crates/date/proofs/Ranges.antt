@@ -1,0 +1,112 @@
+-- A date in range, part by part.
+-- Assumes nothing.
+use mathlib.Core.Path.{_≡_, refl, sym, _∙_, ap}
+use mathlib.Core.Bool.{Bool, true, false, _&&_, false≢true}
+use Prim.Native.Nat.{ℕ, _+_, _≤_, _<_, min}
+use native.Mathlib.Omega.{arith}
+use borrow.Author.Tests.{le-leb, leb-true}
+use lib.Dec.{leb}
+use Rattle.data.proofs.Cases.{by-bool}
+use Rattle.date.specs.Calendar.{within, days-in, months, most-year, most-hour, in-range, ranged}
+use Rattle.date.specs.Reading.{past-all}
+use Rattle.date.specs.declared.calendar.Date.{Date}
+use Rattle.date.specs.declared.calendar.DateRead.the-variants.{Is, OutOfRange}
+use Rattle.date.proofs.Months.{days-in-year}
+
+-- what two tests together say of each
+pub both : (a b : Bool) → (a && b) ≡ true → (a ≡ true) × (b ≡ true)
+both true b e = (refl, e)
+both false b e = absurd (false≢true e)
+
+-- from 1 to a number
+pub is-within : (n most : ℕ) → within n most ≡ true → (1 ≤ n) × (n ≤ most)
+unfolding within
+is-within n most e = let tests = both (leb 1 n) (leb n most) e in (leb-true 1 n (tests .0), leb-true n most (tests .1))
+
+pub within-is : (n most : ℕ) → 1 ≤ n → n ≤ most → within n most ≡ true
+unfolding within
+within-is n most h k = rw (within, le-leb 1 n h) (le-leb n most k)
+
+-- a date in range, part by part
+pub record Ranged (t : Date) : Type 0 where
+  pub year : (1 ≤ t .year) × (t .year ≤ most-year)
+  pub month : (1 ≤ t .month) × (t .month ≤ months)
+  pub day : (1 ≤ t .day) × (t .day ≤ days-in (t .month))
+  pub hour : t .hour ≤ most-hour
+
+pub ranged-is : (t : Date) → in-range t ≡ true → Ranged t
+unfolding in-range
+ranged-is t e =
+    let all = both _ _ e in
+    let days = both _ _ (all .0) in
+    let years = both _ _ (days .0) in
+    record {
+      year = is-within _ _ (years .0);
+      month = is-within _ _ (years .1);
+      day = is-within _ _ (days .1);
+      hour = leb-true _ _ (all .1);
+    }
+
+pub is-ranged : (t : Date) → Ranged t → in-range t ≡ true
+unfolding in-range
+is-ranged t r =
+    rw (
+      in-range,
+      within-is (t .year) most-year (r .year .0) (r .year .1),
+      within-is (t .month) months (r .month .0) (r .month .1),
+      within-is (t .day) (days-in (t .month)) (r .day .0) (r .day .1),
+    )
+    (le-leb (t .hour) most-hour (r .hour))
+
+-- it is answered, and any other is refused
+pub ranged-in : (t : Date) → in-range t ≡ true → ranged t ≡ Is t
+unfolding ranged
+ranged-in t e = rw (ranged, e)
+
+pub ranged-out : (t : Date) → in-range t ≡ false → ranged t ≡ OutOfRange
+unfolding ranged
+ranged-out t e = rw (ranged, e)
+
+-- ---- a number that is out of every range may stand for all above it
+
+-- a number that is in some range stands for itself
+bounded-is : (n : ℕ) → n ≤ most-year → min n past-all ≡ n
+bounded-is n h = omega arith
+
+unbounded-is : (n : ℕ) → min n past-all ≤ most-year → min n past-all ≡ n
+unbounded-is n h = omega arith
+
+-- the date of four numbers
+abbrev pub date : ℕ → ℕ → ℕ → ℕ → Date
+date year month day hour = record { year = year; month = month; day = day; hour = hour }
+
+abbrev pub bounded : ℕ → ℕ → ℕ → ℕ → Date
+bounded year month day hour = date (min year past-all) (min month past-all) (min day past-all) (min hour past-all)
+
+module _ (year month day hour : ℕ) where
+  in-range-same : Ranged (date year month day hour) → bounded year month day hour ≡ date year month day hour
+  in-range-same r =
+      let small : day ≤ most-year = omega (arith, r .day .1, days-in-year month) in
+      let y = bounded-is year (r .year .1) in
+      let m = bounded-is month (omega (arith, r .month .1)) in
+      let d = bounded-is day small in
+      let h = bounded-is hour (omega (arith, r .hour)) in
+      λ j. date (y j) (m j) (d j) (h j)
+
+  bounded-same : Ranged (bounded year month day hour) → bounded year month day hour ≡ date year month day hour
+  bounded-same r =
+      let small : min day past-all ≤ most-year = omega (arith, r .day .1, days-in-year (min month past-all)) in
+      let y = unbounded-is year (r .year .1) in
+      let m = unbounded-is month (omega (arith, r .month .1)) in
+      let d = unbounded-is day small in
+      let h = unbounded-is hour (omega (arith, r .hour)) in
+      λ j. date (y j) (m j) (d j) (h j)
+
+  -- so what is answered stays the same
+  pub bounded-ranged : ranged (bounded year month day hour) ≡ ranged (date year month day hour)
+  bounded-ranged =
+      by-bool (in-range (bounded year month day hour))
+      (λ t. ap ranged (bounded-same (ranged-is _ t)))
+      (λ f. by-bool (in-range (date year month day hour))
+      (λ t. ap ranged (in-range-same (ranged-is _ t)))
+      (λ g. ranged-out _ f ∙ sym (ranged-out _ g)))

@@ -1,0 +1,95 @@
+-- A date in the bytes of a scalar (request W8): read year.month.day with an optional fourth part, an hour 1 to 24; parts are digits without a sign;
+-- leading zeros are read. Refusals: not the shape first, then a part out of range.
+use mathlib.Core.Bool.{Bool, true, false, not, _&&_, _||_}
+use mathlib.Core.List.{List, [], _∷_, map}
+use Prim.Native.Nat.{ℕ, _+_, min}
+use lib.Dec.{eqb}
+use lib.ListN.{length, getD, drop}
+use Rattle.data.specs.Bytes.{point}
+use Rattle.data.specs.Reasons.{if-so, first-of}
+use Rattle.scalar.specs.Digits.{is-digit, digits-alone, digit-first, digit-run, value}
+use Rattle.date.specs.Calendar.{most-year, in-range}
+use Rattle.date.specs.declared.calendar.Date.{Date}
+use Rattle.date.specs.declared.calendar.DateRead.the-variants.{Is, NotADate, OutOfRange}
+use Rattle.date.specs.declared.calendar.DateRead.{DateRead}
+use Rattle.date.specs.declared.reading.Part.the-variants as Part
+use Rattle.date.specs.declared.reading.Part.{Part}
+
+-- ---- the shape
+
+-- a byte in front of the first part
+abbrev pub in-front : ℕ → List (List ℕ) → List (List ℕ)
+in-front b [] = (b ∷ []) ∷ []
+in-front b (p ∷ ps) = (b ∷ p) ∷ ps
+
+-- the parts: what stands between the points
+unfoldable pub parts : List ℕ → List (List ℕ)
+parts [] = [] ∷ []
+parts (b ∷ d) = elim (eqb b point) [ true ↦ [] ∷ parts d | false ↦ in-front b (parts d) ]
+
+-- each has one or more digits, and nothing else
+unfoldable pub is-part : List ℕ → Bool
+is-part [] = false
+is-part (b ∷ p) = is-digit b && digits-alone p
+
+unfoldable pub all-parts : List (List ℕ) → Bool
+all-parts [] = true
+all-parts (p ∷ ps) = is-part p && all-parts ps
+
+-- year, month and day are three, and with an hour there are four
+abbrev pub with-hour : ℕ
+with-hour = 4
+
+unfoldable pub right-number : ℕ → Bool
+right-number n = eqb n 3 || eqb n with-hour
+
+unfoldable pub shaped : List ℕ → Bool
+shaped d = right-number (length (parts d)) && all-parts (parts d)
+
+-- ---- the numbers
+
+unfoldable pub numbers : List ℕ → List ℕ
+numbers d = map (value 0) (parts d)
+
+-- the date that they tell
+abbrev pub told-by : List ℕ → Date
+told-by ns = record { year = getD ns 0 0; month = getD ns 1 0; day = getD ns 2 0; hour = getD ns 3 0 }
+
+-- an hour that stands there begins with 1
+unfoldable pub hour-zero : List ℕ → Bool
+hour-zero ns = eqb (length ns) with-hour && eqb (getD ns 3 0) 0
+
+unfoldable pub out-of-range : List ℕ → Bool
+out-of-range ns = hour-zero ns || not (in-range (told-by ns))
+
+-- ---- the reading
+
+-- by whether the bytes have the shape, and whether a part is out of range
+unfoldable pub dated : Bool → Bool → Date → DateRead
+dated shape out t = first-of (λ (r : DateRead). r) (Is t) (if-so (not shape) NotADate ∷ if-so out OutOfRange ∷ [])
+
+unfoldable pub date-read : List ℕ → DateRead
+date-read d = dated (shaped d) (out-of-range (numbers d)) (told-by (numbers d))
+
+-- ---- how it is gone about: part by part
+
+-- the least number that is out of every range, which stands for all above it
+abbrev pub past-all : ℕ
+past-all = most-year + 1
+
+-- the part that stands at a place, and the place after it
+unfoldable pub part-at : List ℕ → ℕ → Part
+part-at d at =
+    elim (digit-first (drop at d)) [
+      | true ↦ Part.Is (min (value 0 (digit-run (drop at d))) past-all) (at + length (digit-run (drop at d)))
+      | false ↦ Part.Nothing
+    ]
+
+-- whether a point stands at a place
+unfoldable pub point-first : List ℕ → Bool
+point-first [] = false
+point-first (b ∷ d) = eqb b point
+
+-- the part that stands behind it
+unfoldable pub pointed-part : List ℕ → ℕ → Part
+pointed-part d at = elim (point-first (drop at d)) [ true ↦ part-at d (at + 1) | false ↦ Part.Nothing ]
