@@ -15,18 +15,19 @@ use Rattle.sheet.specs.Views.{viewed}
 use Rattle.writer.specs.Write as sheet
 use Rattle.tape.specs.Words.{words-for}
 use Rattle.put.specs.Append.{Wrote, wrote, place-of, append}
+use Rattle.report.specs.Dates.{date-line, day-line}
 use Rattle.report.specs.Dump.{dump-of}
 use Rattle.report.specs.Readings.{readings-of, leading-of}
 use Rattle.report.specs.Room.{most-input, most-tokens, Held}
 use Rattle.report.specs.Sheets as sheets
 use Rattle.report.proofs.Room.{put-whole}
-use Rattle.report.proofs.Lengths.{readings-short, leading-short, verdict-short, view-short, written-short}
+use Rattle.report.proofs.Lengths.{readings-short, leading-short, date-short, day-short, verdict-short, view-short, written-short}
 use Rattle.file_lines.specs.Lines as lines
 use Rattle.file_lines.proofs.Told.{reads-given}
 use Rattle.file_lines.proofs.Room.{file-short}
 use Rattle.answers.specs.declared.Answer.{Answer}
 use Rattle.answers.specs.declared.Answer.the-variants.{Put}
-use Rattle.answers.specs.Whole.{most-answer, most-words, Answers, dump, readings, leading, verdict, view, written, filed, found, All, Left, Whole}
+use Rattle.answers.specs.Whole.{most-answer, most-words, Answers, dump, readings, leading, date, day, verdict, view, written, filed, found, All, Left, Whole}
 
 -- what was put, and the buffer of a text that was written back
 abbrev put-of : sheets.Reported → Wrote
@@ -70,6 +71,13 @@ module _ (capacity : ℕ) (body out : List ℕ) (at : ℕ) {r : ℕ} {o : List �
   pub leading-all : wrote r o ≡ append out at (leading-of body) → length body ≤ most-input → at + most-answer ≤ length out
       → All capacity body out at r o
   leading-all e within room = fits (leading-of body) leading e (omega (arith, leading-short body within)) room
+
+  -- the date that it says, and the date of a day
+  pub date-all : wrote r o ≡ append out at (date-line body) → at + most-answer ≤ length out → All capacity body out at r o
+  date-all e room = fits (date-line body) date e (omega (arith, date-short body)) room
+
+  pub day-all : (n : ℕ) → wrote r o ≡ append out at (day-line n) → at + most-answer ≤ length out → All capacity body out at r o
+  day-all n e room = fits (day-line n) (day n) e (omega (arith, day-short n)) room
 
   -- a verdict
   pub verdict-all : {Holds : Type 0} → sheets.Judged Holds out at (wrote r o) → at + most-answer ≤ length out

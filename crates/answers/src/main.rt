@@ -139,6 +139,25 @@ fn leading_answer(out: &mut [u8], at: usize, capacity: usize, scalar: &[u8]) -> 
     Answer::Put(report::readings::put_leading(out, at, scalar))
 }
 
+// Kind `D`: the date that a scalar says, with its day.
+fn date_answer(out: &mut [u8], at: usize, capacity: usize, scalar: &[u8]) -> Answer
+    requires { ⌜ at + most-answer ≤ length (now out) ⌝ }
+    ensures { λ r. ⌜ Whole capacity (now (scalar .entry)) (now (out .entry)) at r (now (out .exit)) ⌝ }
+{
+    Answer::Put(report::dates::put_date(out, at, scalar))
+}
+
+// Kind `Y`: the date of a day, which is all of the body.
+fn day_answer(out: &mut [u8], at: usize, capacity: usize, body: &[u8]) -> Answer
+    requires { ⌜ at + most-answer ≤ length (now out) ⌝ }
+    ensures { λ r. ⌜ Whole capacity (now (body .entry)) (now (out .entry)) at r (now (out .exit)) ⌝ }
+{
+    if body.len() != WORD {
+        return Answer::Bad;
+    }
+    Answer::Put(report::dates::put_date_of(out, at, word_at(body, 0)))
+}
+
 // Kind `C`: whether a sheet is sound. The text's length, the count, and the words to the body's end.
 fn check_answer(
     out: &mut [u8],
@@ -268,6 +287,8 @@ fn answer_record(
         b'T' => tokens_answer(out, at, capacity, body, words),
         b'S' => readings_answer(out, at, capacity, body),
         b'N' => leading_answer(out, at, capacity, body),
+        b'D' => date_answer(out, at, capacity, body),
+        b'Y' => day_answer(out, at, capacity, body),
         b'C' => check_answer(out, at, capacity, body, words),
         b'V' => view_answer(out, at, capacity, body, words),
         b'W' => write_answer(out, at, capacity, body, words),

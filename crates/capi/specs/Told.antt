@@ -12,6 +12,10 @@ use Rattle.scalar.specs.declared.truth.BoolRead.{BoolRead}
 use Rattle.scalar.specs.declared.whole.U64Read.{U64Read}
 use Rattle.scalar.specs.declared.whole.I64Read.{I64Read}
 use Rattle.scalar.specs.declared.float.F64Read.{F64Read}
+use Rattle.date.specs.Refusals.{date-refusal-of, date-value-of, days-refusal-of, days-value-of}
+use Rattle.date.specs.declared.calendar.Date.{Date}
+use Rattle.date.specs.declared.calendar.DateRead.{DateRead}
+use Rattle.date.specs.declared.calendar.DaysRead.{DaysRead}
 use Rattle.sheet.specs.declared.views.Viewed.{Viewed}
 use Rattle.sheet.specs.declared.views.Viewed.the-variants.{At, NoScalar}
 use Rattle.sheet.specs.Views.{refusal-of}
@@ -70,6 +74,13 @@ tell-i64 r = read-told (i64-refusal-of r) (i64-value-of r)
 
 abbrev pub tell-f64 : F64Read → ReadTold Float
 tell-f64 r = read-told (f64-refusal-of r) (f64-value-of r)
+
+-- a date, and a day
+abbrev pub tell-date : DateRead → ReadTold Date
+tell-date r = read-told (date-refusal-of r) (date-value-of r)
+
+abbrev pub tell-days : DaysRead → ReadTold ℕ
+tell-days r = read-told (days-refusal-of r) (days-value-of r)
 
 -- the number that a scalar begins with: its refusal, its value, and how many bytes are left over
 pub data PartTold : Type 0 where

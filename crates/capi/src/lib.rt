@@ -1,6 +1,7 @@
-// The calls for C: parse, check, views, tokens, the way back, sheet files and readings under plain names, on slices (a pointer and a length),
-// pointers to single numbers, and numbers. Each answers document 01's number of a refusal, 0 for none, and writes through
+// The calls for C: parse, check, views, tokens, the way back, sheet files, readings and dates under plain names, on slices (a pointer and a
+// length), pointers to single numbers, and numbers. Each answers document 01's number of a refusal, 0 for none, and writes through
 // every pointer that it is given, whatever it answers.
+use date::Date;
 use file::Found;
 use machine::Parsed;
 use sheet::views;
@@ -18,6 +19,8 @@ ghost use Rattle.scalar.specs.Whole.{u64-read, i64-read, i64-number, i64-rest};
 ghost use Rattle.scalar.specs.Float.{f64-read};
 ghost use Rattle.scalar.specs.Kind.{kind-of};
 ghost use Rattle.scalar.specs.Numbers.{kind-number-of};
+ghost use Rattle.date.specs.Calendar.{date, days-of, date-at};
+ghost use Rattle.date.specs.Reading.{date-read};
 ghost use Rattle.sheet.specs.Sound.{Sound};
 ghost use Rattle.sheet.specs.Views.{viewed};
 ghost use Rattle.sheet.specs.Decided.{Decided};
@@ -28,7 +31,7 @@ ghost use Rattle.file.specs.Files.{Reads-as};
 ghost use Rattle.file.specs.declared.layout.Version.the-variants.{V1};
 ghost use Rattle.capi.specs.Told.{view-told, tell-view, token-told, tell-token, write-told, tell-write};
 ghost use Rattle.capi.specs.Told.{file-told, tell-file, sheet-told, tell-sheet};
-ghost use Rattle.capi.specs.Told.{read-told, tell-bool, tell-u64, tell-i64, tell-f64, part-told, tell-part};
+ghost use Rattle.capi.specs.Told.{read-told, tell-bool, tell-u64, tell-i64, tell-f64, tell-date, tell-days, part-told, tell-part};
 
 // 1 for yes and 0 for no.
 fn bit_of(yes: bool) -> u32
@@ -271,4 +274,58 @@ pub extern "C" fn tackacorn_kind(scalar: &[u8]) -> u32
     ensures { λ r. ⌜ r ≡ kind-number-of (kind-of (now (scalar .entry))) ⌝ }
 {
     wide(scalar::kind_number(scalar::kind(scalar)))
+}
+
+// Reads a date.
+#[no_mangle]
+pub extern "C" fn tackacorn_to_date(
+    scalar: &[u8],
+    year: &mut u32,
+    month: &mut u32,
+    day: &mut u32,
+    hour: &mut u32,
+) -> u32
+    ensures { λ r. ⌜ read-told r (date (now (year .exit)) (now (month .exit)) (now (day .exit)) (now (hour .exit)))
+        ≡ tell-date (date-read (now (scalar .entry))) ⌝ }
+{
+    let read = date::to_date(scalar);
+    let date = date::date_value(read);
+    *year = date.year;
+    *month = date.month;
+    *day = date.day;
+    *hour = date.hour;
+    wide(date::date_refusal(read))
+}
+
+// The day of a date.
+#[no_mangle]
+pub extern "C" fn tackacorn_to_days(year: u32, month: u32, day: u32, days: &mut u32) -> u32
+    ensures { λ r. ⌜ read-told r (now (days .exit)) ≡ tell-days (days-of (date year month day 0)) ⌝ }
+{
+    let read = date::to_days(Date {
+        year,
+        month,
+        day,
+        hour: 0,
+    });
+    *days = date::days_value(read);
+    wide(date::days_refusal(read))
+}
+
+// The date of a day.
+#[no_mangle]
+pub extern "C" fn tackacorn_from_days(
+    days: u32,
+    year: &mut u32,
+    month: &mut u32,
+    day: &mut u32,
+) -> u32
+    ensures { λ r. ⌜ read-told r (date (now (year .exit)) (now (month .exit)) (now (day .exit)) 0) ≡ tell-date (date-at days) ⌝ }
+{
+    let read = date::from_days(days);
+    let date = date::date_value(read);
+    *year = date.year;
+    *month = date.month;
+    *day = date.day;
+    wide(date::date_refusal(read))
 }

@@ -1,4 +1,5 @@
 pub mod Months
+pub mod Days
 pub mod Ranges
 pub mod Shapes
 pub mod Readings

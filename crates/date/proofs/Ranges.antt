@@ -7,7 +7,7 @@ use native.Mathlib.Omega.{arith}
 use borrow.Author.Tests.{le-leb, leb-true}
 use lib.Dec.{leb}
 use Rattle.data.proofs.Cases.{by-bool}
-use Rattle.date.specs.Calendar.{within, days-in, months, most-year, most-hour, in-range, ranged}
+use Rattle.date.specs.Calendar.{date, within, days-in, months, most-year, most-hour, in-range, ranged}
 use Rattle.date.specs.Reading.{past-all}
 use Rattle.date.specs.declared.calendar.Date.{Date}
 use Rattle.date.specs.declared.calendar.DateRead.the-variants.{Is, OutOfRange}
@@ -76,10 +76,7 @@ bounded-is n h = omega arith
 unbounded-is : (n : ℕ) → min n past-all ≤ most-year → min n past-all ≡ n
 unbounded-is n h = omega arith
 
--- the date of four numbers
-abbrev pub date : ℕ → ℕ → ℕ → ℕ → Date
-date year month day hour = record { year = year; month = month; day = day; hour = hour }
-
+-- the date of four such numbers
 abbrev pub bounded : ℕ → ℕ → ℕ → ℕ → Date
 bounded year month day hour = date (min year past-all) (min month past-all) (min day past-all) (min hour past-all)
 

@@ -1,6 +1,6 @@
 -- What is read of bytes that have the shape of a date, and of others.
 -- Assumes nothing.
-use mathlib.Core.Path.{_≡_, refl, sym, _∙_, ap}
+use mathlib.Core.Path.{_≡_, refl, sym, _∙_, ap, subst}
 use mathlib.Core.Bool.{Bool, true, false, not, _||_}
 use mathlib.Core.List.{List, [], _∷_, map}
 use Prim.Native.Nat.{ℕ, _+_, _≤_, _<_}
@@ -10,11 +10,12 @@ use lib.ListN.{length, drop}
 use Rattle.data.proofs.Cases.{by-bool}
 use Rattle.data.specs.Reasons.{first-of}
 use Rattle.scalar.specs.Digits.{digit-run, value}
-use Rattle.date.specs.Calendar.{in-range, ranged}
+use Rattle.date.specs.Calendar.{date, in-range, ranged}
 use Rattle.date.specs.Reading.{right-number, shaped, numbers, told-by, hour-zero, out-of-range, dated, date-read}
 use Rattle.date.specs.declared.calendar.Date.{Date}
 use Rattle.date.specs.declared.calendar.DateRead.the-variants.{Is, NotADate, OutOfRange}
-use Rattle.date.proofs.Ranges.{date, ranged-in, ranged-out, bounded-ranged}
+use Rattle.date.specs.declared.calendar.DateRead.{DateRead}
+use Rattle.date.proofs.Ranges.{ranged-in, ranged-out, bounded-ranged}
 use Rattle.date.proofs.Shapes.{Taken, closed, closed-parts}
 
 -- ---- by the reasons to refuse
@@ -53,6 +54,13 @@ module _ (d : List ℕ) (shape : shaped d ≡ true) where
       ∙ ap (λ (z : Bool). dated true (z || not (in-range (told-by ns))) (told-by ns)) f
       ∙ dated-range (told-by ns)
 
+  by-zero : (ns : List ℕ) → numbers d ≡ ns → hour-zero ns ≡ true → date-read d ≡ OutOfRange
+  unfolding date-read out-of-range
+  by-zero ns e f =
+      (λ j. dated (shape j) (out-of-range (e j)) (told-by (e j)))
+      ∙ ap (λ (z : Bool). dated true (z || not (in-range (told-by ns))) (told-by ns)) f
+      ∙ dated-out (told-by ns)
+
   pub reads-day : (year month day : ℕ) → numbers d ≡ year ∷ month ∷ day ∷ [] → date-read d ≡ ranged (date year month day 0)
   unfolding hour-zero
   reads-day year month day e = by-range (year ∷ month ∷ day ∷ []) e refl
@@ -63,9 +71,8 @@ module _ (d : List ℕ) (shape : shaped d ≡ true) where
   reads-hour year month day hour e h = by-range (year ∷ month ∷ day ∷ hour ∷ []) e (ne-eqb hour 0 (λ z. omega (arith, z)))
 
   pub reads-no-hour : (year month day : ℕ) → numbers d ≡ year ∷ month ∷ day ∷ 0 ∷ [] → date-read d ≡ OutOfRange
-  unfolding date-read out-of-range hour-zero
-  reads-no-hour year month day e =
-      (λ j. dated (shape j) (out-of-range (e j)) (told-by (e j))) ∙ dated-out (date year month day 0)
+  unfolding hour-zero
+  reads-no-hour year month day e = by-zero (year ∷ month ∷ day ∷ 0 ∷ []) e refl
 
 -- ---- and by the parts that were taken
 
@@ -111,3 +118,17 @@ module _ (d : List ℕ) {year month day after-year after-month after-day : ℕ} 
         let zero-is : written d (after-day + 1) ≡ 0 = omega (arith, none, o .number-is) in
         reads-no-hour d four-shaped _ _ _
         (four-numbers ∙ ap (λ (n : ℕ). written d 0 ∷ written d (after-year + 1) ∷ written d (after-month + 1) ∷ n ∷ []) zero-is)
+
+-- ---- whatever the bytes are
+
+-- by what is read: a date in range, or a refusal
+pub by-date : (P : DateRead → Type 0) (d : List ℕ) → ((t : Date) → in-range t ≡ true → P (Is t)) → P NotADate → P OutOfRange → P (date-read d)
+by-date P d is none out =
+    by-bool (shaped d)
+    (λ shape. by-bool (hour-zero (numbers d))
+    (λ zero. subst P (sym (by-zero d shape (numbers d) refl zero)) out)
+    (λ some. let read = by-range d shape (numbers d) refl some in
+    by-bool (in-range (told-by (numbers d)))
+    (λ e. subst P (sym (read ∙ ranged-in _ e)) (is _ e))
+    (λ e. subst P (sym (read ∙ ranged-out _ e)) out)))
+    (λ f. subst P (sym (reads-none d f)) none)

@@ -40,6 +40,10 @@ days-before month = together (take (month - 1) month-days)
 
 -- ---- which dates there are
 
+-- the date of four numbers
+abbrev pub date : ℕ → ℕ → ℕ → ℕ → Date
+date year month day hour = record { year = year; month = month; day = day; hour = hour }
+
 -- the last year, and the last hour of a day
 abbrev pub most-year : ℕ
 most-year = 9999
@@ -85,12 +89,8 @@ month-at day = months-past month-days day + 1
 -- the date of a day, without an hour
 unfoldable pub date-of : ℕ → Date
 date-of day =
-    record {
-      year = day / year-days + 1;
-      month = month-at (day % year-days);
-      day = day % year-days - days-before (month-at (day % year-days)) + 1;
-      hour = 0;
-    }
+    let of-year = day % year-days in
+    date (day / year-days + 1) (month-at of-year) (of-year - days-before (month-at of-year) + 1) 0
 
 unfoldable pub date-at : ℕ → DateRead
 date-at day = elim (ltb last-day day) [ true ↦ OutOfRange | false ↦ Is (date-of day) ]

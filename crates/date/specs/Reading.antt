@@ -8,7 +8,7 @@ use lib.ListN.{length, getD, drop}
 use Rattle.data.specs.Bytes.{point}
 use Rattle.data.specs.Reasons.{if-so, first-of}
 use Rattle.scalar.specs.Digits.{is-digit, digits-alone, digit-first, digit-run, value}
-use Rattle.date.specs.Calendar.{most-year, in-range}
+use Rattle.date.specs.Calendar.{date, most-year, in-range}
 use Rattle.date.specs.declared.calendar.Date.{Date}
 use Rattle.date.specs.declared.calendar.DateRead.the-variants.{Is, NotADate, OutOfRange}
 use Rattle.date.specs.declared.calendar.DateRead.{DateRead}
@@ -53,7 +53,7 @@ numbers d = map (value 0) (parts d)
 
 -- the date that they tell
 abbrev pub told-by : List ℕ → Date
-told-by ns = record { year = getD ns 0 0; month = getD ns 1 0; day = getD ns 2 0; hour = getD ns 3 0 }
+told-by ns = date (getD ns 0 0) (getD ns 1 0) (getD ns 2 0) (getD ns 3 0)
 
 -- an hour that stands there begins with 1
 unfoldable pub hour-zero : List ℕ → Bool

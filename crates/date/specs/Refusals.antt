@@ -1,6 +1,7 @@
 -- Request W8's numbers for what is answered about dates: of each refusal, 0 where there is an answer, and the value of each answer.
 use Prim.Native.Nat.{ℕ}
 use Rattle.scalar.specs.Numbers.{answered}
+use Rattle.date.specs.Calendar.{date}
 use Rattle.date.specs.declared.calendar.Date.{Date}
 use Rattle.date.specs.declared.calendar.DateRead.the-variants.{Is, NotADate, OutOfRange}
 use Rattle.date.specs.declared.calendar.DateRead.{DateRead}
@@ -23,7 +24,7 @@ date-refusal-of OutOfRange = out-of-range
 
 -- and its value, zeros where there is none
 abbrev pub no-date : Date
-no-date = record { year = 0; month = 0; day = 0; hour = 0 }
+no-date = date 0 0 0 0
 
 abbrev pub date-value-of : DateRead → Date
 date-value-of (Is t) = t

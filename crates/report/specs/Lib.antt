@@ -4,4 +4,5 @@ pub mod Digits
 pub mod Room
 pub mod Dump
 pub mod Readings
+pub mod Dates
 pub mod Sheets

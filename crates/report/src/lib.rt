@@ -1,6 +1,8 @@
 // What the programs write: numbers, the dump of a text, and the answers that are compared with the Rust's, each put into a lent
 // buffer from a place on.
 
+// A date, and the date of a day.
+pub mod dates;
 // The dump of a text.
 pub mod dump;
 // How much is read, and the room that is lent.

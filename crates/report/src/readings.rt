@@ -17,7 +17,7 @@ ghost use Rattle.report.specs.Digits.{decimal};
 ghost use Rattle.report.specs.Readings.{bool-text, u64-text, i64-text, f64-text, exact-of, readings-of, left-text, leading-of};
 
 // Puts an `=` and a number.
-fn put_value(out: &mut [u8], at: usize, n: u64) -> usize
+pub(crate) fn put_value(out: &mut [u8], at: usize, n: u64) -> usize
     ensures { λ r. ⌜ wrote r (now (out .exit)) ≡ append (now (out .entry)) at (equals ∷ [] ++ decimal n) ⌝ }
 {
     let next = put_byte(out, at, b'=');

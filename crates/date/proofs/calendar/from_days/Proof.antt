@@ -6,7 +6,7 @@ use native.Mathlib.Nat.{mod-lt}
 use native.Mathlib.Omega.{arith}
 use borrow.Author.Needs.{needs}
 use borrow.Author.Tests.{lt-ltb, le-ltb}
-use Rattle.date.specs.Calendar.{year-days, days-before, month-at, date-of, date-at}
+use Rattle.date.specs.Calendar.{date, year-days, days-before, month-at, date-of, date-at}
 use Rattle.date.specs.declared.calendar.DateRead.the-variants.{Is}
 use Rattle.date.proofs.Months.{Falls, month-falls}
 use Rattle.date.proofs.calendar.from_days.Statement.{statement}
@@ -43,7 +43,7 @@ returns-2 c =
     let month = at-month .month-of .ensures in
     let before = c .days-before .ensures ∙ ap days-before month in
     rw (date-at, le-ltb _ _ (at-month .before .if1 .left))
-    (λ j. Is (record { year = days / year-days + 1; month = month j; day = days % year-days - before j + 1; hour = 0 }))
+    (λ j. Is (date (days / year-days + 1) (month j) (days % year-days - before j + 1) 0))
 
 pub from-days-spec : {M : Type 1} → statement M
 from-days-spec =
