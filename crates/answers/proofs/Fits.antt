@@ -27,7 +27,8 @@ use Rattle.file_lines.proofs.Told.{reads-given}
 use Rattle.file_lines.proofs.Room.{file-short}
 use Rattle.answers.specs.declared.Answer.{Answer}
 use Rattle.answers.specs.declared.Answer.the-variants.{Put}
-use Rattle.answers.specs.Whole.{most-answer, most-words, Answers, dump, readings, leading, date, day, verdict, view, written, filed, found, All, Left, Whole}
+use Rattle.answers.specs.Whole.{most-answer, most-words, All, Left, Whole}
+use Rattle.answers.specs.Whole.{Answers, dump, readings, leading, date, day, verdict, view, written, filed, found}
 
 -- what was put, and the buffer of a text that was written back
 abbrev put-of : sheets.Reported → Wrote

@@ -184,15 +184,22 @@ read-short t e =
     let r = ranged-is t e in
     let days = ap days-value-of (days-in-range t e) in
     rw length-append (rw length-append
-    (omega (arith, ranged-short t e, field-short (t .hour) (omega (arith, r .hour)),
-    field-short (days-value-of (days-of t)) (omega (arith, days, day-within t e)))))
+    (omega (
+      arith,
+      ranged-short t e,
+      field-short (t .hour) (omega (arith, r .hour)),
+      field-short (days-value-of (days-of t)) (omega (arith, days, day-within t e)),
+    )))
 
 pub date-short : (d : List ℕ) → length (date-line d) ≤ 106
 unfolding date-line
 date-short d =
     rw length-append
-    (omega (arith, by-date (λ r. length (date-text r) ≤ 105) d read-short
-    (omega (arith, two-short 51 (omega arith))) (omega (arith, two-short 52 (omega arith)))))
+    (omega (
+      arith,
+      by-date (λ r. length (date-text r) ≤ 105) d read-short
+          (omega (arith, two-short 51 (omega arith))) (omega (arith, two-short 52 (omega arith))),
+    ))
 
 -- and of the date of a day
 pub day-short : (n : ℕ) → length (day-line n) ≤ 64
