@@ -8,14 +8,15 @@ use native.Mathlib.Omega.{arith}
 use borrow.Author.Tests.{lt-ltb, le-ltb}
 use lib.Dec.{ltb}
 use Rattle.data.proofs.Cases.{by-bool}
-use Rattle.date.specs.Calendar.{date, year-days, days-before, days-in, months, in-range, day-of, days-of, last-day, month-at, date-of, date-at}
+use Rattle.date.specs.Calendar.{date, year-days, days-before, days-in, months, in-range, Ranged, day-of, days-of, last-day}
+use Rattle.date.specs.Calendar.{month-at, date-of, date-at}
 use Rattle.date.specs.Calendar.{month-days}
 use Rattle.date.specs.Refusals.{date-value-of}
 use Rattle.date.specs.declared.calendar.Date.{Date}
 use Rattle.date.specs.declared.calendar.DateRead.the-variants.{Is, OutOfRange}
 use Rattle.date.specs.declared.calendar.DaysRead.the-variants as Days
 use Rattle.date.proofs.Months.{past-here, table-length, before-year, Falls, month-falls}
-use Rattle.date.proofs.Ranges.{Ranged, ranged-is, is-ranged}
+use Rattle.date.proofs.Ranges.{ranged-is, is-ranged}
 
 -- ---- what is answered
 

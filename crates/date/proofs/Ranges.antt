@@ -7,7 +7,7 @@ use native.Mathlib.Omega.{arith}
 use borrow.Author.Tests.{le-leb, leb-true}
 use lib.Dec.{leb}
 use Rattle.data.proofs.Cases.{by-bool}
-use Rattle.date.specs.Calendar.{date, within, days-in, months, most-year, most-hour, in-range, ranged}
+use Rattle.date.specs.Calendar.{date, within, days-in, months, most-year, most-hour, in-range, Ranged, ranged}
 use Rattle.date.specs.Reading.{past-all}
 use Rattle.date.specs.declared.calendar.Date.{Date}
 use Rattle.date.specs.declared.calendar.DateRead.the-variants.{Is, OutOfRange}
@@ -26,13 +26,6 @@ is-within n most e = let tests = both (leb 1 n) (leb n most) e in (leb-true 1 n 
 pub within-is : (n most : ℕ) → 1 ≤ n → n ≤ most → within n most ≡ true
 unfolding within
 within-is n most h k = rw (within, le-leb 1 n h) (le-leb n most k)
-
--- a date in range, part by part
-pub record Ranged (t : Date) : Type 0 where
-  pub year : (1 ≤ t .year) × (t .year ≤ most-year)
-  pub month : (1 ≤ t .month) × (t .month ≤ months)
-  pub day : (1 ≤ t .day) × (t .day ≤ days-in (t .month))
-  pub hour : t .hour ≤ most-hour
 
 pub ranged-is : (t : Date) → in-range t ≡ true → Ranged t
 unfolding in-range

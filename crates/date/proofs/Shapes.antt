@@ -50,15 +50,15 @@ onto-nothing [] h = absurd (omega arith)
 onto-nothing (p ∷ ps) h = refl
 
 -- a point ends a part, and any other byte belongs to one
-parts-point : (b : ℕ) (s : List ℕ) → eqb b point ≡ true → parts (b ∷ s) ≡ [] ∷ parts s
+pub parts-point : (b : ℕ) (s : List ℕ) → eqb b point ≡ true → parts (b ∷ s) ≡ [] ∷ parts s
 unfolding parts
 parts-point b s e = rw (parts, e)
 
-parts-other : (b : ℕ) (s : List ℕ) → eqb b point ≡ false → parts (b ∷ s) ≡ in-front b (parts s)
+pub parts-other : (b : ℕ) (s : List ℕ) → eqb b point ≡ false → parts (b ∷ s) ≡ in-front b (parts s)
 unfolding parts
 parts-other b s e = rw (parts, e)
 
-digit-no-point : (b : ℕ) → is-digit b ≡ true → eqb b point ≡ false
+pub digit-no-point : (b : ℕ) → is-digit b ≡ true → eqb b point ≡ false
 digit-no-point b e = ne-eqb b point (λ p. omega (arith, digit-bounds b e))
 
 parts-run : (s : List ℕ) → parts s ≡ onto (digit-run s) (parts (rest s))

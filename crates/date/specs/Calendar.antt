@@ -2,7 +2,7 @@
 -- Day 0 is 1.1.1.
 use mathlib.Core.Bool.{Bool, true, false, _&&_}
 use mathlib.Core.List.{List, [], _∷_}
-use Prim.Native.Nat.{ℕ, suc, _+_, _-_, _*_, _/_, _%_}
+use Prim.Native.Nat.{ℕ, suc, _+_, _-_, _*_, _/_, _%_, _≤_}
 use lib.Dec.{leb, ltb}
 use lib.ListN.{length, getD, take}
 use Rattle.date.specs.declared.calendar.Date.{Date}
@@ -58,6 +58,13 @@ within n most = leb 1 n && leb n most
 -- year, month and day, each from 1 to what there is; an hour of 0 is none
 unfoldable pub in-range : Date → Bool
 in-range t = within (t .year) most-year && within (t .month) months && within (t .day) (days-in (t .month)) && leb (t .hour) most-hour
+
+-- so this holds of a date in range
+pub record Ranged (t : Date) : Type 0 where
+  pub year : (1 ≤ t .year) × (t .year ≤ most-year)
+  pub month : (1 ≤ t .month) × (t .month ≤ months)
+  pub day : (1 ≤ t .day) × (t .day ≤ days-in (t .month))
+  pub hour : t .hour ≤ most-hour
 
 -- a date that the calendar has
 unfoldable pub ranged : Date → DateRead

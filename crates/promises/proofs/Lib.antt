@@ -1,6 +1,7 @@
 pub mod Alike
 pub mod AlikeTurns
 pub mod Cases
+pub mod Dates
 pub mod Demand1
 pub mod Demand3
 pub mod Each

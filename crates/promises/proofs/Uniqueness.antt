@@ -23,6 +23,7 @@ use Rattle.operator.proofs.operator_at.Reads as operator-at
 use Rattle.operator.proofs.operator_numbered.Reads as operator-numbered
 use Rattle.scalar.proofs.to_bool.Reads as to-bool
 use Rattle.scalar.proofs.to_u64.Reads as to-u64
+use Rattle.scalar.proofs.digits_at.Reads as digits-at
 use Rattle.scalar.proofs.to_i64.Reads as to-i64
 use Rattle.scalar.proofs.to_i64_t.Reads as to-i64-t
 use Rattle.scalar.proofs.to_i64_rest.Reads as to-i64-rest
@@ -127,6 +128,15 @@ use Rattle.file.proofs.read.Reads as file-read
 use Rattle.alike.proofs.comes_back.Reads as comes-back
 use Rattle.writer.proofs.Refusal.number.Reads as write-refusal-number
 use Rattle.writer.proofs.write.Reads as write
+use Rattle.date.specs.declared.calendar.Date.{Date}
+use Rattle.date.proofs.in_range.Reads as in-range
+use Rattle.date.proofs.to_date.Reads as to-date
+use Rattle.date.proofs.to_days.Reads as to-days
+use Rattle.date.proofs.from_days.Reads as from-days
+use Rattle.date.proofs.date_refusal.Reads as date-refusal
+use Rattle.date.proofs.date_value.Reads as date-value
+use Rattle.date.proofs.days_refusal.Reads as days-refusal
+use Rattle.date.proofs.days_value.Reads as days-value
 use Rattle.report.proofs.numbers.put_decimal.Reads as put-decimal
 use Rattle.report.proofs.numbers.put_hex.Reads as put-hex
 use Rattle.report.proofs.numbers.put_integer.Reads as put-integer
@@ -145,6 +155,8 @@ use Rattle.report.proofs.readings.put_i64.Reads as put-i64
 use Rattle.report.proofs.readings.put_f64.Reads as put-f64
 use Rattle.report.proofs.readings.put_readings.Reads as put-readings
 use Rattle.report.proofs.readings.put_leading.Reads as put-leading
+use Rattle.report.proofs.dates.put_date.Reads as put-date
+use Rattle.report.proofs.dates.put_date_of.Reads as put-date-of
 use Rattle.report.proofs.sheets.put_check.Reads as put-check
 use Rattle.report.proofs.sheets.put_hex_bytes.Reads as put-hex-bytes
 use Rattle.report.proofs.sheets.put_view.Reads as put-view
@@ -152,6 +164,7 @@ use Rattle.report.proofs.sheets.put_written.Reads as put-written
 use Rattle.file_lines.proofs.put_filed.Reads as put-filed
 use Rattle.file_lines.proofs.put_found.Reads as put-found
 use Rattle.file_lines.proofs.found_lines.Reads as found-lines
+use Rattle.capi.specs.Told.{read-told}
 use Rattle.capi.proofs.tackacorn_parse.Reads as tackacorn-parse
 use Rattle.capi.proofs.tackacorn_check.Reads as tackacorn-check
 use Rattle.capi.proofs.tackacorn_view.Reads as tackacorn-view
@@ -165,6 +178,9 @@ use Rattle.capi.proofs.tackacorn_to_i64.Reads as tackacorn-to-i64
 use Rattle.capi.proofs.tackacorn_to_i64_part.Reads as tackacorn-to-i64-part
 use Rattle.capi.proofs.tackacorn_to_f64.Reads as tackacorn-to-f64
 use Rattle.capi.proofs.tackacorn_kind.Reads as tackacorn-kind
+use Rattle.capi.proofs.tackacorn_to_date.Reads as tackacorn-to-date
+use Rattle.capi.proofs.tackacorn_to_days.Reads as tackacorn-to-days
+use Rattle.capi.proofs.tackacorn_from_days.Reads as tackacorn-from-days
 
 -- a contract that says `r ≡ definition` allows one result
 by-definition : {K : Type 0} {A R : K → Type 0} (X : K → Type 0) (definition : (κs : K) → A κs → R κs)
@@ -182,6 +198,10 @@ one-verdict P false false p q = cc
 by-bytes : {K : Type 0} {A X : K → Type 0} (out : (κs : K) → X κs → List ℕ) (definition : (κs : K) → A κs → Wrote)
     → One-line {R = λ κs. ℕ} (λ κs args r xs. wrote r (out κs xs) ≡ definition κs args) out
 by-bytes out definition = (λ κs args r s xs ys p q. cc, λ κs args r s xs ys p q. cc)
+
+-- of a reading that is told, the value
+one-value : {Value : Type 0} {n m : ℕ} {v w : Value} → read-told n v ≡ read-told m w → v ≡ w
+one-value e = cc
 
 -- one that says the bytes of a part and where it lies allows one part
 one-part : {Bytes Place : Type 0} {r s bytes : Bytes} {x y place : Place} → (r ≡ bytes) × (x ≡ place) → (s ≡ bytes) × (y ≡ place)
@@ -255,6 +275,7 @@ pub record Scalar : Type 0 where
   pub to-i64-rest : One-part to-i64-rest.Post (λ κs r. r .now) (λ κs r. r .ptr)
   pub to-f64 : One-result to-f64.Post
   pub kind : One-result kind.Post
+  pub digits-at : One-result digits-at.Post
   pub magnitude : One-result magnitude.Post
   pub pattern : One-result pattern.Post
   pub bool-refusal : One-result bool-refusal.Post
@@ -277,6 +298,7 @@ scalar-calls =
       to-i64-rest = λ κs args r s xs ys p q. one-part p q;
       to-f64 = by-definition _ _;
       kind = by-definition _ _;
+      digits-at = by-definition _ _;
       magnitude = by-definition _ _;
       pattern = by-definition _ _;
       bool-refusal = by-definition _ _;
@@ -288,6 +310,29 @@ scalar-calls =
       f64-refusal = by-definition _ _;
       f64-value = by-definition _ _;
       kind-number = by-definition _ _;
+    }
+
+pub record Dates : Type 0 where
+  pub in-range : One-result in-range.Post
+  pub to-date : One-result to-date.Post
+  pub to-days : One-result to-days.Post
+  pub from-days : One-result from-days.Post
+  pub date-refusal : One-result date-refusal.Post
+  pub date-value : One-result date-value.Post
+  pub days-refusal : One-result days-refusal.Post
+  pub days-value : One-result days-value.Post
+
+pub date-calls : Dates
+date-calls =
+    record {
+      in-range = by-definition _ _;
+      to-date = by-definition _ _;
+      to-days = by-definition _ _;
+      from-days = by-definition _ _;
+      date-refusal = by-definition _ _;
+      date-value = by-definition _ _;
+      days-refusal = by-definition _ _;
+      days-value = by-definition _ _;
     }
 
 pub record Cut : Type 0 where
@@ -557,6 +602,8 @@ pub record Report : Type 0 where
   pub put-f64 : One-line put-f64.Post (λ κs xs. xs .0 .now)
   pub put-readings : One-line put-readings.Post (λ κs xs. xs .0 .now)
   pub put-leading : One-line put-leading.Post (λ κs xs. xs .0 .now)
+  pub put-date : One-line put-date.Post (λ κs xs. xs .0 .now)
+  pub put-date-of : One-line put-date-of.Post (λ κs xs. xs .0 .now)
   pub put-hex-bytes : One-line put-hex-bytes.Post (λ κs xs. xs .0 .now)
   pub put-view : One-line put-view.Post (λ κs xs. xs .0 .now)
   pub put-check : One-line put-check.Post (λ κs xs. xs .0 .now)
@@ -588,6 +635,8 @@ report-calls =
       put-f64 = by-bytes _ _;
       put-readings = by-bytes _ _;
       put-leading = by-bytes _ _;
+      put-date = by-bytes _ _;
+      put-date-of = by-bytes _ _;
       put-hex-bytes = by-bytes _ _;
       put-view = by-bytes _ _;
       put-check = (
@@ -672,6 +721,17 @@ pub record Capi : Type 0 where
   pub tackacorn-to-f64-result : One-result tackacorn-to-f64.Post
   pub tackacorn-to-f64-value : One-left tackacorn-to-f64.Post (λ κs xs. xs .1 .0 .now)
   pub tackacorn-kind : One-result tackacorn-kind.Post
+  pub tackacorn-to-date-result : One-result tackacorn-to-date.Post
+  pub tackacorn-to-date-year : One-left tackacorn-to-date.Post (λ κs xs. xs .1 .0 .now)
+  pub tackacorn-to-date-month : One-left tackacorn-to-date.Post (λ κs xs. xs .1 .1 .0 .now)
+  pub tackacorn-to-date-day : One-left tackacorn-to-date.Post (λ κs xs. xs .1 .1 .1 .0 .now)
+  pub tackacorn-to-date-hour : One-left tackacorn-to-date.Post (λ κs xs. xs .1 .1 .1 .1 .0 .now)
+  pub tackacorn-to-days-result : One-result tackacorn-to-days.Post
+  pub tackacorn-to-days-days : One-left tackacorn-to-days.Post (λ κs xs. xs .1 .1 .1 .0 .now)
+  pub tackacorn-from-days-result : One-result tackacorn-from-days.Post
+  pub tackacorn-from-days-year : One-left tackacorn-from-days.Post (λ κs xs. xs .1 .0 .now)
+  pub tackacorn-from-days-month : One-left tackacorn-from-days.Post (λ κs xs. xs .1 .1 .0 .now)
+  pub tackacorn-from-days-day : One-left tackacorn-from-days.Post (λ κs xs. xs .1 .1 .1 .0 .now)
 
 pub capi-calls : Capi
 capi-calls =
@@ -711,4 +771,15 @@ capi-calls =
       tackacorn-to-f64-result = λ κs args r s xs ys p q. cc;
       tackacorn-to-f64-value = λ κs args r s xs ys p q. cc;
       tackacorn-kind = by-definition _ _;
+      tackacorn-to-date-result = λ κs args r s xs ys p q. cc;
+      tackacorn-to-date-year = λ κs args r s xs ys p q. ap (λ (t : Date). t .year) (one-value (p ∙ sym q));
+      tackacorn-to-date-month = λ κs args r s xs ys p q. ap (λ (t : Date). t .month) (one-value (p ∙ sym q));
+      tackacorn-to-date-day = λ κs args r s xs ys p q. ap (λ (t : Date). t .day) (one-value (p ∙ sym q));
+      tackacorn-to-date-hour = λ κs args r s xs ys p q. ap (λ (t : Date). t .hour) (one-value (p ∙ sym q));
+      tackacorn-to-days-result = λ κs args r s xs ys p q. cc;
+      tackacorn-to-days-days = λ κs args r s xs ys p q. cc;
+      tackacorn-from-days-result = λ κs args r s xs ys p q. cc;
+      tackacorn-from-days-year = λ κs args r s xs ys p q. ap (λ (t : Date). t .year) (one-value (p ∙ sym q));
+      tackacorn-from-days-month = λ κs args r s xs ys p q. ap (λ (t : Date). t .month) (one-value (p ∙ sym q));
+      tackacorn-from-days-day = λ κs args r s xs ys p q. ap (λ (t : Date). t .day) (one-value (p ∙ sym q));
     }

@@ -1,4 +1,5 @@
 pub mod Cases
+pub mod Dates
 pub mod Demand1
 pub mod Demand3
 pub mod Each

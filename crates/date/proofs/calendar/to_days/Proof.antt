@@ -6,10 +6,10 @@ use Prim.Native.Nat.{ℕ, _+_, _-_, _*_}
 use native.Mathlib.Omega.{arith}
 use borrow.Author.Needs.{needs}
 use borrow.Author.Tests.{not-true, not-false}
-use Rattle.date.specs.Calendar.{year-days, in-range, day-of, days-of}
+use Rattle.date.specs.Calendar.{year-days, in-range, Ranged, day-of, days-of}
 use Rattle.date.specs.declared.calendar.DaysRead.the-variants.{Is}
 use Rattle.date.proofs.Months.{before-year}
-use Rattle.date.proofs.Ranges.{Ranged, ranged-is}
+use Rattle.date.proofs.Ranges.{ranged-is}
 use Rattle.date.proofs.calendar.to_days.Statement.{statement}
 use Rattle.date.proofs.calendar.to_days.Tie as tie
 

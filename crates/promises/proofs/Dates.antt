@@ -1,0 +1,303 @@
+-- Dates: their days, by the day of the year, and what is read of a scalar, by its parts.
+-- Assumes nothing.
+use mathlib.Core.Path.{_≡_, refl, sym, _∙_, ap, subst}
+use mathlib.Core.Bool.{Bool, true, false, not, _&&_, false≢true}
+use mathlib.Core.List.{List, [], _∷_, _++_, map}
+use mathlib.Core.Logic.{_⊎_, inl, inr, _↔_}
+use Prim.Native.Nat.{ℕ, _+_, _-_, _*_, _≤_, _<_}
+use native.Mathlib.Omega.{arith}
+use borrow.Author.Tests.{ltb-true, ltb-false, eqb-true, eqb-false}
+use lib.Dec.{eqb, ltb}
+use lib.ListN.{length}
+use Rattle.data.proofs.Cases.{by-bool}
+use Rattle.data.specs.Bytes.{point, digit-zero}
+use Rattle.data.specs.Reasons.{first-of}
+use Rattle.scalar.specs.Digits.{is-digit, digits-alone, digit-run, value}
+use Rattle.scalar.specs.Numbers.{answered}
+use Rattle.scalar.proofs.Rests.{run-alone}
+use Rattle.date.specs.Calendar.{date, month-days, together, days-in, days-before, within, in-range, Ranged, day-of, days-of, last-day, date-of, date-at}
+use Rattle.date.specs.Reading.{in-front, parts, is-part, all-parts, right-number, shaped, numbers, told-by, hour-zero, out-of-range, dated, date-read}
+use Rattle.date.specs.Refusals.{date-refusal-of, date-value-of, days-refusal-of, days-value-of}
+use Rattle.date.specs.declared.calendar.Date.{Date}
+use Rattle.date.specs.declared.calendar.DateRead.the-variants as Dated
+use Rattle.date.specs.declared.calendar.DateRead.{DateRead}
+use Rattle.date.specs.declared.calendar.DaysRead.the-variants as Days
+use Rattle.date.specs.declared.calendar.DaysRead.{DaysRead}
+use Rattle.date.proofs.Days.{days-in-range, days-out, date-in-range, date-past, day-within, date-back, date-within, day-back}
+use Rattle.date.proofs.Months.{table-length, table-days, before-later, before-year}
+use Rattle.date.proofs.Ranges.{both, ranged-is, is-ranged, ranged-in}
+use Rattle.date.proofs.Readings.{reads-day, reads-hour, by-date}
+use Rattle.date.proofs.Shapes.{parts-some, parts-point, parts-other, digit-no-point}
+use Rattle.report.specs.Digits.{decimal}
+use Rattle.report.proofs.Decimal.{decimal-value, decimal-run, decimal-some}
+use Rattle.promises.specs.Cases.{bytes}
+use Rattle.promises.specs.Dates.{Table-holds, In-range, without-hour, Date-and-back, Day-and-back, Earlier, In-order, Exactly, Ends-hold, Else-refused}
+use Rattle.promises.specs.Dates.{date-reasons, Read, joined, Apart, Writes, Written-digits, Reads-itself, hour-part, written, Written-reads, edges, Edges-hold}
+use Rattle.promises.specs.LeadingNumber.{first-number}
+
+-- ---- the calendar
+
+pub table-holds : Table-holds
+table-holds = (table-length, table-days)
+
+pub in-range-is : In-range
+in-range-is t = (ranged-is t, is-ranged t)
+
+-- ---- days
+
+-- the day of a date in range
+day-told : (t : Date) → in-range t ≡ true → days-value-of (days-of t) ≡ day-of t
+day-told t e = ap days-value-of (days-in-range t e)
+
+pub date-and-back : (t : Date) → in-range t ≡ true → Date-and-back t
+date-and-back t e =
+    record {
+      counted = ap days-refusal-of (days-in-range t e);
+      back = ap date-at (day-told t e) ∙ date-in-range (day-of t) (day-within t e) ∙ ap Dated.Is (date-back t e);
+    }
+
+pub day-and-back : (n : ℕ) → n ≤ last-day → Day-and-back n
+day-and-back n h =
+    let is = date-in-range n h in
+    record {
+      dated = ap date-refusal-of is;
+      ranged = ap (λ (r : DateRead). in-range (date-value-of r)) is ∙ date-within n h;
+      back =
+          ap (λ (r : DateRead). days-of (date-value-of r)) is ∙ days-in-range (date-of n) (date-within n h)
+          ∙ ap Days.Is (day-back n h);
+    }
+
+pub ends-hold : Ends-hold
+unfolding days-of in-range within days-in month-days day-of days-before together
+ends-hold = (refl, refl)
+
+pub else-refused : Else-refused
+else-refused =
+    record {
+      date = λ t e. ap days-refusal-of (days-out t e);
+      day = λ n h. ap date-refusal-of (date-past n h);
+    }
+
+pub exactly : Exactly
+exactly n = (
+  λ found. let t = found .0 in let e = found .1 in
+      omega (arith, day-within t e, sym (day-told t e) ∙ ap days-value-of (found .2)),
+  λ h. (date-of n, date-within n h, days-in-range (date-of n) (date-within n h) ∙ ap Days.Is (day-back n h)),
+)
+
+-- ---- their order
+
+module _ (a b : Date) (x : in-range a ≡ true) (y : in-range b ≡ true) where
+  p : Ranged a
+  p = ranged-is a x
+
+  q : Ranged b
+  q = ranged-is b y
+
+  year-earlier : a .year < b .year → day-of a < day-of b
+  unfolding day-of
+  year-earlier h = omega (arith, h, p .day, before-year (a .month), p .year)
+
+  month-earlier : a .year ≡ b .year → a .month < b .month → day-of a < day-of b
+  unfolding day-of days-before days-in
+  month-earlier e h =
+      omega (arith, e, p .day, q .day, before-later month-days (a .month - 1) (b .month - 1) (omega (arith, h, p .month)))
+
+  day-earlier : a .year ≡ b .year → a .month ≡ b .month → a .day < b .day → day-of a < day-of b
+  unfolding day-of
+  day-earlier e f h = omega (arith, e, ap days-before f, h, p .day)
+
+  same-day : a .year ≡ b .year → a .month ≡ b .month → a .day ≡ b .day → day-of a ≡ day-of b
+  unfolding day-of
+  same-day e f g = omega (arith, e, ap days-before f, g)
+
+  earlier : Earlier a b → day-of a < day-of b
+  earlier (inl h) = year-earlier h
+  earlier (inr (e, inl h)) = month-earlier e h
+  earlier (inr (e, inr (f, h))) = day-earlier e f h
+
+-- of two numbers one is less, or they are the same
+compared {ℓ} : {P : Type ℓ} (m n : ℕ) → (m < n → P) → (n < m → P) → (m ≡ n → P) → P
+compared m n less more same =
+    by-bool (ltb m n)
+    (λ t. less (ltb-true m n t))
+    (λ f. by-bool (ltb n m) (λ t. more (ltb-true n m t)) (λ g. same (omega (arith, ltb-false m n f, ltb-false n m g))))
+
+-- of two days the smaller is the earlier date's
+later : (a b : Date) → in-range a ≡ true → in-range b ≡ true → day-of a < day-of b → Earlier a b
+later a b x y h =
+    compared (a .year) (b .year) inl
+    (λ over. absurd (omega (arith, h, year-earlier b a y x over)))
+    (λ year. compared (a .month) (b .month)
+    (λ less. inr (year, inl less))
+    (λ over. absurd (omega (arith, h, month-earlier b a y x (sym year) over)))
+    (λ month. compared (a .day) (b .day)
+    (λ less. inr (year, inr (month, less)))
+    (λ over. absurd (omega (arith, h, day-earlier b a y x (sym year) (sym month) over)))
+    (λ day. absurd (omega (arith, h, same-day a b x y year month day)))))
+
+pub in-order : In-order
+in-order a b x y = (
+  λ e. omega (arith, day-told a x, day-told b y, earlier a b x y e),
+  λ h. later a b x y (omega (arith, h, day-told a x, day-told b y)),
+)
+
+-- ---- why bytes are refused
+
+by-reasons : (shape out : Bool) (t : Date) → date-refusal-of (dated shape out t) ≡ first-number (date-reasons (not shape) out)
+unfolding dated first-of
+by-reasons true true t = refl
+by-reasons true false t = refl
+by-reasons false out t = refl
+
+none-there : (shape out : Bool) (t : Date) → date-refusal-of (dated shape out t) ≡ answered → date-value-of (dated shape out t) ≡ t
+unfolding dated first-of
+none-there true true t e = absurd (omega (arith, e))
+none-there true false t e = refl
+none-there false out t e = absurd (omega (arith, e))
+
+read-ranged : (d : List ℕ) → date-refusal-of (date-read d) ≡ answered → in-range (date-value-of (date-read d)) ≡ true
+read-ranged d =
+    by-date (λ r. date-refusal-of r ≡ answered → in-range (date-value-of r) ≡ true) d
+    (λ t e none. e)
+    (λ none. absurd (omega (arith, none)))
+    (λ none. absurd (omega (arith, none)))
+
+pub read : (d : List ℕ) → Read d
+unfolding date-read
+read d =
+    record {
+      refusal = by-reasons (shaped d) (out-of-range (numbers d)) (told-by (numbers d));
+      told = none-there (shaped d) (out-of-range (numbers d)) (told-by (numbers d));
+      ranged = read-ranged d;
+      counted = λ e. ap days-refusal-of (days-in-range (date-value-of (date-read d)) (read-ranged d e));
+    }
+
+-- ---- the parts of a scalar are it again
+
+joined-point : (ps : List (List ℕ)) → 0 < length ps → joined ([] ∷ ps) ≡ point ∷ joined ps
+unfolding joined
+joined-point [] h = absurd (omega arith)
+joined-point (p ∷ ps) h = refl
+
+joined-other : (b : ℕ) (ps : List (List ℕ)) → 0 < length ps → joined (in-front b ps) ≡ b ∷ joined ps
+unfolding joined
+joined-other b [] h = absurd (omega arith)
+joined-other b (p ∷ []) h = refl
+joined-other b (p ∷ q ∷ ps) h = refl
+
+pub apart : Apart
+unfolding parts joined
+apart [] = refl
+apart (b ∷ d) =
+    by-bool (eqb b point)
+    (λ t. ap joined (parts-point b d t) ∙ joined-point (parts d) (parts-some d) ∙ (λ j. sym (eqb-true b point t) j ∷ apart d j))
+    (λ f. ap joined (parts-other b d f) ∙ joined-other b (parts d) (parts-some d) ∙ ap (λ (s : List ℕ). b ∷ s) (apart d))
+
+-- ---- and parts that are joined are the scalar's
+
+-- whoever is a part is digits alone, and the other way round where there is a digit
+part-alone : (p : List ℕ) → is-part p ≡ true → digits-alone p ≡ true
+unfolding is-part digits-alone
+part-alone [] e = refl
+part-alone (b ∷ p) e = e
+
+alone-part : (p : List ℕ) → 0 < length p → digits-alone p ≡ true → is-part p ≡ true
+unfolding is-part digits-alone
+alone-part [] h e = absurd (omega arith)
+alone-part (b ∷ p) h e = e
+
+-- digits before a point, and digits before the end
+pointed-parts : (p s : List ℕ) → digits-alone p ≡ true → parts (p ++ point ∷ s) ≡ p ∷ parts s
+unfolding digits-alone
+pointed-parts [] s e = parts-point point s refl
+pointed-parts (b ∷ p) s e =
+    let tests = both (is-digit b) (digits-alone p) e in
+    parts-other b (p ++ point ∷ s) (digit-no-point b (tests .0)) ∙ ap (in-front b) (pointed-parts p s (tests .1))
+
+last-parts : (p : List ℕ) → digits-alone p ≡ true → parts p ≡ p ∷ []
+unfolding digits-alone parts
+last-parts [] e = refl
+last-parts (b ∷ p) e =
+    let tests = both (is-digit b) (digits-alone p) e in
+    parts-other b p (digit-no-point b (tests .0)) ∙ ap (in-front b) (last-parts p (tests .1))
+
+joined-parts : (p : List ℕ) (ps : List (List ℕ)) → all-parts (p ∷ ps) ≡ true → parts (joined (p ∷ ps)) ≡ p ∷ ps
+unfolding all-parts joined
+joined-parts p [] e = last-parts p (part-alone p (both (is-part p) true e .0))
+joined-parts p (q ∷ ps) e =
+    let tests = both (is-part p) (all-parts (q ∷ ps)) e in
+    pointed-parts p (joined (q ∷ ps)) (part-alone p (tests .0)) ∙ ap (λ (qs : List (List ℕ)). p ∷ qs) (joined-parts q ps (tests .1))
+
+joined-shaped : (p : List ℕ) (ps : List (List ℕ)) → all-parts (p ∷ ps) ≡ true → right-number (length (p ∷ ps)) ≡ true → shaped (joined (p ∷ ps)) ≡ true
+unfolding shaped
+joined-shaped p ps e f =
+    ap (λ (qs : List (List ℕ)). right-number (length qs) && all-parts qs) (joined-parts p ps e) ∙ (λ j. f j && e j)
+
+-- ---- written out
+
+pub written-digits : Written-digits
+unfolding value is-part digits-alone is-digit
+written-digits =
+    record {
+      decimals = λ n. record {
+        digits = alone-part (decimal n) (decimal-some n) (ap digits-alone (sym (decimal-run n)) ∙ run-alone (decimal n));
+        number = decimal-value n;
+      };
+      zeros = λ p n w. record { digits = part-alone p (w .digits); number = w .number };
+    }
+
+module _ (t : Date) (e : in-range t ≡ true) where
+  r : Ranged t
+  r = ranged-is t e
+
+  without-ranged : in-range (without-hour t) ≡ true
+  without-ranged = is-ranged (without-hour t) (record { year = r .year; month = r .month; day = r .day; hour = omega arith })
+
+  pub reads-itself : Reads-itself t
+  unfolding all-parts right-number numbers
+  reads-itself =
+      record {
+        day = λ y m d wy wm wd.
+            let each : all-parts (y ∷ m ∷ d ∷ []) ≡ true = λ j. wy .digits j && (wm .digits j && (wd .digits j && true)) in
+            reads-day _ (joined-shaped y (m ∷ d ∷ []) each refl) (t .year) (t .month) (t .day)
+            (ap (map (value 0)) (joined-parts y (m ∷ d ∷ []) each) ∙ (λ j. wy .number j ∷ wm .number j ∷ wd .number j ∷ []))
+            ∙ ranged-in (without-hour t) without-ranged;
+        hour = λ y m d h wy wm wd wh some.
+            let each : all-parts (y ∷ m ∷ d ∷ h ∷ []) ≡ true =
+            λ j. wy .digits j && (wm .digits j && (wd .digits j && (wh .digits j && true))) in
+            reads-hour _ (joined-shaped y (m ∷ d ∷ h ∷ []) each refl) (t .year) (t .month) (t .day) (t .hour)
+            (ap (map (value 0)) (joined-parts y (m ∷ d ∷ h ∷ []) each) ∙ (λ j. wy .number j ∷ wm .number j ∷ wd .number j ∷ wh .number j ∷ []))
+            some
+            ∙ ranged-in t e;
+      }
+
+-- a date with these parts for its hour
+ended : Date → List (List ℕ) → List ℕ
+ended t hours = joined (decimal (t .year) ∷ decimal (t .month) ∷ decimal (t .day) ∷ hours)
+
+pub written-reads : Written-reads
+unfolding written ended
+written-reads t e =
+    let itself = reads-itself t e in
+    let digits = written-digits .decimals in
+    by-bool (eqb (t .hour) 0)
+    (λ none. ap (λ (ps : List (List ℕ)). date-read (ended t ps)) (no-hour-part (t .hour) none)
+    ∙ itself .day _ _ _ (digits (t .year)) (digits (t .month)) (digits (t .day))
+    ∙ ap (λ (h : ℕ). Dated.Is (date (t .year) (t .month) (t .day) h)) (sym (eqb-true (t .hour) 0 none)))
+    (λ some. ap (λ (ps : List (List ℕ)). date-read (ended t ps)) (some-hour-part (t .hour) some)
+    ∙ itself .hour _ _ _ _ (digits (t .year)) (digits (t .month)) (digits (t .day)) (digits (t .hour))
+    (omega (arith, eqb-false (t .hour) 0 some)))
+  where
+    no-hour-part : (h : ℕ) → eqb h 0 ≡ true → hour-part h ≡ []
+    no-hour-part h f = rw (hour-part, f)
+
+    some-hour-part : (h : ℕ) → eqb h 0 ≡ false → hour-part h ≡ decimal h ∷ []
+    some-hour-part h f = rw (hour-part, f)
+
+-- ---- both sides of each edge
+
+pub edges-hold : Edges-hold
+unfolding bytes edges is-digit digits-alone value parts is-part all-parts right-number shaped numbers hour-zero out-of-range dated date-read
+    first-of days-of in-range within days-in month-days day-of days-before together
+edges-hold = refl
