@@ -1,9 +1,9 @@
 //! Document 01's own cases, 'Both sides of each edge', and both sides of its other sentences, and with
-//! them those of the requests W2, W5, W1 and W7: every run and the sample begin with them.
+//! them those of the requests W2, W5, W1, W7 and W8: every run and the sample begin with them.
 
 use crate::numbers::*;
 use crate::record::Record;
-use crate::{file_edges, kind, leading_edges, write_edges};
+use crate::{date_edges, file_edges, kind, leading_edges, write_edges};
 
 const TEXTS: [&[u8]; 37] = [
     b"a={b c=d}\n",
@@ -234,5 +234,6 @@ pub fn records() -> Vec<Record> {
     records.extend(write_edges::cases().into_iter().map(|(record, _)| record));
     records.extend(file_edges::cases().into_iter().map(|(record, _)| record));
     records.extend(leading_edges::cases().into_iter().map(|(scalar, _)| Record::leading(scalar)));
+    records.extend(date_edges::cases().into_iter().map(|(record, _)| record));
     records
 }

@@ -1,6 +1,7 @@
 //! Cases by seed: document 01's own at the head of a run, then the short ones in order and among
 //! them a mix.
 
+use crate::dates::Dates;
 use crate::files::Files;
 use crate::numbers::{LONGEST, MOST_ROOM, MOST_SCRATCH, MOST_TOKENS, UNQUOTED, WORDS, token};
 use crate::record::Record;
@@ -18,6 +19,7 @@ pub struct Generator {
     sheets: usize,
     writes: Writes,
     leading: leading::Scalars,
+    dates: Dates,
     pub files: Files,
     pub left_out: LeftOut,
 }
@@ -40,10 +42,13 @@ pub fn short_is_due(made: &mut usize) -> bool {
     made.is_multiple_of(every)
 }
 
-/// How many of a hundred cases are scalars whose leading number is asked.
+/// How many of a hundred cases are dates and day counts.
+const DATES: usize = 8;
+
+/// How many of a hundred other cases are scalars whose leading number is asked.
 const LEADING: usize = 10;
 
-/// How many of a hundred other cases are sheets to put on file and files to read.
+/// How many of a hundred cases that are neither are sheets to put on file and files to read.
 const FILES: usize = 31;
 
 /// How many of a hundred cases that are none of these are sheets to write out.
@@ -107,13 +112,20 @@ impl Writes {
 
 impl Generator {
     pub fn new(seed: u64) -> Self {
-        let (rng, edges) = (Rng::new(seed), edges::records().into_iter());
-        let writes = Writes { rng: Rng::new(seed ^ u64::from(b'W')), made: 0, short: 0 };
-        let leading = leading::Scalars::new(Rng::new(seed ^ u64::from(b'N')));
-        let files = Files::new(Rng::new(seed ^ u64::from(b'F')));
-        let left_out = LeftOut::default();
-        let (made, texts, scalars, sheets) = (0, 0, 0, 0);
-        Generator { rng, edges, made, texts, scalars, sheets, writes, leading, files, left_out }
+        let chance = |kind: u8| Rng::new(seed ^ u64::from(kind));
+        Generator {
+            rng: Rng::new(seed),
+            edges: edges::records().into_iter(),
+            made: 0,
+            texts: 0,
+            scalars: 0,
+            sheets: 0,
+            writes: Writes { rng: chance(b'W'), made: 0, short: 0 },
+            leading: leading::Scalars::new(chance(b'N')),
+            dates: Dates::new(chance(b'D')),
+            files: Files::new(chance(b'F')),
+            left_out: LeftOut::default(),
+        }
     }
 
     fn take(number: &mut usize) -> usize {
@@ -177,6 +189,9 @@ impl Iterator for Generator {
         if let Some(edge) = self.edges.next() {
             return Some(edge);
         }
+        if self.dates.are_due(DATES) {
+            return Some(self.dates.record());
+        }
         if self.leading.are_due(LEADING) {
             return Some(self.leading.record());
         }
@@ -203,11 +218,14 @@ impl Iterator for Generator {
 /// Lengths of a body that is a sheet to the end and does not come out even, or has no whole head.
 const UNEVEN: [usize; 8] = [0, 1, 7, 9, 10, 11, 13, 21];
 
+/// Lengths of a body that is to be a day count and has too few bytes, or more.
+const NO_COUNT: [usize; 9] = [0, 1, 2, 3, 5, 6, 7, 8, LONGEST];
+
 /// Bytes that end in a bad record, of every way to be bad: the answer is `bad record`, whatever
 /// comes behind.
 pub fn bad(rng: &mut Rng) -> Vec<u8> {
     let good = Record::text(texts::any(rng), 100);
-    let mut bytes = match rng.below(10) {
+    let mut bytes = match rng.below(11) {
         // cut short: these end the input
         0 => {
             let mut bytes = good.bytes();
@@ -219,29 +237,31 @@ pub fn bad(rng: &mut Rng) -> Vec<u8> {
             bytes.truncate(rng.between(5, 7));
             return bytes;
         }
-        2 => Record { kind: *rng.pick(b"AUDYOntsvfr\0\n"), ..good.clone() }.bytes(),
+        2 => Record { kind: *rng.pick(b"AUOdyntsvfr\0\n"), ..good.clone() }.bytes(),
         3 => Record { body: vec![b' '; rng.between(LONGEST + 1, 65_535)], ..good.clone() }.bytes(),
-        4 => {
-            let length = *rng.pick(&UNEVEN);
-            Record { kind: b'C', capacity: 0, body: vec![0; length] }.bytes()
-        }
-        5 => Record { kind: b'V', capacity: 0, body: vec![0; rng.below(10)] }.bytes(),
-        6 => Record { kind: b'W', capacity: 0, body: vec![0; rng.below(8)] }.bytes(),
-        7 => {
-            let mut record = Record::write(9, 9, 1, &token(UNQUOTED, 0, 1), b"");
-            record.body.pop();
-            record.bytes()
-        }
-        8 => {
-            let length = *rng.pick(&UNEVEN);
-            Record { kind: b'F', capacity: 100, body: vec![0; length] }.bytes()
-        }
-        _ => {
-            let mut record = Record::view(0, 1, &token(UNQUOTED, 0, 1), b"");
-            record.body.pop();
-            record.bytes()
-        }
+        _ => bad_body(rng).bytes(),
     };
     bytes.extend(good.bytes());
     bytes
+}
+
+/// A record whose body ends inside a field that its kind has, or has bytes over.
+fn bad_body(rng: &mut Rng) -> Record {
+    let zeros = |kind, length| Record { kind, capacity: 100, body: vec![0; length] };
+    match rng.below(7) {
+        0 => zeros(b'C', *rng.pick(&UNEVEN)),
+        1 => zeros(b'V', rng.below(10)),
+        2 => zeros(b'W', rng.below(8)),
+        3 => zeros(b'F', *rng.pick(&UNEVEN)),
+        4 => zeros(b'Y', *rng.pick(&NO_COUNT)),
+        way => {
+            let words = token(UNQUOTED, 0, 1);
+            let mut record = match way {
+                5 => Record::write(9, 9, 1, &words, b""),
+                _ => Record::view(0, 1, &words, b""),
+            };
+            record.body.pop();
+            record
+        }
+    }
 }

@@ -1,5 +1,10 @@
 //! The real Rust beside our programs, to the byte: see README.md.
 
+pub mod date;
+pub mod date_edges;
+pub mod date_faults;
+pub mod date_tally;
+pub mod dates;
 pub mod domain;
 pub mod edges;
 pub mod edits;
@@ -12,6 +17,7 @@ pub mod leading;
 pub mod leading_edges;
 pub mod leading_faults;
 pub mod model;
+pub mod model_date;
 pub mod model_file;
 pub mod model_writer;
 pub mod numbers;

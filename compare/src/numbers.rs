@@ -44,6 +44,14 @@ const _: () = assert!(WORDS * ((LONGEST - FILE_HEAD) / FILE_TOKEN) < MOST_SCRATC
 /// How many containers a text that is written may have one in another.
 pub const MOST_LEVELS: usize = 64;
 
+/// A calendar's last year and the days of each; the last hour of a day; and the count of the last day of the
+/// last year, where 1.1.1 has 0. How long a month is, each reading of the request says by itself.
+pub const LAST_YEAR: u32 = 9_999;
+pub const YEAR_DAYS: u32 = 365;
+pub const LAST_HOUR: u32 = 24;
+pub const LAST_COUNT: u32 = 3_649_634;
+const _: () = assert!(LAST_COUNT + 1 == LAST_YEAR * YEAR_DAYS);
+
 /// Words that are room for every text of so many bytes: 2n + 1 tokens.
 pub fn room_for(bytes: usize) -> usize {
     WORDS * (2 * bytes + 1)
@@ -171,6 +179,10 @@ pub const TEXT_TOO_LONG: u8 = 43;
 pub const NO_ROOM: u8 = 44;
 pub const READS_DIFFERENTLY: u8 = 45;
 pub const OTHER_FORM: u8 = 46;
+
+/// Those of request W8: the shape of the whole scalar is looked at before any range.
+pub const NO_DATE: u8 = 51;
+pub const OUT_OF_RANGE: u8 = 52;
 
 // ---- Reading kinds ----
 

@@ -2,7 +2,7 @@
 
 use crate::numbers::*;
 use crate::record::{self, Leading, Question, bits, reading};
-use crate::{file, kind, sheet, writer};
+use crate::{date, file, kind, sheet, writer};
 use jomini::text::Operator;
 use jomini::{ErrorKind, Scalar, ScalarError, TextTape, TextToken};
 
@@ -140,6 +140,8 @@ pub fn answer(question: Question<'_>, out: &mut String) {
         }
         Question::Scalar { bytes } => out.push_str(&readings(bytes)),
         Question::Leading { bytes } => record::write_leading(out, leading(bytes)),
+        Question::Date { scalar } => record::write_date(out, date::read(scalar)),
+        Question::Day { count } => record::write_day(out, date::of(count)),
         Question::Check { length, count, words } => {
             record::write_sound(out, sheet::sound(length, &words, count));
         }

@@ -26,6 +26,16 @@ impl Record {
         Record { kind: b'N', capacity: 0, body: bytes }
     }
 
+    /// A scalar that is read as a date.
+    pub fn date(scalar: Vec<u8>) -> Self {
+        Record { kind: b'D', capacity: 0, body: scalar }
+    }
+
+    /// A day count whose date is asked.
+    pub fn day(count: u32) -> Self {
+        Record { kind: b'Y', capacity: 0, body: count.to_be_bytes().to_vec() }
+    }
+
     pub fn check(length: u32, count: u32, words: &[u32]) -> Self {
         let body = [length, count].iter().chain(words).flat_map(|w| w.to_be_bytes()).collect();
         Record { kind: b'C', capacity: 0, body }
@@ -73,6 +83,8 @@ pub enum Question<'r> {
     Text { text: &'r [u8], capacity: usize },
     Scalar { bytes: &'r [u8] },
     Leading { bytes: &'r [u8] },
+    Date { scalar: &'r [u8] },
+    Day { count: u32 },
     Check { length: u32, count: u32, words: Vec<u32> },
     View { index: u32, count: u32, words: Vec<u32>, text: &'r [u8] },
     Write(ToWrite<'r>),
@@ -121,6 +133,11 @@ impl Record {
             }
             b'S' => Some(Question::Scalar { bytes: body }),
             b'N' => Some(Question::Leading { bytes: body }),
+            b'D' => Some(Question::Date { scalar: body }),
+            b'Y' => {
+                let count = body.try_into().ok()?;
+                Some(Question::Day { count: u32::from_be_bytes(count) })
+            }
             b'C' => {
                 let (length, count, words) = sheet_to_end(body)?;
                 Some(Question::Check { length, count, words })
@@ -252,6 +269,31 @@ pub fn write_leading(out: &mut String, leading: Leading) {
     writeln!(out, "{}", reading(told)).unwrap();
 }
 
+/// A scalar's date: year, month, day, hour and day count, or the refusal's number. The hour is 0 where
+/// no fourth part stands.
+pub type Dated = Result<[u32; 5], u8>;
+
+/// One line for a date and its day count, or for the refusal's number.
+pub fn write_date(out: &mut String, dated: Dated) {
+    writeln!(out, "{}", reading(dated.map(spaced))).unwrap();
+}
+
+/// The year, month and day of a day count, or the refusal's number.
+pub type Day = Result<[u32; 3], u8>;
+
+/// One line for the date of a day count, or for its refusal.
+pub fn write_day(out: &mut String, day: Day) {
+    match day {
+        Err(number) => write_number(out, number),
+        Ok(date) => writeln!(out, "={}", spaced(date)).unwrap(),
+    }
+}
+
+/// Numbers with one space between them.
+fn spaced<const N: usize>(numbers: [u32; N]) -> String {
+    numbers.map(|number| number.to_string()).join(" ")
+}
+
 pub fn bits(float: f64) -> String {
     format!("{:016x}", float.to_bits())
 }
@@ -333,6 +375,8 @@ mod tests {
             Record::unpack(u16::MAX, vec![0; 13]),
             Record { capacity: 65_535, ..Record::scalar(Vec::new()) },
             Record { capacity: 65_535, ..Record::leading(Vec::new()) },
+            Record { capacity: 65_535, ..Record::date(Vec::new()) },
+            Record { capacity: 65_535, ..Record::day(u32::MAX) },
         ];
         let input: Vec<u8> = good.iter().flat_map(Record::bytes).collect();
         assert_eq!(served(&input), "answer\n".repeat(good.len()));
@@ -357,9 +401,17 @@ mod tests {
         let body = |kind, length| Record { kind, capacity: 0, body: vec![0; length] };
         for bad in [
             body(b'X', 0),
+            body(b'O', 0),
             body(b'n', 0),
+            body(b'd', 0),
+            body(b'y', 4),
             body(b'T', LONGEST + 1),
             body(b'N', LONGEST + 1),
+            body(b'D', LONGEST + 1),
+            body(b'Y', 0),
+            body(b'Y', 3),
+            body(b'Y', 5),
+            body(b'Y', 8),
             body(b'C', 7),
             body(b'C', 9),
             body(b'V', 9),

@@ -1,5 +1,6 @@
 //! The model's answers, for testing the comparison, and the faults that it can be given.
 
+use crate::date_faults::{self, Fault as DateFault};
 use crate::kind::{self, NoNumber};
 use crate::leading_faults::{self, Fault as LeadingFault};
 use crate::model::{self, F64Refusal, Refusal};
@@ -29,15 +30,7 @@ pub fn answering(fault: Option<Fault>) -> impl Fn(Question<'_>, &mut String) {
 
 /// The model's answer, or that of a wrong program.
 pub fn answer(question: Question<'_>, fault: Option<Fault>, out: &mut String) {
-    let (mut kind_fault, mut leading_fault, mut writer_fault, mut file_fault) =
-        (None, None, None, None);
-    match fault {
-        Some((_, Wrong::Kind(fault))) => kind_fault = Some(fault),
-        Some((_, Wrong::Leading(fault))) => leading_fault = Some(fault),
-        Some((_, Wrong::Writer(fault))) => writer_fault = Some(fault),
-        Some((_, Wrong::File(fault))) => file_fault = Some(fault),
-        Some((_, Wrong::Answer(_))) | None => {}
-    }
+    let wrong = Faults::of(fault);
     match question {
         Question::Text { text, capacity } => {
             let mut tape = vec![u32::MAX; WORDS * capacity + capacity % WORDS];
@@ -46,10 +39,14 @@ pub fn answer(question: Question<'_>, fault: Option<Fault>, out: &mut String) {
                 Ok((count, bom)) => record::write_tape(out, &tape[..WORDS * count], bom),
             }
         }
-        Question::Scalar { bytes } => out.push_str(&readings(bytes, kind_fault, leading_fault)),
+        Question::Scalar { bytes } => out.push_str(&readings(bytes, wrong.kind, wrong.leading)),
         Question::Leading { bytes } => {
-            record::write_leading(out, leading_faults::leading(bytes, leading_fault));
+            record::write_leading(out, leading_faults::leading(bytes, wrong.leading));
         }
+        Question::Date { scalar } => {
+            record::write_date(out, date_faults::read(scalar, wrong.date));
+        }
+        Question::Day { count } => record::write_day(out, date_faults::of(count, wrong.date)),
         Question::Check { length, count, words } => {
             record::write_sound(out, model::check(length, &words, count));
         }
@@ -57,11 +54,11 @@ pub fn answer(question: Question<'_>, fault: Option<Fault>, out: &mut String) {
             record::write_view(out, model::view(text, &words, count, index));
         }
         Question::Write(asked) => {
-            record::write_written(out, model_writer::write(&asked, writer_fault));
+            record::write_written(out, model_writer::write(&asked, wrong.writer));
         }
-        Question::Pack(asked) => record::write_packed(out, model_file::pack(&asked, file_fault)),
+        Question::Pack(asked) => record::write_packed(out, model_file::pack(&asked, wrong.file)),
         Question::Unpack(asked) => {
-            record::write_unpacked(out, model_file::unpack(&asked, file_fault));
+            record::write_unpacked(out, model_file::unpack(&asked, wrong.file));
         }
     }
     if let Some((_, Wrong::Answer(spoilt))) = fault {
@@ -73,14 +70,40 @@ pub fn answer(question: Question<'_>, fault: Option<Fault>, out: &mut String) {
 pub type WrongKind = fn(&[u8], u8) -> u8;
 
 /// What is wrong with a program: what it makes of a right answer or a right kind, how it takes a
-/// leading number, how it writes a sheet, or how it puts one on file and reads it.
+/// leading number or a date, how it writes a sheet, or how it puts one on file and reads it.
 #[derive(Clone, Copy)]
 pub enum Wrong {
     Answer(fn(&str) -> String),
     Kind(WrongKind),
     Leading(LeadingFault),
+    Date(DateFault),
     Writer(WriterFault),
     File(FileFault),
+}
+
+/// The fault of each part of a program: one has it at most.
+#[derive(Default)]
+struct Faults {
+    kind: Option<WrongKind>,
+    leading: Option<LeadingFault>,
+    date: Option<DateFault>,
+    writer: Option<WriterFault>,
+    file: Option<FileFault>,
+}
+
+impl Faults {
+    fn of(fault: Option<Fault>) -> Self {
+        let mut all = Faults::default();
+        match fault.map(|(_, wrong)| wrong) {
+            Some(Wrong::Kind(fault)) => all.kind = Some(fault),
+            Some(Wrong::Leading(fault)) => all.leading = Some(fault),
+            Some(Wrong::Date(fault)) => all.date = Some(fault),
+            Some(Wrong::Writer(fault)) => all.writer = Some(fault),
+            Some(Wrong::File(fault)) => all.file = Some(fault),
+            Some(Wrong::Answer(_)) | None => {}
+        }
+        all
+    }
 }
 
 /// A wrong program and its name.
@@ -91,7 +114,7 @@ pub fn fault(name: &str) -> Option<Fault> {
     FAULTS.into_iter().find(|fault| fault.0 == name)
 }
 
-pub const FAULTS: [Fault; 78] = [
+pub const FAULTS: [Fault; 170] = [
     ("exists_is_equal", Wrong::Answer(|right| right.replace(&operator(EXISTS), &operator(EQUAL)))),
     (
         "not_equal_is_exact",
@@ -114,6 +137,15 @@ pub const FAULTS: [Fault; 78] = [
     (
         "empty_view_refused",
         Wrong::Answer(|right| right.replace("view \n", &format!("refused {NO_SCALAR}\n"))),
+    ),
+    ("hour_0_not_told", Wrong::Answer(without_hour_0)),
+    (
+        "no_date_with_a_word",
+        Wrong::Answer(|right| instead(right, &format!("{NO_DATE}\n"), "refused 51\n")),
+    ),
+    (
+        "past_days_without_a_word",
+        Wrong::Answer(|right| instead(right, &format!("refused {OUT_OF_RANGE}\n"), "52\n")),
     ),
     ("kind_by_readings", Wrong::Kind(|bytes, _| kind::by_readings(bytes))),
     ("bare_f_a_decimal", Wrong::Kind(|bytes, right| given(right, DECIMAL, is_bare(bytes)))),
@@ -150,6 +182,95 @@ pub const FAULTS: [Fault; 78] = [
     ("taken_for_left", Wrong::Leading(LeadingFault::TakenForLeft)),
     ("i64_of_any_rest", Wrong::Leading(LeadingFault::I64OfAnyRest)),
     ("i64_rest_before_overflow", Wrong::Leading(LeadingFault::I64RestBeforeOverflow)),
+    ("date_plus_taken", Wrong::Date(DateFault::PlusTaken)),
+    ("date_minus_read", Wrong::Date(DateFault::MinusRead)),
+    ("empty_part_is_zero", Wrong::Date(DateFault::EmptyPartIsZero)),
+    ("empty_part_dropped", Wrong::Date(DateFault::EmptyPartDropped)),
+    ("point_in_front_taken", Wrong::Date(DateFault::PointInFrontTaken)),
+    ("closing_point_taken", Wrong::Date(DateFault::ClosingPointTaken)),
+    ("five_parts_taken", Wrong::Date(DateFault::FivePartsTaken)),
+    ("two_parts_taken", Wrong::Date(DateFault::TwoPartsTaken)),
+    ("hour_wanted", Wrong::Date(DateFault::HourWanted)),
+    ("hour_refused", Wrong::Date(DateFault::HourRefused)),
+    ("date_rest_taken", Wrong::Date(DateFault::RestTaken)),
+    ("date_blanks_taken", Wrong::Date(DateFault::BlanksTaken)),
+    ("date_zeros_refused", Wrong::Date(DateFault::ZerosRefused)),
+    ("slash_is_a_digit", Wrong::Date(DateFault::SlashIsADigit)),
+    ("colon_is_a_digit", Wrong::Date(DateFault::ColonIsADigit)),
+    ("slash_is_a_point", Wrong::Date(DateFault::IsAPoint(b'/'))),
+    ("dash_is_a_point", Wrong::Date(DateFault::IsAPoint(b'-'))),
+    ("comma_is_a_point", Wrong::Date(DateFault::IsAPoint(b','))),
+    ("high_bit_dropped", Wrong::Date(DateFault::HighBitDropped)),
+    ("range_before_shape", Wrong::Date(DateFault::RangeBeforeShape)),
+    ("overflow_before_shape", Wrong::Date(DateFault::OverflowBeforeShape)),
+    ("overflow_is_no_date", Wrong::Date(DateFault::OverflowIsNoDate)),
+    ("range_is_no_date", Wrong::Date(DateFault::RangeIsNoDate)),
+    ("year_0_taken", Wrong::Date(DateFault::Takes(0, 0))),
+    ("year_10000_taken", Wrong::Date(DateFault::Takes(0, 10_000))),
+    ("year_1_refused", Wrong::Date(DateFault::Refuses(0, 1))),
+    ("year_9999_refused", Wrong::Date(DateFault::Refuses(0, 9_999))),
+    ("month_0_taken", Wrong::Date(DateFault::Takes(1, 0))),
+    ("month_13_taken", Wrong::Date(DateFault::Takes(1, 13))),
+    ("month_1_refused", Wrong::Date(DateFault::Refuses(1, 1))),
+    ("month_12_refused", Wrong::Date(DateFault::Refuses(1, 12))),
+    ("day_0_taken", Wrong::Date(DateFault::Takes(2, 0))),
+    ("day_1_refused", Wrong::Date(DateFault::Refuses(2, 1))),
+    ("hour_0_taken", Wrong::Date(DateFault::Takes(3, 0))),
+    ("hour_25_taken", Wrong::Date(DateFault::Takes(3, 25))),
+    ("hour_1_refused", Wrong::Date(DateFault::Refuses(3, 1))),
+    ("hour_24_refused", Wrong::Date(DateFault::Refuses(3, 24))),
+    ("january_longer", Wrong::Date(DateFault::Longer(1))),
+    ("january_shorter", Wrong::Date(DateFault::Shorter(1))),
+    ("february_longer", Wrong::Date(DateFault::Longer(2))),
+    ("february_shorter", Wrong::Date(DateFault::Shorter(2))),
+    ("march_longer", Wrong::Date(DateFault::Longer(3))),
+    ("march_shorter", Wrong::Date(DateFault::Shorter(3))),
+    ("april_longer", Wrong::Date(DateFault::Longer(4))),
+    ("april_shorter", Wrong::Date(DateFault::Shorter(4))),
+    ("may_longer", Wrong::Date(DateFault::Longer(5))),
+    ("may_shorter", Wrong::Date(DateFault::Shorter(5))),
+    ("june_longer", Wrong::Date(DateFault::Longer(6))),
+    ("june_shorter", Wrong::Date(DateFault::Shorter(6))),
+    ("july_longer", Wrong::Date(DateFault::Longer(7))),
+    ("july_shorter", Wrong::Date(DateFault::Shorter(7))),
+    ("august_longer", Wrong::Date(DateFault::Longer(8))),
+    ("august_shorter", Wrong::Date(DateFault::Shorter(8))),
+    ("september_longer", Wrong::Date(DateFault::Longer(9))),
+    ("september_shorter", Wrong::Date(DateFault::Shorter(9))),
+    ("october_longer", Wrong::Date(DateFault::Longer(10))),
+    ("october_shorter", Wrong::Date(DateFault::Shorter(10))),
+    ("november_longer", Wrong::Date(DateFault::Longer(11))),
+    ("november_shorter", Wrong::Date(DateFault::Shorter(11))),
+    ("december_longer", Wrong::Date(DateFault::Longer(12))),
+    ("december_shorter", Wrong::Date(DateFault::Shorter(12))),
+    ("leap_years_taken", Wrong::Date(DateFault::LeapYears)),
+    ("every_month_of_31", Wrong::Date(DateFault::EveryMonthOf31)),
+    ("date_digits_counted", Wrong::Date(DateFault::DigitsCounted)),
+    ("part_modulo_2_8", Wrong::Date(DateFault::Modulo(8))),
+    ("part_modulo_2_16", Wrong::Date(DateFault::Modulo(16))),
+    ("part_modulo_2_32", Wrong::Date(DateFault::Modulo(32))),
+    ("part_modulo_2_64", Wrong::Date(DateFault::Modulo(64))),
+    ("day_before_month", Wrong::Date(DateFault::DayBeforeMonth)),
+    ("hour_missing_is_one", Wrong::Date(DateFault::HourMissingIsOne)),
+    ("count_from_one", Wrong::Date(DateFault::CountFromOne)),
+    ("count_from_year_zero", Wrong::Date(DateFault::CountFromYearZero)),
+    ("hour_counted", Wrong::Date(DateFault::HourCounted)),
+    ("leap_days_counted", Wrong::Date(DateFault::LeapDaysCounted)),
+    ("february_of_29_counted", Wrong::Date(DateFault::FebruaryOf29)),
+    ("months_of_30_counted", Wrong::Date(DateFault::MonthsOf30)),
+    ("back_last_refused", Wrong::Date(DateFault::BackLastRefused)),
+    ("back_one_over_taken", Wrong::Date(DateFault::BackOneOverTaken)),
+    ("back_begins_anew", Wrong::Date(DateFault::BackBeginsAnew)),
+    ("back_signed", Wrong::Date(DateFault::BackSigned)),
+    ("back_of_three_bytes", Wrong::Date(DateFault::BackOfThreeBytes)),
+    ("back_little_endian", Wrong::Date(DateFault::BackLittleEndian)),
+    ("back_from_one", Wrong::Date(DateFault::BackFromOne)),
+    ("back_leap_days", Wrong::Date(DateFault::BackLeapDays)),
+    ("back_months_of_30", Wrong::Date(DateFault::BackMonthsOf30)),
+    ("back_first_is_last", Wrong::Date(DateFault::BackFirstIsLast)),
+    ("back_year_from_zero", Wrong::Date(DateFault::BackYearFromZero)),
+    ("back_day_from_zero", Wrong::Date(DateFault::BackDayFromZero)),
+    ("back_day_before_month", Wrong::Date(DateFault::BackDayBeforeMonth)),
     ("form_to_level_64", Wrong::Writer(WriterFault::FormTo64)),
     ("room_before_depth", Wrong::Writer(WriterFault::RoomBeforeDepth)),
     ("escape_without_quotes", Wrong::Writer(WriterFault::EscapeBare)),
@@ -189,6 +310,19 @@ pub const FAULTS: [Fault; 78] = [
     ("code_11_refused", Wrong::File(FileFault::EscapeRefused)),
     ("room_in_tokens", Wrong::File(FileFault::RoomInTokens)),
 ];
+
+/// Another answer than this one, where it is the right one.
+fn instead(right: &str, this: &str, other: &str) -> String {
+    if right == this { other } else { right }.to_string()
+}
+
+/// A date's answer without its hour where that is 0. Of answers of five words no other has such a fourth.
+fn without_hour_0(right: &str) -> String {
+    match right.split_whitespace().collect::<Vec<_>>()[..] {
+        [year, month, day, "0", count] => format!("{year} {month} {day} {count}\n"),
+        _ => right.to_string(),
+    }
+}
 
 /// Another kind than the right one, where a test holds.
 fn given(right: u8, other: u8, test: bool) -> u8 {

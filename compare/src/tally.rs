@@ -1,7 +1,8 @@
 //! What a run reached: cases by kind, refusals, token codes, operators, escapes, readings, numbers of
-//! document 01 that are names now, leading numbers, faults of sheets, what sheets that were to be
-//! written out came to, and what became of sheets to put on file and of files to read.
+//! document 01 that are names now, leading numbers, dates and day counts, faults of sheets, what sheets
+//! that were to be written out came to, and what became of sheets to put on file and of files to read.
 
+use crate::date_tally;
 use crate::file::{self, Cause};
 use crate::kind::{self, NoNumber};
 use crate::numbers::*;
@@ -37,6 +38,11 @@ impl Tally {
         self.not_reached(expected_of_leading())
     }
 
+    /// What a long run of dates and day counts should have reached and did not.
+    pub fn missing_of_dates(&self) -> Vec<String> {
+        self.not_reached(date_tally::expected())
+    }
+
     fn not_reached(&self, expected: Vec<Feature>) -> Vec<String> {
         let missing = expected.into_iter().filter(|feature| !self.0.contains_key(feature));
         missing.map(|(heading, name)| format!("{heading} {name}")).collect()
@@ -57,7 +63,7 @@ impl fmt::Display for Tally {
     }
 }
 
-type Feature = (&'static str, String);
+pub type Feature = (&'static str, String);
 
 /// The readings, with the values that are told apart and the numbers that each can answer.
 const READINGS: [(&str, &[&str], &[u8]); 5] = [
@@ -78,7 +84,8 @@ const CAUSES: [NoScalar; 4] = [
 /// All that records can reach. Refusal 1 needs a text longer than a record holds.
 fn expected() -> Vec<Feature> {
     let mut all: Vec<Feature> = Vec::new();
-    all.extend(["T", "S", "N", "C", "V", "W", "F", "R"].map(|kind| ("cases", kind.to_string())));
+    let kinds = ["T", "S", "N", "D", "Y", "C", "V", "W", "F", "R"];
+    all.extend(kinds.map(|kind| ("cases", kind.to_string())));
     all.extend((EOF..=FULL).map(|number| ("refusals", number.to_string())));
     all.extend(NAMES.map(|(_, name)| ("tokens", name.to_string())));
     all.extend((LESS_THAN..=EXISTS).map(|kind| ("operators", kind.to_string())));
@@ -99,6 +106,16 @@ fn expected() -> Vec<Feature> {
     all.extend(FAULTS.map(|fault| ("failing this alone", format!("{fault:?}"))));
     all.extend(["empty", "bytes"].map(|view| ("views", view.to_string())));
     all.extend(CAUSES.map(|cause| ("no view for", format!("{cause:?}"))));
+    all.extend(expected_of_leading());
+    all.extend(date_tally::expected());
+    all.extend(expected_of_written());
+    all.extend(expected_of_files());
+    all
+}
+
+/// All that sheets to write out can reach.
+fn expected_of_written() -> Vec<Feature> {
+    let mut all: Vec<Feature> = Vec::new();
     all.extend(["empty", "bytes", "plain"].map(|text| ("written", text.to_string())));
     all.extend(writer::CAUSES.map(|cause| ("not written for", format!("{cause:?}"))));
     all.extend(AT_ONCE.map(|(first, then)| ("two refusals", format!("{first} and {then}"))));
@@ -112,8 +129,6 @@ fn expected() -> Vec<Feature> {
         let answer = if levels > MOST_LEVELS { "refused" } else { "written" };
         all.push(("levels", format!("{levels} {answer}")));
     }
-    all.extend(expected_of_leading());
-    all.extend(expected_of_files());
     all
 }
 
@@ -239,6 +254,8 @@ pub fn features(record: &Record, answer: &str) -> Vec<Feature> {
             }
         }
         Some(Question::Leading { bytes }) => found.extend(leading_features(bytes, answer)),
+        Some(Question::Date { scalar }) => found.extend(date_tally::of_date(scalar, answer)),
+        Some(Question::Day { count }) => found.extend(date_tally::of_day(count)),
         Some(Question::Check { length, count, words }) => {
             found.push(("sheets", answer.trim_end().to_string()));
             if let [fault] = sheet::faults(length, &words, count)[..] {

@@ -19,6 +19,8 @@ const LOOKED_AT: usize = 400_000;
 const LONGEST_CHOSEN: usize = 160;
 const ENOUGH: usize = 20;
 const ENOUGH_OF_A_FORM: usize = 3;
+/// The edges have most of what a date can show.
+const ENOUGH_OF_A_DATE: usize = 2;
 
 fn main() -> io::Result<()> {
     let folder = env::args().nth(1).expect("record FOLDER");
@@ -50,8 +52,8 @@ fn main() -> io::Result<()> {
     fs::write(Path::new(&folder).join("stdout"), output)
 }
 
-/// Texts, sheets, files and a scalar at the limits of a record: as many bytes and as many tokens as it
-/// may have.
+/// Texts, sheets, files, a scalar and a date at the limits of a record: as many bytes and as many tokens as
+/// it may have.
 fn limits() -> Vec<Record> {
     let longest = [b"a=".as_slice(), &[b'b'; LONGEST - 2]].concat();
     let just_room = b"a=b ".repeat(usize::from(MOST_TOKENS) / 2);
@@ -65,13 +67,25 @@ fn limits() -> Vec<Record> {
         let (room, scratch) = (MOST_ROOM as u16, MOST_SCRATCH as u16);
         Record::write(room, scratch, sheet.count, &sheet.words, &sheet.text)
     });
-    texts.into_iter().chain(sheets).chain(file_limits()).chain([leading_limit()]).collect()
+    let scalars = [leading_limit(), date_limit()];
+    texts.into_iter().chain(sheets).chain(file_limits()).chain(scalars).collect()
 }
 
 /// A scalar as long as a record may be: one half is a digit behind zeros, and the other is left.
 fn leading_limit() -> Record {
     let half = LONGEST / 2;
     Record::leading([vec![b'0'; half - 1], vec![b'7'], vec![b'x'; half]].concat())
+}
+
+/// A date as long as a record may be: zeros in front of each part.
+fn date_limit() -> Record {
+    let date = ["1936", "1", "12", "24"];
+    let points = date.len() - 1;
+    let most = (LONGEST - points) / date.len();
+    let first = LONGEST - points - (date.len() - 1) * most;
+    let widths = [first, most, most, most];
+    let parts = date.iter().zip(widths).map(|(part, width)| format!("{part:0>width$}"));
+    Record::date(parts.collect::<Vec<_>>().join(".").into_bytes())
 }
 
 /// The largest sheet to put on file and the largest file, each with just room, and a file as long as a record
@@ -114,7 +128,8 @@ fn shown(record: &Record) -> BTreeSet<(String, usize)> {
             forms
         }
     };
-    let features = found.iter().map(|(heading, name)| (format!("{heading} {name}"), ENOUGH));
+    let enough = if matches!(record.kind, b'D' | b'Y') { ENOUGH_OF_A_DATE } else { ENOUGH };
+    let features = found.iter().map(|(heading, name)| (format!("{heading} {name}"), enough));
     features.chain(forms.into_iter().map(|form| (form, ENOUGH_OF_A_FORM))).collect()
 }
 

@@ -2,16 +2,23 @@
 
 use compare::generate::{self, Generator, LeftOut};
 use compare::model::boundary;
+use compare::numbers::{LAST_COUNT, OUT_OF_RANGE};
 use compare::pipe::{answers, ask, from_hex, hex};
 use compare::record::Record;
 use compare::rng::Rng;
 use compare::tally::Tally;
-use compare::{kind, leading, oracle, scalars, standin};
+use compare::{date, dates, kind, leading, oracle, scalars, standin};
 use std::time::Instant;
 use std::{env, io, process};
 
 /// How many cases go through the pipes at once.
 const BATCH: usize = 4_000;
+
+/// How many days go through the pipe at once, each both ways.
+const DAYS_AT_ONCE: usize = 50_000;
+
+/// How many counts behind the last day are asked, one after another.
+const PAST_THE_END: u32 = 1_000;
 
 fn main() {
     let status = match run() {
@@ -36,6 +43,8 @@ fn run() -> io::Result<bool> {
         Some("--probe") => Ok(probe()),
         Some("--kinds") => kinds(&ours()),
         Some("--leading") => leading(&ours(), number(1, 1), number(2, 300_000) as usize),
+        Some("--dates") => dates(&ours(), number(1, 1), number(2, 300_000) as usize),
+        Some("--days") => days(&ours()),
         Some("--self-test") => self_test(number(1, 1), number(2, 1_000_000) as usize),
         _ => compare(&ours(), number(0, 1), number(1, 1_000_000) as usize),
     }
@@ -44,7 +53,7 @@ fn run() -> io::Result<bool> {
 fn usage() -> ! {
     eprintln!(
         "run [SEED] [N] | --case HEX | --probe | --kinds | --leading [SEED] [N] | \
-         --self-test [SEED] [N]"
+         --dates [SEED] [N] | --days | --self-test [SEED] [N]"
     );
     process::exit(2);
 }
@@ -71,25 +80,35 @@ struct Difference {
 /// Asks both sides the same and finds the first answer that differs.
 fn ask_both(ours: &[String], records: &[Vec<u8>]) -> io::Result<(Vec<u8>, Option<Difference>)> {
     let input = records.concat();
-    let (rust, rust_end) = ask(&[beside("oracle")], &input)?;
-    let (our, our_end) = ask(ours, &input)?;
-    if rust == our && our_end.is_none() {
-        return Ok((rust, rust_end.map(|end| panic!("the oracle ended with {end}"))));
+    let rust = ask(&[beside("oracle")], &input)?;
+    let our = ask(ours, &input)?;
+    if rust.0 == our.0 && our.1.is_none() {
+        let (output, end) = rust;
+        return Ok((output, end.map(|end| panic!("the oracle ended with {end}"))));
     }
-    let (rust_answers, our_answers) = (answers(&rust), answers(&our));
+    let difference = first_unlike(records, &rust, &our);
+    Ok((rust.0, Some(difference)))
+}
+
+/// What a side wrote, and what its end says if it is no good end.
+type Written = (Vec<u8>, Option<String>);
+
+/// The first of these whose answers differ.
+fn first_unlike(records: &[Vec<u8>], rust: &Written, ours: &Written) -> Difference {
+    let ((rust, rust_end), (our, our_end)) = (rust, ours);
+    let (rust_answers, our_answers) = (answers(rust), answers(our));
     let shown = |answers: &[&[u8]], i: usize, end: &Option<String>| match answers.get(i) {
         Some(answer) => String::from_utf8_lossy(answer).into_owned(),
         None => format!("no answer ({})\n", end.as_deref().unwrap_or("ended well")),
     };
     let all = rust_answers.len().max(our_answers.len());
     let case = (0..all).find(|&i| rust_answers.get(i) != our_answers.get(i)).unwrap_or(all);
-    let difference = Difference {
+    Difference {
         case,
         record: records.get(case).cloned().unwrap_or_default(),
-        rust: shown(&rust_answers, case, &rust_end),
-        ours: shown(&our_answers, case, &our_end),
-    };
-    Ok((rust, Some(difference)))
+        rust: shown(&rust_answers, case, rust_end),
+        ours: shown(&our_answers, case, our_end),
+    }
 }
 
 fn show(difference: &Difference) {
@@ -205,17 +224,8 @@ fn kinds(ours: &[String]) -> io::Result<bool> {
 /// our answers against those of the Rust's own inner routine.
 fn leading(ours: &[String], seed: u64, cases: usize) -> io::Result<bool> {
     let records: Vec<Record> = leading::all(seed).take(cases).map(Record::leading).collect();
-    let mut tally = Tally::default();
-    let alike = ask_all(ours, &records, |record, answer| {
-        tally.count(record, &String::from_utf8_lossy(answer));
-        true
-    })?;
-    if !alike {
+    if !ask_and_tell(ours, &records, Tally::missing_of_leading)? {
         return Ok(false);
-    }
-    println!("{tally}");
-    for missing in tally.missing_of_leading() {
-        println!("never reached: {missing}");
     }
     let in_order = leading::in_order().count().min(cases);
     println!(
@@ -223,6 +233,95 @@ fn leading(ours: &[String], seed: u64, cases: usize) -> io::Result<bool> {
          and short ones in order"
     );
     Ok(true)
+}
+
+/// Scalars that are read as dates, and day counts, the edges and every short scalar and then others of a seed:
+/// our answers against those of the comparison's own reading and calendar.
+fn dates(ours: &[String], seed: u64, cases: usize) -> io::Result<bool> {
+    let records: Vec<Record> = dates::all(seed).take(cases).collect();
+    if !ask_and_tell(ours, &records, Tally::missing_of_dates)? {
+        return Ok(false);
+    }
+    let in_order = dates::in_order().count().min(cases);
+    println!(
+        "seed {seed}: {cases} dates and day counts, no difference; the first {in_order} of them \
+         are the edges and short scalars in order"
+    );
+    Ok(true)
+}
+
+/// Asks both sides all of these, and tells what they reached and did not; whether nothing differs.
+fn ask_and_tell(
+    ours: &[String],
+    records: &[Record],
+    missing: fn(&Tally) -> Vec<String>,
+) -> io::Result<bool> {
+    let mut tally = Tally::default();
+    let alike = ask_all(ours, records, |record, answer| {
+        tally.count(record, &String::from_utf8_lossy(answer));
+        true
+    })?;
+    if !alike {
+        return Ok(false);
+    }
+    println!("{tally}");
+    for missing in missing(&tally) {
+        println!("never reached: {missing}");
+    }
+    Ok(true)
+}
+
+/// Every day of the calendar both ways, and counts past its end: our answers against the comparison's
+/// calendar.
+fn days(ours: &[String]) -> io::Result<bool> {
+    let start = Instant::now();
+    for first in (0..=LAST_COUNT).step_by(DAYS_AT_ONCE) {
+        let last = LAST_COUNT.min(first + DAYS_AT_ONCE as u32 - 1);
+        let both_ways: Vec<(Record, String)> = (first..=last).flat_map(there_and_back).collect();
+        if !answers_these(ours, &both_ways)? {
+            return Ok(false);
+        }
+    }
+    let next = (1..=PAST_THE_END).map(|past| LAST_COUNT + past);
+    let powers = (22..32).flat_map(|bits| [1 << bits, (1 << bits) + 1]);
+    let past: Vec<(Record, String)> = next
+        .chain(powers)
+        .chain([u32::MAX])
+        .map(|count| (Record::day(count), format!("refused {OUT_OF_RANGE}\n")))
+        .collect();
+    if !answers_these(ours, &past)? {
+        return Ok(false);
+    }
+    let (days, seconds) = (LAST_COUNT + 1, start.elapsed().as_secs());
+    println!(
+        "{days} days both ways, count to date and date to count, no difference; {} counts past the \
+         last day, all refused; {seconds} s",
+        past.len()
+    );
+    Ok(true)
+}
+
+/// A day count, whose answer is the calendar's date; and that date as a scalar, whose answer is the date
+/// without an hour and the count.
+fn there_and_back(count: u32) -> [(Record, String); 2] {
+    let [year, month, day] = date::of(count).expect("a day of the calendar");
+    let scalar = format!("{year}.{month}.{day}").into_bytes();
+    [
+        (Record::day(count), format!("={year} {month} {day}\n")),
+        (Record::date(scalar), format!("={year} {month} {day} 0 {count}\n")),
+    ]
+}
+
+/// Whether our program answers each of these with its line; the first that it does not is shown.
+fn answers_these(ours: &[String], asked: &[(Record, String)]) -> io::Result<bool> {
+    let records: Vec<Vec<u8>> = asked.iter().map(|(record, _)| record.bytes()).collect();
+    let told: String = asked.iter().map(|(_, line)| line.as_str()).collect();
+    let (told, our) = ((told.into_bytes(), None), ask(ours, &records.concat())?);
+    if our == told {
+        return Ok(true);
+    }
+    show(&first_unlike(&records, &told, &our));
+    Ok(false)
 }
 
 /// Asks both sides all of these, until they differ or an answer does not hold; whether none did.
