@@ -36,13 +36,15 @@ COMPILE := $(CC) -std=c11 -Wall -Wextra -Wpedantic -Wconversion -Wshadow -fPIC $
 
 LIMIT := $(shell sed -n 's/^.define TACKACORN_TEXT_LIMIT //p' include/tackacorn.h)
 LEVELS := $(shell sed -n 's/^.define TACKACORN_LEVEL_LIMIT //p' include/tackacorn.h)
+LAST_DAY := $(shell sed -n 's/^.define TACKACORN_LAST_DAY //p' include/tackacorn.h)
 VERSION := $(shell sed -n 's/^.define TACKACORN_VERSION "\(.*\)"/\1/p' include/tackacorn.h)
 SONAME := libtackacorn.so.$(firstword $(subst ., ,$(VERSION)))
 SHARED := libtackacorn.so.$(VERSION)
 PROVED := target/staticlib/libcapi.a
 CRATES := $(shell find crates -path '*/must-fail' -prune -o \( -name '*.rt' -o -name '*.antt' \) -print)
 COMMAND := $(patsubst host/command/%.c,$(BUILD)/command/%.o,$(wildcard host/command/*.c))
-FILL := sed -e 's|@VERSION@|$(VERSION)|g' -e 's|@LIMIT@|$(LIMIT)|g' -e 's|@LEVELS@|$(LEVELS)|g' -e 's|@PREFIX@|$(PREFIX)|g' -e 's|@LIBDIR@|$(LIBDIR)|g' -e 's|@INCLUDEDIR@|$(INCLUDEDIR)|g'
+FILL := sed -e 's|@VERSION@|$(VERSION)|g' -e 's|@LIMIT@|$(LIMIT)|g' -e 's|@LEVELS@|$(LEVELS)|g' -e 's|@LAST_DAY@|$(LAST_DAY)|g' \
+    -e 's|@PREFIX@|$(PREFIX)|g' -e 's|@LIBDIR@|$(LIBDIR)|g' -e 's|@INCLUDEDIR@|$(INCLUDEDIR)|g'
 
 .PHONY: all test install uninstall clean
 .DELETE_ON_ERROR:

@@ -130,8 +130,8 @@ static void leading_numbers(void) {
                                      && tackacorn_to_i64_part(bytes("1936"), 2, &number, &left) == TACKACORN_OK && number == 19 && left == 0);
 }
 
-/* The header's example to the letter, which host/test holds against it. */
-static bool read_date(const uint8_t *scalar, size_t length, int64_t parts[3]) {
+/* The header's example of a part that is read, to the letter: host/test holds it against the header. */
+static bool read_version(const uint8_t *scalar, size_t length, int64_t parts[3]) {
     size_t at = 0;
     for (size_t i = 0; i < 3; i++) {
         size_t left;
@@ -149,20 +149,213 @@ static bool read_date(const uint8_t *scalar, size_t length, int64_t parts[3]) {
     return at == length;
 }
 
-/* Dates that the example reads, and what it takes for none. */
-static void dates(void) {
+/* Versions that the example reads, and what it takes for none. */
+static void versions(void) {
     static const char *const none[] = {
-        "", ".", "x", "1936", "1936.", "1936.1", "1936.1.", "1936.1.x", "1936.x.12", ".1.12", "1936..12", "1936.-.12",
-        "1936.1.-", "1936.-1.12", "-1936.1.12", "+1936.1.12", "1936.1.12.", "1936.1.12.3", "1936.1.12x", "1936.1.12 ",
-        " 1936.1.12", "1936.1 .12", "1936,1.12", "1936.1-12", "9223372036854775808.1.12", "1936.1.99999999999999999999",
+        "", ".", "x", "1", "1.", "1.14", "1.14.", "1.14.x", "1.x.2", ".14.2", "1..2", "1.-.2",
+        "1.14.-", "1.-14.2", "-1.14.2", "+1.14.2", "1.14.2.", "1.14.2.3", "1.14.2b", "1.14.2 ",
+        " 1.14.2", "1.14 .2", "1,14.2", "1.14-2", "9223372036854775808.14.2", "1.14.99999999999999999999",
     };
-    int64_t day[3] = {7, 7, 7};
-    expect("a date", read_date(bytes("1936.1.12"), 9, day) && day[0] == 1936 && day[1] == 1 && day[2] == 12);
-    expect("a date with zeros", read_date(bytes("0036.01.012"), 11, day) && day[0] == 36 && day[1] == 1 && day[2] == 12);
-    expect("a date of the largest", read_date(bytes("9223372036854775807.0.0"), 23, day) && day[0] == INT64_MAX && day[1] == 0 && day[2] == 0);
+    int64_t part[3] = {7, 7, 7};
+    expect("a version", read_version(bytes("1.14.2"), 6, part) && part[0] == 1 && part[1] == 14 && part[2] == 2);
+    expect("a version with zeros", read_version(bytes("0001.014.02"), 11, part) && part[0] == 1 && part[1] == 14 && part[2] == 2);
+    expect("a version of the largest", read_version(bytes("9223372036854775807.0.0"), 23, part) && part[0] == INT64_MAX && part[1] == 0
+                                           && part[2] == 0);
     for (size_t i = 0; i < sizeof none / sizeof none[0]; i++) {
-        expect(none[i], !read_date(bytes(none[i]), strlen(none[i]), day));
+        expect(none[i], !read_version(bytes(none[i]), strlen(none[i]), part));
     }
+}
+
+/* Numbers that a call on dates may write, each with a number on either side that it may not. */
+enum { LENT_NUMBERS = 9, STAYS = 7 };
+
+/* Makes all of them such as stay. */
+static void lend(uint32_t numbers[LENT_NUMBERS]) {
+    for (size_t i = 0; i < LENT_NUMBERS; i++) {
+        numbers[i] = STAYS;
+    }
+}
+
+/* Whether the first count of the lent numbers are those of a date, with its hour, and all others stayed. */
+static bool are(const uint32_t numbers[LENT_NUMBERS], size_t count, const uint32_t expected[4]) {
+    for (size_t i = 0; i < LENT_NUMBERS; i++) {
+        if (numbers[i] != (i % 2 == 1 && i / 2 < count ? expected[i / 2] : (uint32_t)STAYS)) {
+            return false;
+        }
+    }
+    return true;
+}
+
+/* Whether so many bytes are answered so, as a date, and leave these numbers. */
+static bool reads(const char *scalar, size_t length, uint32_t answer, const uint32_t expected[4]) {
+    uint32_t to[LENT_NUMBERS];
+    lend(to);
+    return tackacorn_to_date(bytes(scalar), length, &to[1], &to[3], &to[5], &to[7]) == answer && are(to, 4, expected);
+}
+
+/* Whether a date that is put together of numbers is answered so, and leaves this count. */
+static bool counts(uint32_t year, uint32_t month, uint32_t day, uint32_t answer, uint32_t days) {
+    uint32_t to[LENT_NUMBERS];
+    const uint32_t expected[4] = {days};
+    lend(to);
+    return tackacorn_to_days(year, month, day, &to[1]) == answer && are(to, 1, expected);
+}
+
+/* Whether a count is answered so, and leaves this date. */
+static bool finds(uint32_t days, uint32_t answer, const uint32_t expected[4]) {
+    uint32_t to[LENT_NUMBERS];
+    lend(to);
+    return tackacorn_from_days(days, &to[1], &to[3], &to[5]) == answer && are(to, 3, expected);
+}
+
+static const uint32_t no_date[4];
+
+/* Whether a scalar is no date, for this reason, and leaves zeros. */
+static bool no_date_by(const char *scalar, uint32_t refusal) {
+    return reads(scalar, strlen(scalar), refusal, no_date);
+}
+
+/* Whether numbers are no date, and leave a zero. */
+static bool no_day(uint32_t year, uint32_t month, uint32_t day) {
+    return counts(year, month, day, TACKACORN_OUT_OF_RANGE, 0);
+}
+
+/* Whether a scalar is this date with this count, to which the way back leads. */
+static bool is_date(const char *scalar, const uint32_t date[4], uint32_t days) {
+    return reads(scalar, strlen(scalar), TACKACORN_OK, date) && counts(date[0], date[1], date[2], TACKACORN_OK, days)
+           && finds(days, TACKACORN_OK, date);
+}
+
+/* Dates that are read, each with its hour and its count. */
+static void dates(void) {
+    static const struct {
+        const char *scalar;
+        uint32_t date[4];
+        uint32_t days;
+    } table[] = {
+        {"1936.1.12", {1936, 1, 12, 0}, 706286},      {"1936.1.12.24", {1936, 1, 12, 24}, 706286},
+        {"1939.9.1.12", {1939, 9, 1, 12}, 707613},    {"1.1.1", {1, 1, 1, 0}, 0},
+        {"1.1.1.1", {1, 1, 1, 1}, 0},                 {"1.1.1.24", {1, 1, 1, 24}, 0},
+        {"1.1.2", {1, 1, 2, 0}, 1},                   {"1.2.28", {1, 2, 28, 0}, 58},
+        {"1.3.1", {1, 3, 1, 0}, 59},                  {"4.2.28", {4, 2, 28, 0}, 1153},
+        {"4.3.1", {4, 3, 1, 0}, 1154},                {"1.12.31", {1, 12, 31, 0}, 364},
+        {"2.1.1", {2, 1, 1, 0}, 365},                 {"9999.1.1", {9999, 1, 1, 0}, 3649270},
+        {"9999.12.30", {9999, 12, 30, 0}, 3649633},   {"9999.12.31", {9999, 12, 31, 0}, TACKACORN_LAST_DAY},
+        {"9999.12.31.1", {9999, 12, 31, 1}, 3649634}, {"0001.01.01.024", {1, 1, 1, 24}, 0},
+        {"00000000000000000000000000001936.000000000000000000001.0000000000000000000000012", {1936, 1, 12, 0}, 706286},
+        {"09999.012.031.0000000000000000000000000024", {9999, 12, 31, 24}, 3649634},
+    };
+    for (size_t i = 0; i < sizeof table / sizeof table[0]; i++) {
+        expect(table[i].scalar, is_date(table[i].scalar, table[i].date, table[i].days));
+    }
+    expect("a part of a scalar that is a date", reads("1936.1.12.24", 9, TACKACORN_OK, table[0].date)
+                                                    && reads("1936.1.123", 9, TACKACORN_OK, table[0].date)
+                                                    && reads("1.1.1.25", 5, TACKACORN_OK, table[3].date)
+                                                    && reads("1.1.1.25", 6, TACKACORN_NOT_A_DATE, no_date)
+                                                    && reads("1.1.1.10", 7, TACKACORN_OK, table[4].date));
+}
+
+/* Scalars that have not the shape of a date, also where a part before that is out of range. */
+static void shapes(void) {
+    static const char *const none[] = {
+        "", ".", "..", "...", "x", "1936", "1936.", "1936.1", "1.1.", "1..1", ".1.1", "..1", "1.1..1", "1.1.1.", "1.1.1..", "1.1.1..1",
+        "1.1.1.1.", "1.1.1.1.1", "-1.1.1", "+1.1.1", "1.-1.1", "1.+1.1", "1.1.-1", "1.1.+1", "1.1.1.-1", "1.1.1.+1", "-.1.1", "1.-.1",
+        "1.1.-", "1.1.1.-", " 1.1.1", "1.1.1 ", "1. 1.1", "1.1 .1", "x.1.1", "1.x.1", "1.1.x", "1.1.1.x", "1x.1.1", "1.1x.1", "1.1.1x",
+        "1.1.1.1x", "1,1,1", "1.1,1", "1-1-1", "1/1/1", "1:1:1", "1.1.1/", "1.1.1:", "1.1./", "1.1.:", "1.1.1\n", "1.1.\xb1", "\xb1.1.1",
+        "1\2561.1", "1e1.1.1", "0x1.1.1", "yes", "\"1.1.1\"", "0.1.x", "10000.1.x", "1.0.x", "1.13.x", "1.13", "0.0", "1.1.32x", "1.2.29.",
+        "1.1.0.x", "1.1.1.0x", "1.1.1.25x", "1.1.1.25.", "0.0.0.0.0", "1.1.1.25.1", "-0.0.0", "99999999999999999999.1.x",
+        "99999999999999999999", "1.99999999999999999999", "1.99999999999999999999.", "1.1.99999999999999999999x", "1.1.1.99999999999999999999.",
+    };
+    for (size_t i = 0; i < sizeof none / sizeof none[0]; i++) {
+        expect(none[i], no_date_by(none[i], TACKACORN_NOT_A_DATE));
+    }
+    expect("a zero behind a date", reads("1.1.1", 6, TACKACORN_NOT_A_DATE, no_date) && reads("1.1\0001", 5, TACKACORN_NOT_A_DATE, no_date));
+}
+
+/* Scalars that have the shape of a date, with a part that is out of range, also by a number that wraps into it. */
+static void ranges(void) {
+    static const char *const none[] = {
+        "0.1.1", "0000.1.1", "10000.1.1", "010000.1.1", "1.0.1", "1.13.1", "1.1.0", "1.1.32", "1.2.29", "4.2.29", "1936.2.29", "2000.2.29",
+        "1.1.1.0", "1.1.1.00", "1.1.1.25", "9999.12.32", "9999.13.1", "0.0.0", "0.0.0.0", "0.1.1.1", "1.2.29.12", "1.13.1.25", "1.4.31",
+        "1.1.255", "1.255.1", "65537.1.1", "1.257.1", "1.1.257", "1.1.1.257", "1.65537.1", "1.1.65537", "1.1.1.65537", "4294967297.1.1",
+        "1.4294967297.1", "1.1.4294967297", "1.1.1.4294967297", "18446744073709551617.1.1", "1.18446744073709551617.1",
+        "1.1.18446744073709551617", "1.1.1.18446744073709551617", "9223372036854775808.1.1", "99999999999999999999.1.1",
+        "1.99999999999999999999.1", "1.1.99999999999999999999", "1.1.1.99999999999999999999",
+        "340282366920938463463374607431768211457.1.1", "1.1.340282366920938463463374607431768211457",
+    };
+    for (size_t i = 0; i < sizeof none / sizeof none[0]; i++) {
+        expect(none[i], no_date_by(none[i], TACKACORN_OUT_OF_RANGE));
+    }
+}
+
+static const uint32_t month_days[12] = {31, 28, 31, 30, 31, 30, 31, 31, 30, 31, 30, 31};
+
+/* Numbers that are put together to no date, and counts that have none. */
+static void no_days(void) {
+    for (uint32_t month = 1; month <= 12; month++) {
+        expect("the day behind a month", no_day(1, month, month_days[month - 1] + 1) && no_day(1936, month, month_days[month - 1] + 1)
+                                             && no_day(9999, month, month_days[month - 1] + 1) && no_day(2000, month, 0));
+    }
+    expect("no such year", no_day(0, 1, 1) && no_day(10000, 1, 1) && no_day(UINT32_MAX, 12, 31) && no_day(65537, 1, 1));
+    expect("no such month", no_day(1, 0, 1) && no_day(1, 13, 1) && no_day(1, UINT32_MAX, 1) && no_day(1, 257, 1) && no_day(1, 65537, 1));
+    expect("no such day", no_day(1, 1, 0) && no_day(1, 1, UINT32_MAX) && no_day(1, 1, 257) && no_day(1, 1, 65537) && no_day(9999, 12, 32));
+    expect("no date at all", no_day(0, 0, 0) && no_day(UINT32_MAX, UINT32_MAX, UINT32_MAX));
+    expect("no such count", finds(TACKACORN_LAST_DAY + 1, TACKACORN_OUT_OF_RANGE, no_date) && finds(3649635 + 365, TACKACORN_OUT_OF_RANGE, no_date)
+                                && finds(0x80000000u, TACKACORN_OUT_OF_RANGE, no_date) && finds(UINT32_MAX, TACKACORN_OUT_OF_RANGE, no_date));
+}
+
+/* Every day there is, by a walk along the calendar: its count, and from that the day again. */
+static void every_day(void) {
+    uint32_t date[4] = {1, 1, 1, 0}, days = 0;
+    bool right = true;
+    for (; date[0] <= 9999; days++) {
+        right = right && counts(date[0], date[1], date[2], TACKACORN_OK, days) && finds(days, TACKACORN_OK, date);
+        if (date[2]++ == month_days[date[1] - 1]) {
+            date[2] = 1;
+            if (date[1]++ == 12) {
+                date[1] = 1;
+                date[0]++;
+            }
+        }
+    }
+    expect("every day", right && days == TACKACORN_LAST_DAY + 1);
+}
+
+/* The header's example of dates, to the letter: host/test holds it against the header. */
+static bool days_between(const uint8_t *from, size_t from_length, const uint8_t *to, size_t to_length,
+                         int64_t *between) {
+    uint32_t year, month, day, hour, first, second;
+    if (tackacorn_to_date(from, from_length, &year, &month, &day, &hour) != TACKACORN_OK
+        || tackacorn_to_days(year, month, day, &first) != TACKACORN_OK
+        || tackacorn_to_date(to, to_length, &year, &month, &day, &hour) != TACKACORN_OK
+        || tackacorn_to_days(year, month, day, &second) != TACKACORN_OK) {
+        return false;
+    }
+    *between = (int64_t)second - (int64_t)first;
+    return true;
+}
+
+/* Whether it is so many days from one date to the other, and as many less than none on the way back. */
+static bool lie_between(const char *from, const char *to, int64_t days) {
+    int64_t there = 7, back = 7;
+    return days_between(bytes(from), strlen(from), bytes(to), strlen(to), &there) && there == days
+           && days_between(bytes(to), strlen(to), bytes(from), strlen(from), &back) && back == -days;
+}
+
+/* Whether there is no telling of these two, in either order, and nothing is written. */
+static bool nothing_between(const char *one, const char *other) {
+    int64_t stays = 7;
+    return !days_between(bytes(one), strlen(one), bytes(other), strlen(other), &stays)
+           && !days_between(bytes(other), strlen(other), bytes(one), strlen(one), &stays) && stays == 7;
+}
+
+/* What the example answers of two dates. */
+static void between(void) {
+    expect("days between two dates", lie_between("1936.1.12", "1939.9.1.12", 1327) && lie_between("1936.1.12", "1936.1.13", 1));
+    expect("no leap day between", lie_between("1936.2.28", "1936.3.1", 1) && lie_between("2000.1.1", "2001.1.1", 365));
+    expect("hours and zeros between", lie_between("1936.1.12.1", "1936.1.12.24", 0) && lie_between("1936.1.12", "1936.01.012", 0));
+    expect("all days between", lie_between("1.1.1", "9999.12.31", TACKACORN_LAST_DAY));
+    expect("nothing between", nothing_between("1936.1.12", "1936.2.29") && nothing_between("x", "1936.1.12") && nothing_between("", "0.1.1"));
 }
 
 enum { ROOM = 10 * TACKACORN_WORDS_PER_TOKEN };
@@ -464,7 +657,7 @@ static void unread(void) {
                                               && refuses_read(TACKACORN_FILE_NO_ROOM, read_bytes(&lent, sheet_file, SHEET_BYTES, 0), &lent, 0));
 }
 
-/* The number of a version's words: 20300 of "2.3.0". */
+/* The number of a version's words: 20400 of "2.4.0". */
 static uint32_t version_number(const char *version) {
     uint32_t number = 0, part = 0;
     for (; *version != 0; version++) {
@@ -480,7 +673,8 @@ static uint32_t version_number(const char *version) {
 
 /* Each refusal has words of its own, and a number that is none is told so. */
 static void words(void) {
-    const uint32_t numbers[] = {0, 1, 2, 3, 4, 5, 6, 7, 8, 9, 10, 11, 12, 21, 22, 23, 24, 31, 32, 33, 34, 35, 36, 41, 42, 43, 44, 45, 46};
+    const uint32_t numbers[] = {0,  1,  2,  3,  4,  5,  6,  7,  8,  9,  10, 11, 12, 21, 22, 23,
+                                24, 31, 32, 33, 34, 35, 36, 41, 42, 43, 44, 45, 46, 51, 52};
     const size_t count = sizeof numbers / sizeof numbers[0];
     expect("the version", strcmp(tackacorn_version(), TACKACORN_VERSION) == 0 && version_number(tackacorn_version()) == TACKACORN_VERSION_NUMBER);
     expect("words", strcmp(tackacorn_refusal_text(TACKACORN_NO_VALUE), "a '}' where a value is due") == 0);
@@ -497,7 +691,13 @@ int main(void) {
     readings();
     surprises();
     leading_numbers();
+    versions();
     dates();
+    shapes();
+    ranges();
+    no_days();
+    every_day();
+    between();
     tokens();
     refused();
     written();

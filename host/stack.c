@@ -57,6 +57,18 @@ static void read_part(void) {
     size_t left;
     answer = tackacorn_to_i64_part((const uint8_t *)"-9223372036854775807.12", 23, &value, &left);
 }
+static void read_date(void) {
+    uint32_t year, month, day, hour;
+    answer = tackacorn_to_date((const uint8_t *)"0000000000000000009999.12.31.24", 31, &year, &month, &day, &hour);
+}
+static void count_days(void) {
+    uint32_t days;
+    answer = tackacorn_to_days(9999, 12, 31, &days);
+}
+static void find_day(void) {
+    uint32_t year, month, day;
+    answer = tackacorn_from_days(TACKACORN_LAST_DAY, &year, &month, &day);
+}
 static void read_kind(void) {
     answer = tackacorn_kind((const uint8_t *)"-18446744073709551615", 21) != TACKACORN_NAME;
 }
@@ -106,7 +118,8 @@ static bool within(const char *name, void (*call)(void), size_t most) {
 
 int main(void) {
     const char *const nested[][2] = {{"{", "{"}, {"{a=", "{a="}, {"{", "{a="}};
-    bool well = within("to_f64", read_number, MOST) && within("to_i64_part", read_part, MOST) && within("kind", read_kind, MOST);
+    bool well = within("to_f64", read_number, MOST) && within("to_i64_part", read_part, MOST) && within("kind", read_kind, MOST)
+                && within("to_date", read_date, MOST) && within("to_days", count_days, MOST) && within("from_days", find_day, MOST);
     for (size_t i = 0; i < sizeof nested / sizeof nested[0]; i++) {
         nest(nested[i][0], nested[i][1]);
         well = well && within("parse", parse, MOST) && within("check", check, MOST) && within("view", view, MOST)

@@ -1,5 +1,5 @@
-/* Tackacorn: the text of a save as a tape of tokens, the readings of its scalars, the way back to text, and
- * sheets on file.
+/* Tackacorn: the text of a save as a tape of tokens, the readings of its scalars, dates and day counts, the way
+ * back to text, and sheets on file.
  *
  * BEFORE YOU BOOK FROM A SAVE
  *
@@ -15,8 +15,12 @@
  *  - tackacorn_to_f64 takes "18446744073709551616.5" for 0.5. See there for why, and for what to do. It
  *    takes the airframe "109f" for 109, and tackacorn_to_i64 takes "-" for 0: ask tackacorn_kind first,
  *    to which these are names.
- *  - tackacorn_to_i64_part takes the airframe "109E4" for 109 with 2 bytes left over, and the month of
- *    "1936.-.12" for 0. See there for a date that is read part by part, with what must be looked at.
+ *  - tackacorn_to_i64_part takes the airframe "109E4" for 109 with 2 bytes left over, and the second part of
+ *    the version "1.-.2" for 0. See there for what must be looked at. It is not for dates: those are read by
+ *    tackacorn_to_date.
+ *  - The calendar of the dates has no leap years: a day count is none of the world's calendar, and nothing for
+ *    time_t. It leaves the hour out, and the counts of two dates must be subtracted in a signed type. See
+ *    tackacorn_to_date before you reckon with dates.
  *  - A text save of the game begins with a line like "HOI4txt", which is no part of the format: the
  *    parser takes it for a key, and what follows for something else than it is. Before you parse, write
  *    spaces over that line, so that every offset stays the file's; or pass the text behind the line and
@@ -24,8 +28,9 @@
  *  - A call that refuses still writes: tackacorn_parse leaves the whole tape, the count and the BOM zero
  *    and tells the place, tackacorn_write leaves buffer, scratch and length zero, tackacorn_sheet_write
  *    buffer and length, tackacorn_sheet_read words, text length and count, the readings leave their value
- *    zero, tackacorn_to_i64_part what is left over too. What stood there before is gone, and a 0 that stands
- *    there then is no number that was read. Look at the answer of every call.
+ *    zero, tackacorn_to_i64_part what is left over too, and the calls on dates leave zeros, though 0 is a day
+ *    count as well, that of 1.1.1. What stood there before is gone, and a 0 that stands there then is no number
+ *    that was read. Look at the answer of every call.
  *  - Not every save that parses can be written back, and what is written may be read otherwise by another
  *    program. See tackacorn_write before you hand its text to the game.
  *  - A sheet file holds no text, and a sound one may fit another text than yours. See tackacorn_sheet_read
@@ -68,8 +73,8 @@ extern "C" {
 /* The version of this header, as words and as a number that rises: 10000 * first + 100 * second + third.
  * The first part rises where a program that was built with an older header would read a tape wrongly, and
  * with it the name of the shared library; the second where something is added; the third else. */
-#define TACKACORN_VERSION "2.3.0"
-#define TACKACORN_VERSION_NUMBER 20300
+#define TACKACORN_VERSION "2.4.0"
+#define TACKACORN_VERSION_NUMBER 20400
 
 /* The most bytes that a text may have. */
 #define TACKACORN_TEXT_LIMIT 16777215
@@ -100,7 +105,11 @@ extern "C" {
  * bytes / TACKACORN_FILE_TOKEN. */
 #define TACKACORN_FILE_WORDS_FOR(bytes) (TACKACORN_WORDS_PER_TOKEN * ((size_t)(bytes) / TACKACORN_FILE_TOKEN))
 
-/* Why a text, a view, a reading, a sheet or a file is refused. tackacorn_refusal_text has these in words. */
+/* The last day that has a count: that of 9999.12.31. Day 0 is 1.1.1. */
+#define TACKACORN_LAST_DAY 3649634
+
+/* Why a text, a view, a reading, a sheet, a file or a date is refused. tackacorn_refusal_text has these in
+ * words. */
 enum tackacorn_refusal {
     TACKACORN_OK = 0,
     TACKACORN_TOO_LONG = 1,          /* the text has more than TACKACORN_TEXT_LIMIT bytes */
@@ -130,7 +139,9 @@ enum tackacorn_refusal {
     TACKACORN_WRITTEN_TOO_LONG = 43, /* the text to write has more than TACKACORN_TEXT_LIMIT bytes */
     TACKACORN_NO_ROOM = 44,          /* the buffer is under the text, or the scratch under the tokens */
     TACKACORN_READS_OTHERWISE = 45,  /* the text to write does not parse to the sheet */
-    TACKACORN_OTHER_FORM = 46        /* a parameter, or pairs that are none: see tackacorn_write */
+    TACKACORN_OTHER_FORM = 46,       /* a parameter, or pairs that are none: see tackacorn_write */
+    TACKACORN_NOT_A_DATE = 51,       /* no three or four numbers with points between them: see tackacorn_to_date */
+    TACKACORN_OUT_OF_RANGE = 52      /* a part of a date, or a day count, that the calendar does not have */
 };
 
 /* What a token is: the first of its three words. a and b are the second and the third. */
@@ -383,7 +394,7 @@ uint32_t tackacorn_to_i64(const uint8_t *scalar, size_t length, int64_t *value);
  * where the digits are above 2^63 - 1, also after a minus and whatever follows them; ALL_DIGITS for no byte at
  * all, and where the first is neither a sign nor a digit.
  *
- * "1936.1.12" is 1936 and leaves ".1.12", "12" is 12 and leaves nothing. tackacorn_to_i64 is this reading where
+ * "1.14.2" is 1 and leaves ".14.2", "12" is 12 and leaves nothing. tackacorn_to_i64 is this reading where
  * nothing is left, and ALL_DIGITS where bytes are.
  *
  * BEFORE YOU TAKE THE NUMBER
@@ -392,17 +403,17 @@ uint32_t tackacorn_to_i64(const uint8_t *scalar, size_t length, int64_t *value);
  *    whole scalar must be the number, ask tackacorn_kind and tackacorn_to_i64.
  *  - A refusal leaves 0 bytes too: *left does not tell whether all was read. Only the answer does.
  *  - A sign with no digit behind it is the number 0: "-" is 0 and leaves nothing, "-x" is 0 and leaves "x", and
- *    "1936.-.12" has a 0 for its second part, with no refusal. Where a part must have a digit, look at the byte
+ *    "1.-.2" has a 0 for its second part, with no refusal. Where a part must have a digit, look at the byte
  *    that it begins with.
- *  - Each part may have a sign, and zeros before its digits: the parts of "1936.-1.012" are 1936, -1 and 12.
+ *  - Each part may have a sign, and zeros before its digits: the parts of "1.-14.02" are 1, -14 and 2.
+ *  - It knows no calendar, and OVERFLOW tells no rest. A date like "1936.1.12" is read by tackacorn_to_date.
  *
- * This reads the three parts of a date like "1936.1.12": each begins with a digit, a point stands before the
- * second and the third, and nothing behind them. Where it answers false, the parts say nothing; and whether the
- * calendar has such a day it does not tell. A date with an hour behind the day, "1939.9.1.12", as many saves
- * have it, is answered false: where you want one, read a fourth part in the same way. So is a part above
- * 2^63 - 1.
+ * This reads the three parts of a game version like "1.14.2": each begins with a digit, a point stands before
+ * the second and the third, and nothing behind them. Where it answers false, the parts say nothing. A version of
+ * two parts or of four is answered false, as is one with a letter behind it, "1.14.2b", and one with a part above
+ * 2^63 - 1: where you want these, read them in the same way.
  *
- *     static bool read_date(const uint8_t *scalar, size_t length, int64_t parts[3]) {
+ *     static bool read_version(const uint8_t *scalar, size_t length, int64_t parts[3]) {
  *         size_t at = 0;
  *         for (size_t i = 0; i < 3; i++) {
  *             size_t left;
@@ -446,6 +457,72 @@ uint32_t tackacorn_to_f64(const uint8_t *scalar, size_t length, double *value);
  * what they answer is an amount. A Decimal of more than 20 bytes can still be another number than was
  * written: see to_f64. */
 uint32_t tackacorn_kind(const uint8_t *scalar, size_t length);
+
+/* A date: "1936.1.12", year, month and day, or with an hour behind them "1939.9.1.24".
+ *
+ * It is three or four parts with a point between them, and nothing else. A part is one digit or more and has no
+ * sign; zeros in front count for nothing, however many. Years run from 1 to 9999, months from 1 to 12, days as far
+ * as the month has them, hours from 1 to 24. Every year has 365 days, and its months have 31, 28, 31, 30, 31, 30,
+ * 31, 31, 30, 31, 30 and 31.
+ *
+ * Reads the bytes. Writes *year, *month, *day and *hour, whatever it answers.
+ *
+ * Answers TACKACORN_OK: they are the parts, and *hour is 0 where no fourth one stands. Or answers a refusal, and
+ * all four are 0: NOT_A_DATE where the scalar has not that shape, which is looked for over the whole of it first;
+ * else OUT_OF_RANGE where a part is out of range, however large it is. "1936.1", "1936..12", "1936.1.12.",
+ * "1936.1.12.3.4", "-1936.1.12", " 1936.1.12" and "" are NOT_A_DATE. "1936.2.29", "0.1.1", "1936.13.1",
+ * "1936.1.12.0", "1936.1.12.25" and "99999999999999999999.1.1" are OUT_OF_RANGE, and
+ * "99999999999999999999.1.x" is NOT_A_DATE.
+ *
+ * BEFORE YOU RECKON WITH DATES
+ *
+ *  - NOT_A_DATE comes before OUT_OF_RANGE: "1936.13.x" is the former, and says nothing of the month.
+ *  - An hour of 0 says that none stands there. None is ever read as 0: "1936.1.12.0" is OUT_OF_RANGE.
+ *  - The hour is left out of the count: "1936.1.12.1" and "1936.1.12.24" are the same day, and 0 days lie between
+ *    them. Where that matters, hold the hours against each other, too.
+ *  - There are no leap years: this is not the world's calendar. "1936.2.29" is no date, and from "1936.2.28" to
+ *    "1936.3.1" it is one day. Never hand a count to the arithmetic of time_t, nor a count of that to
+ *    tackacorn_from_days.
+ *  - Zeros in front are read: "1936.1.12" and "1936.01.012" are the same date. Hold parts or counts against each
+ *    other, never the bytes.
+ *  - Counts have no sign, and a later date has the larger one. Subtract them in a signed type,
+ *    (int64_t)b - (int64_t)a: as they are, from day 1 to day 0 it would be 4294967295 days.
+ *  - A refusal leaves zeros, and 0 is a day count as well: day 0 is 1.1.1. Only the answer tells.
+ *  - tackacorn_kind calls a date a Name. Ask this call, not the kind, whether a scalar is one.
+ *
+ * This tells how many days it is from one date to another, below 0 where the second is the earlier. Where it
+ * answers false, one of them is refused, and *between stays as it was.
+ *
+ *     static bool days_between(const uint8_t *from, size_t from_length, const uint8_t *to, size_t to_length,
+ *                              int64_t *between) {
+ *         uint32_t year, month, day, hour, first, second;
+ *         if (tackacorn_to_date(from, from_length, &year, &month, &day, &hour) != TACKACORN_OK
+ *             || tackacorn_to_days(year, month, day, &first) != TACKACORN_OK
+ *             || tackacorn_to_date(to, to_length, &year, &month, &day, &hour) != TACKACORN_OK
+ *             || tackacorn_to_days(year, month, day, &second) != TACKACORN_OK) {
+ *             return false;
+ *         }
+ *         *between = (int64_t)second - (int64_t)first;
+ *         return true;
+ *     }
+ */
+uint32_t tackacorn_to_date(const uint8_t *scalar, size_t length, uint32_t *year, uint32_t *month, uint32_t *day,
+                           uint32_t *hour);
+
+/* The day count of a date: how many days it stands behind 1.1.1, which is day 0. The next day has the next count.
+ *
+ * Answers TACKACORN_OK: *days is the count, at most TACKACORN_LAST_DAY. Or answers OUT_OF_RANGE, and *days is 0:
+ * the calendar has no such day. Any numbers may be asked for; those that tackacorn_to_date answers with
+ * TACKACORN_OK are never refused, and the zeros that it leaves on a refusal always are. */
+uint32_t tackacorn_to_days(uint32_t year, uint32_t month, uint32_t day, uint32_t *days);
+
+/* The date of a day count: the way back. It knows of no hour.
+ *
+ * Answers TACKACORN_OK: *year, *month and *day are the date whose count is days. Or answers OUT_OF_RANGE, and all
+ * three are 0: days is above TACKACORN_LAST_DAY. A count from which some days too many were taken has wrapped, and
+ * is refused, but one that took a larger step may have wrapped into the range: to go on or back from a day, reckon
+ * in an int64_t, and look at the sum before it becomes a uint32_t. */
+uint32_t tackacorn_from_days(uint32_t days, uint32_t *year, uint32_t *month, uint32_t *day);
 
 #ifdef __cplusplus
 }

@@ -10,7 +10,7 @@ const LIBRARY: &str = "libtackacorn.a";
 
 /// The versions that have all calls of this crate, answer them as it says, and whose tapes it can read, as pkg-config
 /// asks for them.
-const VERSIONS: [&str; 2] = ["tackacorn >= 2.3.0", "tackacorn < 3"];
+const VERSIONS: [&str; 2] = ["tackacorn >= 2.4.0", "tackacorn < 3"];
 
 fn refuse(why: &str) -> ! {
     println!("cargo::error={why}");

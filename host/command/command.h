@@ -1,5 +1,5 @@
-/* What the parts of the command `tackacorn` share. Each subcommand is one function in a file of its own and
- * one line of the table in main.c. */
+/* What the parts of the command `tackacorn` share. Each subcommand is one function in a file of its own, but that
+ * those on dates share one, and one line of the table in main.c. */
 #ifndef COMMAND_H
 #define COMMAND_H
 
@@ -96,6 +96,7 @@ enum status finish(enum status status);
 void show(FILE *out, const uint8_t *bytes, size_t length);
 void show_name(FILE *out, const char *name);
 void tell_refusal(const struct save *save, const struct call *call);
+enum status refuse_scalar(const char *word, uint32_t refusal, const struct call *call);
 enum status worse(enum status one, enum status other);
 
 /* The subcommands. */
@@ -107,6 +108,9 @@ enum status pack(const struct call *call);
 enum status unpack(const struct call *call);
 enum status verify(const struct call *call);
 enum status number(const struct call *call);
+enum status date(const struct call *call);
+enum status days(const struct call *call);
+enum status day(const struct call *call);
 enum status help(const struct call *call);
 
 #endif

@@ -21,7 +21,8 @@ static void print_common(void) {
            "save can give. A first line of letters and digits that ends in 'txt', as HOI4txt, is no part\n"
            "of the save and is passed over. Lines, columns and offsets are the file's: lines and columns\n"
            "count from 1, a column is a byte, and a BOM has none. SCALAR is no file but the bytes of a\n"
-           "value, and '-' is one. Options come before the file or the scalar, and '--' ends them:\n"
+           "value, and '-' is one; so are FROM, TO and COUNT. Options come before the file or the scalar,\n"
+           "and '--' ends them:\n"
            "  --raw      leave the first line to the parser, which takes it for a key\n"
            "  --numbers  print a refusal as 'refused NUMBER PLACE' on standard output, not in words\n\n"
            "A refusal is one line of standard error: FILE:LINE:COLUMN: refusal NUMBER: WORDS, and of\n"
@@ -36,7 +37,8 @@ static void print_common(void) {
 /* Prints what the command does. */
 void print_overview(void) {
     fputs("tackacorn looks at text saves, checks them, gets values out of them, writes them back, keeps\n"
-          "their tokens on file, and reads the number that a scalar begins with.\n\n",
+          "their tokens on file, reads the number that a scalar begins with, and reads dates and counts\n"
+          "their days.\n\n",
           stdout);
     print_warning();
     for (size_t i = 0; i < subcommand_count; i++) {

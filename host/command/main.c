@@ -1,5 +1,5 @@
-/* tackacorn: looks at saves, checks them, gets values out of them, writes them back, keeps their tokens on file, and
- * reads the number that a scalar begins with.
+/* tackacorn: looks at saves, checks them, gets values out of them, writes them back, keeps their tokens on file, reads
+ * the number that a scalar begins with, and reads dates and counts their days.
  *
  * A call is 'tackacorn SUBCOMMAND [OPTION..] [WORD..]'. The table below has a line for each subcommand. */
 #include "command.h"
@@ -69,16 +69,44 @@ const struct subcommand subcommands[] = {
     {"number", NUMBERS " SCALAR..", "print the number that each scalar begins with, and what is left over",
      "Reads no file: a scalar is the bytes themselves. Prints a line for each: the number, how many\n"
      "bytes are left over behind its digits, and where some are, these bytes, a control byte as \\x0a;\n"
-     "they are counted as they stand in the scalar. 12 is '12 0', and 1936.1.12 is '1936 5 .1.12'. The\n"
-     "status is that of the worst scalar, and with --numbers a refused one has its line among the\n"
-     "others. A scalar that begins with '-' needs '--' before it, where it is the first: 'number -- -12\n"
-     "-7'; a lone '-' does not. In a script always write 'number -- \"$value\"': a value of -h or --help\n"
-     "prints this, with status 0.\n\n"
+     "they are counted as they stand in the scalar. 12 is '12 0', and 1.14.2 is '1 5 .14.2'. A date is\n"
+     "read by 'tackacorn date'. The status is that of the worst scalar, and with --numbers a refused\n"
+     "one has its line among the others. A scalar that begins with '-' needs '--' before it, where it\n"
+     "is the first: 'number -- -12 -7'; a lone '-' does not. In a script always write\n"
+     "'number -- \"$value\"': a value of -h or --help prints this, with status 0.\n\n"
      "Refusal 21: no byte at all, or the first is neither a sign nor a digit. 22: the digits are over\n"
      "9223372036854775807, after a minus too, whatever follows them. Before you take the number, look\n"
      "at what is left: 109E4 is '109 2 E4', and 12.5 is '12 2 .5'. A sign with no digit behind it is 0:\n"
      "- is '0 0', and -.12 is '0 3 .12'.\n",
      1, ANY_NUMBER, false, number},
+    {"date", NUMBERS " SCALAR..", "print the parts of each date, and its day count",
+     "Reads no file: a scalar is the bytes themselves. Prints a line for each: year, month, day, hour\n"
+     "and day count. 1936.1.12 is '1936 1 12 0 706286', where the hour 0 says that none stands there,\n"
+     "and 1936.1.12.24 is '1936 1 12 24 706286': the hour is left out of the count. Day 0 is 1.1.1, the\n"
+     "last is " WORDS_OF(TACKACORN_LAST_DAY) ", 9999.12.31. Every year has 365 days and February 28: this is not the world's\n"
+     "calendar. Zeros in front are read, so that 1936.01.012 is the same date. The status is that of\n"
+     "the worst scalar, and with --numbers a refused one has its line among the others. In a script\n"
+     "always write 'date -- \"$value\"': a value of -h or --help prints this, with status 0.\n\n"
+     "Refusal 51: not three or four numbers of digits alone, with points between them; it is looked for\n"
+     "over the whole scalar first. 52: a year that is not 1 to 9999, a month that is not 1 to 12, a day\n"
+     "that the month does not have, or an hour that is not 1 to 24.\n",
+     1, ANY_NUMBER, false, date},
+    {"days", NUMBERS " FROM TO", "print how many days it is from one date to another",
+     "Prints one number, with a '-' where the second date is the earlier: from 1936.1.12 to 1939.9.1 it\n"
+     "is 1327, and from 1939.9.1 to 1936.1.12 it is -1327. Hours are left out: from 1936.1.12.1 to\n"
+     "1936.1.12.24 it is 0. There are no leap years, as with date, so that it is not the number of days\n"
+     "by the world's calendar. Each of the two that is refused has its line, by the refusals of date,\n"
+     "and no number is printed then. In a script always write 'days -- \"$from\" \"$to\"': a value of -h\n"
+     "or --help prints this, with status 0.\n",
+     2, 2, false, days},
+    {"day", NUMBERS " COUNT..", "print the date of each day count",
+     "Prints a line for each: the date that has that count, as 1936.1.12 for 706286. It has no hour. A\n"
+     "count is an optional '+' and digits, and a lone '+' is 0, which is 1.1.1. The status is that of\n"
+     "the worst count, and with --numbers a refused one has its line among the others. In a script\n"
+     "always write 'day -- \"$value\"': a value of -h or --help prints this, with status 0.\n\n"
+     "Refusal 21: the count is no such number, as one with a '-' is none; 22: it is over\n"
+     "18446744073709551615; 52: it is over " WORDS_OF(TACKACORN_LAST_DAY) ", the last day.\n",
+     1, ANY_NUMBER, false, day},
     {"help", "[SUBCOMMAND]", "print this, or more about a subcommand", "", 0, 1, false, help},
 };
 const size_t subcommand_count = sizeof subcommands / sizeof subcommands[0];
@@ -149,7 +177,7 @@ static enum status run(const struct subcommand *subcommand, char **words, size_t
 /* Finds the subcommand that is called. */
 static enum status dispatch(char **words, size_t count) {
     if (count == 0) {
-        return wrong_call("no subcommand", "look, check, get, write, pack, unpack, verify, number or help is wanted");
+        return wrong_call("no subcommand", "look, check, get, write, pack, unpack, verify, number, date, days, day or help is wanted");
     }
     if (asks_for_help(words[0])) {
         print_overview();

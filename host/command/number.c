@@ -14,7 +14,7 @@ static void tell_part(int64_t value, const uint8_t *rest, size_t left) {
     putc('\n', stdout);
 }
 
-/* Reads one scalar, or says why it is refused, as of a save, but that a scalar has no place to point at. */
+/* Reads one scalar, or says why it is refused. */
 static enum status read_one(const char *word, const struct call *call) {
     const uint8_t *scalar = (const uint8_t *)word;
     const size_t length = strlen(word);
@@ -22,9 +22,7 @@ static enum status read_one(const char *word, const struct call *call) {
     size_t left;
     const uint32_t refusal = tackacorn_to_i64_part(scalar, length, &value, &left);
     if (refusal != TACKACORN_OK) {
-        const struct save refused = {.name = length == 0 ? "an empty scalar" : word, .refusal = refusal};
-        tell_refusal(&refused, call);
-        return STATUS_REFUSED;
+        return refuse_scalar(word, refusal, call);
     }
     tell_part(value, scalar + (length - left), left);
     return STATUS_WELL;

@@ -94,3 +94,10 @@ void tell_refusal(const struct save *save, const struct call *call) {
         tell_words(save);
     }
 }
+
+/* Says why a scalar is refused, as of a save, but that a scalar has no place to point at. */
+enum status refuse_scalar(const char *word, uint32_t refusal, const struct call *call) {
+    const struct save refused = {.name = *word == '\0' ? "an empty scalar" : word, .refusal = refusal};
+    tell_refusal(&refused, call);
+    return STATUS_REFUSED;
+}

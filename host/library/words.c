@@ -42,6 +42,8 @@ const char *tackacorn_refusal_text(uint32_t number) {
     case TACKACORN_NO_ROOM: return "no room for the text to write, or for its tokens";
     case TACKACORN_READS_OTHERWISE: return "the text to write would read differently";
     case TACKACORN_OTHER_FORM: return "a parameter, or pairs that are none, which cannot be written";
+    case TACKACORN_NOT_A_DATE: return "the bytes do not have the shape of a date";
+    case TACKACORN_OUT_OF_RANGE: return "a part of the date, or the day count, is out of range";
     default: return "no such refusal";
     }
 }

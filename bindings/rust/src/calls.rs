@@ -81,6 +81,21 @@ mod library {
         ) -> u32;
         pub fn tackacorn_to_f64(scalar: *const u8, length: usize, value: *mut f64) -> u32;
         pub fn tackacorn_kind(scalar: *const u8, length: usize) -> u32;
+        pub fn tackacorn_to_date(
+            scalar: *const u8,
+            length: usize,
+            year: *mut u32,
+            month: *mut u32,
+            day: *mut u32,
+            hour: *mut u32,
+        ) -> u32;
+        pub fn tackacorn_to_days(year: u32, month: u32, day: u32, days: *mut u32) -> u32;
+        pub fn tackacorn_from_days(
+            days: u32,
+            year: *mut u32,
+            month: *mut u32,
+            day: *mut u32,
+        ) -> u32;
     }
 }
 
@@ -250,13 +265,47 @@ pub(crate) fn kind(scalar: &[u8]) -> u32 {
     unsafe { library::tackacorn_kind(scalar.as_ptr(), scalar.len()) }
 }
 
+/// A refusal's number, and year, month, day and hour of a date, the hour 0 where there is none.
+pub(crate) fn to_date(scalar: &[u8]) -> (u32, [u32; 4]) {
+    let (mut year, mut month, mut day, mut hour) = (0, 0, 0, 0);
+    // SAFETY: `scalar` may be read for its length; the four numbers are ours alone and live through the
+    // call.
+    let refusal = unsafe {
+        library::tackacorn_to_date(
+            scalar.as_ptr(),
+            scalar.len(),
+            &mut year,
+            &mut month,
+            &mut day,
+            &mut hour,
+        )
+    };
+    (refusal, [year, month, day, hour])
+}
+
+/// A refusal's number, and the day count of a date.
+pub(crate) fn to_days(year: u32, month: u32, day: u32) -> (u32, u32) {
+    let mut days = 0;
+    // SAFETY: any numbers may be passed; `days` is ours alone and lives through the call.
+    let refusal = unsafe { library::tackacorn_to_days(year, month, day, &mut days) };
+    (refusal, days)
+}
+
+/// A refusal's number, and year, month and day of a day count.
+pub(crate) fn from_days(days: u32) -> (u32, [u32; 3]) {
+    let (mut year, mut month, mut day) = (0, 0, 0);
+    // SAFETY: any number may be passed; the three numbers are ours alone and live through the call.
+    let refusal = unsafe { library::tackacorn_from_days(days, &mut year, &mut month, &mut day) };
+    (refusal, [year, month, day])
+}
+
 /// A refusal in words.
 pub(crate) fn refusal_text(number: u32) -> &'static str {
     // SAFETY: any number may be asked for, and the words that answer stay and end in a zero.
     unsafe { words_at(library::tackacorn_refusal_text(number)) }
 }
 
-/// The version of the library that this crate is linked with, as `2.3.0`.
+/// The version of the library that this crate is linked with, as `2.4.0`.
 pub fn version() -> &'static str {
     // SAFETY: it takes nothing, and the words that answer stay and end in a zero.
     unsafe { words_at(library::tackacorn_version()) }

@@ -1,4 +1,4 @@
-//! Why a text, a view, a sheet or a sheet file is refused.
+//! Why a text, a view, a sheet, a sheet file or a date is refused.
 
 use crate::calls;
 use std::fmt;
@@ -293,3 +293,53 @@ impl fmt::Display for FileError {
 }
 
 impl std::error::Error for FileError {}
+
+/// Why bytes, parts or a count are no date. The first that holds is told, in this order.
+///
+/// ```
+/// use tackacorn::{DateError, Scalar};
+///
+/// let refused = |bytes: &'static str| Scalar::new(bytes.as_bytes()).to_date().unwrap_err();
+/// assert_eq!(refused("1936.1"), DateError::NotADate);
+/// assert_eq!(refused("1936.2.29"), DateError::OutOfRange);
+/// // the shape of the whole comes before the range of any part
+/// assert_eq!(refused("1936.13.x").number(), 51);
+/// let words = "refusal 52: a part of the date, or the day count, is out of range";
+/// assert_eq!(refused("1936.13.1").to_string(), words);
+/// ```
+#[derive(Clone, Copy, Debug, PartialEq, Eq, Hash)]
+#[non_exhaustive]
+pub enum DateError {
+    /// The bytes are not three or four parts of digits with points between them.
+    NotADate = 51,
+    /// A part, or a day count, is out of range: the calendar has no such day, or the day no such hour.
+    OutOfRange = 52,
+}
+
+const DATE_ERRORS: [DateError; 2] = [DateError::NotADate, DateError::OutOfRange];
+
+impl DateError {
+    /// The refusal of this number, which the library has answered.
+    pub(crate) fn new(number: u32) -> Self {
+        let error = DATE_ERRORS.into_iter().find(|error| error.number() == number);
+        error.unwrap_or_else(|| unknown(number))
+    }
+
+    /// The refusal's number, 51 or 52.
+    pub fn number(self) -> u32 {
+        self as u32
+    }
+
+    /// The refusal in words, without a full stop.
+    pub fn words(self) -> &'static str {
+        calls::refusal_text(self.number())
+    }
+}
+
+impl fmt::Display for DateError {
+    fn fmt(&self, f: &mut fmt::Formatter<'_>) -> fmt::Result {
+        write!(f, "refusal {}: {}", self.number(), self.words())
+    }
+}
+
+impl std::error::Error for DateError {}

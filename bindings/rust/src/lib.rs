@@ -4,6 +4,7 @@
 
 #[allow(unsafe_code)]
 mod calls;
+mod date;
 mod error;
 mod numbers;
 mod operator;
@@ -14,8 +15,9 @@ pub mod text;
 mod token;
 
 pub use calls::version;
-pub use error::{Error, ErrorKind, FileError, WriteError};
-pub use numbers::{FILE_HEAD, FILE_TOKEN, LEVEL_LIMIT, TEXT_LIMIT, WORDS_PER_TOKEN};
+pub use date::Date;
+pub use error::{DateError, Error, ErrorKind, FileError, WriteError};
+pub use numbers::{FILE_HEAD, FILE_TOKEN, LAST_DAY, LEVEL_LIMIT, TEXT_LIMIT, WORDS_PER_TOKEN};
 pub use numbers::{bytes_for, file_bytes_for, file_words_for, words_for};
 pub use scalar::{ReadingKind, Scalar, ScalarError};
 pub use tape::{TextTape, TextTapeParser};

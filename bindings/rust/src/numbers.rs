@@ -39,6 +39,10 @@ pub const fn file_words_for(bytes: usize) -> usize {
     WORDS_PER_TOKEN * (bytes / FILE_TOKEN)
 }
 
+/// The last day that has a count: that of 9999.12.31. A larger count is refused with
+/// [`DateError::OutOfRange`](crate::DateError::OutOfRange).
+pub const LAST_DAY: u32 = 3_649_634;
+
 pub(crate) const ARRAY: u32 = 1;
 pub(crate) const OBJECT: u32 = 2;
 pub(crate) const MIXED_CONTAINER: u32 = 3;
@@ -68,7 +72,7 @@ pub(crate) const PRECISION_LOSS: u32 = 24;
 #[cfg(test)]
 mod tests {
     use super::*;
-    use crate::{ErrorKind, FileError, ReadingKind, WriteError};
+    use crate::{DateError, ErrorKind, FileError, ReadingKind, WriteError};
 
     /// Every `TACKACORN_NAME = NUMBER` and `#define TACKACORN_NAME NUMBER` of the header.
     fn header() -> Vec<(String, u64)> {
@@ -95,6 +99,7 @@ mod tests {
         same("WORDS_PER_TOKEN", WORDS_PER_TOKEN as u64);
         same("FILE_HEAD", FILE_HEAD as u64);
         same("FILE_TOKEN", FILE_TOKEN as u64);
+        same("LAST_DAY", LAST_DAY.into());
         let codes = [
             ("ARRAY", ARRAY),
             ("OBJECT", OBJECT),
@@ -150,6 +155,7 @@ mod tests {
             ("FILE_TOO_LARGE", FileError::TooLarge),
             ("FILE_COUNT", FileError::Count),
         ];
+        let dates = [("NOT_A_DATE", DateError::NotADate), ("OUT_OF_RANGE", DateError::OutOfRange)];
         let readings = [
             ("BOOL", ReadingKind::Bool),
             ("WHOLE", ReadingKind::Whole),
@@ -160,9 +166,11 @@ mod tests {
         kinds.iter().for_each(|&(name, kind)| same(name, kind.number().into()));
         writes.iter().for_each(|&(name, error)| same(name, error.number().into()));
         files.iter().for_each(|&(name, error)| same(name, error.number().into()));
+        dates.iter().for_each(|&(name, error)| same(name, error.number().into()));
         readings.iter().for_each(|&(name, kind)| same(name, kind as u64));
-        // and it has no other besides the version: the five sizes, OK and NOTHING
-        let known = 7 + codes.len() + kinds.len() + writes.len() + files.len() + readings.len();
+        // and it has no other besides the version: the five sizes, the last day, OK and NOTHING
+        let errors = kinds.len() + writes.len() + files.len() + dates.len();
+        let known = 8 + codes.len() + errors + readings.len();
         let others = header.iter().filter(|named| !named.0.starts_with("VERSION"));
         assert_eq!(others.count(), known, "{header:?}");
     }

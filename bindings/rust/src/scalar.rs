@@ -1,6 +1,8 @@
 //! The bytes of one value, and what they can be read as.
 
 use crate::calls;
+use crate::date::Date;
+use crate::error::DateError;
 use crate::numbers::{ALL_DIGITS, INVALID_BOOL, OVERFLOW, PRECISION_LOSS};
 use std::{error, fmt};
 
@@ -259,7 +261,7 @@ impl<'a> Scalar<'a> {
     /// ```
     /// use tackacorn::{Scalar, ScalarError};
     ///
-    /// assert_eq!(Scalar::new(b"1936.1.12").to_i64_part(), Ok((1936, b".1.12".as_slice())));
+    /// assert_eq!(Scalar::new(b"1.14.2").to_i64_part(), Ok((1, b".14.2".as_slice())));
     /// assert_eq!(Scalar::new(b"-50").to_i64_part(), Ok((-50, b"".as_slice())));
     /// // the first byte is a sign or a digit
     /// assert_eq!(Scalar::new(b".5").to_i64_part(), Err(ScalarError::AllDigits));
@@ -271,14 +273,15 @@ impl<'a> Scalar<'a> {
     /// # Before you take the number
     ///
     /// Nothing of the rest is looked at: the airframe `109E4` is 109 with `E4` left over. And **a sign with no
-    /// digit behind it is 0**, so that `1936.-.12`, read part by part, has a month of 0, and `1936.-1.12` one of
-    /// -1, with no refusal. A reader of dates looks at the byte that a part begins with:
+    /// digit behind it is 0**, so that the version `1.-.2`, read part by part, has a second part of 0, and `1.-14.2`
+    /// one of -14, with no refusal. A reader of versions looks at the byte that a part begins with. (A date is read
+    /// by [`to_date`](Self::to_date), which knows the calendar.)
     ///
     /// ```
     /// use tackacorn::Scalar;
     ///
-    /// /// The three parts of `1936.1.12`: digits, a point between them, and nothing behind them.
-    /// fn date(scalar: &[u8]) -> Option<[i64; 3]> {
+    /// /// The three parts of a game version, `1.14.2`: digits, a point between them, and nothing behind them.
+    /// fn version(scalar: &[u8]) -> Option<[i64; 3]> {
     ///     let (mut parts, mut rest) = ([0; 3], scalar);
     ///     for (i, part) in parts.iter_mut().enumerate() {
     ///         if i > 0 {
@@ -289,14 +292,14 @@ impl<'a> Scalar<'a> {
     ///     }
     ///     rest.is_empty().then_some(parts)
     /// }
-    /// assert_eq!(date(b"1936.1.12"), Some([1936, 1, 12]));
-    /// assert_eq!(date(b"1936.01.012"), Some([1936, 1, 12]));
-    /// // the last has an hour, as many saves do: read a fourth part where you want it
-    /// for none in ["1936.1", "1936..12", "1936.-.12", "1936.-1.12", "1936.1.12x", "1939.9.1.12"] {
-    ///     assert_eq!(date(none.as_bytes()), None);
+    /// assert_eq!(version(b"1.14.2"), Some([1, 14, 2]));
+    /// assert_eq!(version(b"1.014.02"), Some([1, 14, 2]));
+    /// // the last has a fourth part: read it in the same way where you want one
+    /// for none in ["1.14", "1..2", "1.-.2", "1.-14.2", "1.14.2b", "1.14.2.3"] {
+    ///     assert_eq!(version(none.as_bytes()), None);
     /// }
     /// // without that look a sign is a part
-    /// assert_eq!(Scalar::new(b"-.12").to_i64_part(), Ok((0, b".12".as_slice())));
+    /// assert_eq!(Scalar::new(b"-.2").to_i64_part(), Ok((0, b".2".as_slice())));
     /// assert_eq!(Scalar::new(b"109E4").to_i64_part(), Ok((109, b"E4".as_slice())));
     /// ```
     #[inline]
@@ -320,6 +323,35 @@ impl<'a> Scalar<'a> {
     #[inline]
     pub fn to_u64(self) -> Result<u64, ScalarError> {
         answered(calls::to_u64(self.data), |_| None)
+    }
+
+    /// Reads a date: year, month and day, and perhaps an hour from 1 to 24, with points between them. A part is
+    /// digits without a sign, at least one, and zeros in front count for nothing.
+    ///
+    /// That the whole has this shape is looked for first ([`DateError::NotADate`]), then that every part is in range,
+    /// however large it is ([`DateError::OutOfRange`]). [`Date`] says what must be known before one reckons with
+    /// dates: the calendar has no leap years, and the day count leaves the hour out. To [`kind`](Self::kind) a date is
+    /// a name.
+    ///
+    /// ```
+    /// use tackacorn::{Date, DateError, Scalar};
+    ///
+    /// let date = |bytes: &'static str| Scalar::new(bytes.as_bytes()).to_date();
+    /// assert_eq!(date("1936.1.12"), Date::new(1936, 1, 12));
+    /// assert_eq!(date("0001.01.01.024")?.hour(), Some(24));
+    /// for none in ["", "1936.1", "1936..12", "1936.1.12.", "1.1.1.1.1", "-1.1.1", " 1.1.1"] {
+    ///     assert_eq!(date(none), Err(DateError::NotADate));
+    /// }
+    /// for none in ["1936.2.29", "0.1.1", "10000.1.1", "1.13.1", "1.1.1.0", "1.1.1.25"] {
+    ///     assert_eq!(date(none), Err(DateError::OutOfRange));
+    /// }
+    /// assert_eq!(date("99999999999999999999.1.1"), Err(DateError::OutOfRange));
+    /// assert_eq!(date("99999999999999999999.1.x"), Err(DateError::NotADate));
+    /// # Ok::<(), DateError>(())
+    /// ```
+    #[inline]
+    pub fn to_date(self) -> Result<Date, DateError> {
+        Date::read(self.data)
     }
 
     /// What an unquoted scalar's bytes are. The Rust has no such call.

@@ -15,7 +15,7 @@ use Rattle.scalar.specs.Digits.{is-digit, digits-alone, digit-first, digit-run,
 use Rattle.scalar.specs.Float.{rest}
 use Rattle.scalar.proofs.Rests.{rest-digit, rest-other, run-alone, rest-plain}
 use Rattle.scalar.proofs.Runs.{digit-bounds, run-digit, run-other}
-use Rattle.date.specs.Reading.{in-front, parts, is-part, all-parts, right-number, shaped, past-all, part-at, point-first, pointed-part}
+use Rattle.date.specs.Reading.{in-front, parts, begins, is-part, all-parts, right-number, shaped, past-all, part-at, point-first, pointed-part}
 use Rattle.date.specs.declared.reading.Part.the-variants as Part
 use Rattle.date.specs.declared.reading.Part.{Part}
 use Rattle.date.proofs.Ranges.{both}
@@ -76,10 +76,20 @@ both-false : (a : Bool) → (a && false) ≡ false
 both-false true = refl
 both-false false = refl
 
+-- a part begins with a digit, so it is digits alone, and the other way round where there is a digit
+begins-digit : (b : ℕ) → begins b ≡ is-digit b
+unfolding begins
+begins-digit b = by-bool (is-digit b) (λ t. rw (begins, t)) (λ f. rw (begins, f))
+
+pub part-digits : (b : ℕ) (p : List ℕ) → is-part (b ∷ p) ≡ digits-alone (b ∷ p)
+unfolding is-part digits-alone
+part-digits b p = ap (λ (a : Bool). a && digits-alone p) (begins-digit b)
+
 run-part : (s : List ℕ) → digit-first s ≡ true → is-part (digit-run s) ≡ true
-unfolding is-part digit-first
+unfolding digit-first
 run-part [] e = absurd (false≢true e)
-run-part (b ∷ s) e = rw (run-digit b s e, is-part, e) (run-alone s)
+run-part (b ∷ s) e =
+    ap is-part (run-digit b s e) ∙ part-digits b (digit-run s) ∙ ap digits-alone (sym (run-digit b s e)) ∙ run-alone (b ∷ s)
 
 -- the end: they are the last part
 ended : (r t : List ℕ) → t ≡ [] → onto r (parts t) ≡ r ∷ []
@@ -99,9 +109,8 @@ stained [] b p e = rw (digits-alone, e)
 stained (x ∷ r) b p e = ap (λ (a : Bool). is-digit x && a) (stained r b p e) ∙ both-false (is-digit x)
 
 stained-part : (r : List ℕ) (b : ℕ) (p : List ℕ) → is-digit b ≡ false → is-part (r ++ b ∷ p) ≡ false
-unfolding is-part
-stained-part [] b p e = ap (λ (a : Bool). a && digits-alone p) e
-stained-part (x ∷ r) b p e = ap (λ (a : Bool). is-digit x && a) (stained r b p e) ∙ both-false (is-digit x)
+stained-part [] b p e = part-digits b p ∙ stained [] b p e
+stained-part (x ∷ r) b p e = part-digits x (r ++ b ∷ p) ∙ stained (x ∷ r) b p e
 
 stained-parts : (r : List ℕ) (b : ℕ) (ps : List (List ℕ)) → is-digit b ≡ false → all-parts (onto r (in-front b ps)) ≡ false
 unfolding all-parts

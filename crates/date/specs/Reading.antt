@@ -27,10 +27,14 @@ unfoldable pub parts : List ℕ → List (List ℕ)
 parts [] = [] ∷ []
 parts (b ∷ d) = elim (eqb b point) [ true ↦ [] ∷ parts d | false ↦ in-front b (parts d) ]
 
--- each has one or more digits, and nothing else
+-- each begins with a digit, and not with a sign
+unfoldable pub begins : ℕ → Bool
+begins b = is-digit b
+
+-- and has digits alone, one or more
 unfoldable pub is-part : List ℕ → Bool
 is-part [] = false
-is-part (b ∷ p) = is-digit b && digits-alone p
+is-part (b ∷ p) = begins b && digits-alone p
 
 unfoldable pub all-parts : List (List ℕ) → Bool
 all-parts [] = true

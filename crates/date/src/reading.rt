@@ -11,6 +11,9 @@ ghost use Rattle.date.specs.Reading.{past-all, part-at as part-in, point
 // The least number that is out of every part's range. It stands for all above it.
 const PAST_ALL: u32 = MOST_YEAR + 1;
 
+// Hours are counted from 1; an hour of 0 is refused where one stands.
+const FIRST_HOUR: u32 = 1;
+
 // A part at a place: its number, and the place after it; or that none stands there.
 pub enum Part {
     Is(u32, usize),
@@ -88,7 +91,7 @@ pub fn to_date(d: &[u8]) -> DateRead
     if after_hour < d.len() {
         return DateRead::NotADate;
     }
-    if hour < 1 {
+    if hour < FIRST_HOUR {
         return DateRead::OutOfRange;
     }
     ranged(Date {

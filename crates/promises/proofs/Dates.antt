@@ -16,7 +16,7 @@ use Rattle.scalar.specs.Digits.{is-digit, digits-alone, digit-run, value}
 use Rattle.scalar.specs.Numbers.{answered}
 use Rattle.scalar.proofs.Rests.{run-alone}
 use Rattle.date.specs.Calendar.{date, month-days, together, days-in, days-before, within, in-range, Ranged, day-of, days-of, last-day, date-of, date-at}
-use Rattle.date.specs.Reading.{in-front, parts, is-part, all-parts, right-number, shaped, numbers, told-by, hour-zero, out-of-range, dated, date-read}
+use Rattle.date.specs.Reading.{in-front, parts, begins, is-part, all-parts, right-number, shaped, numbers, told-by, hour-zero, out-of-range, dated, date-read}
 use Rattle.date.specs.Refusals.{date-refusal-of, date-value-of, days-refusal-of, days-value-of}
 use Rattle.date.specs.declared.calendar.Date.{Date}
 use Rattle.date.specs.declared.calendar.DateRead.the-variants as Dated
@@ -27,7 +27,7 @@ use Rattle.date.proofs.Days.{days-in-range, days-out, date-in-range, date-past,
 use Rattle.date.proofs.Months.{table-length, table-days, before-later, before-year}
 use Rattle.date.proofs.Ranges.{both, ranged-is, is-ranged, ranged-in}
 use Rattle.date.proofs.Readings.{reads-day, reads-hour, by-date}
-use Rattle.date.proofs.Shapes.{parts-some, parts-point, parts-other, digit-no-point}
+use Rattle.date.proofs.Shapes.{parts-some, parts-point, parts-other, digit-no-point, part-digits}
 use Rattle.report.specs.Digits.{decimal}
 use Rattle.report.proofs.Decimal.{decimal-value, decimal-run, decimal-some}
 use Rattle.promises.specs.Cases.{bytes}
@@ -196,16 +196,15 @@ apart (b ∷ d) =
 
 -- ---- and parts that are joined are the scalar's
 
--- whoever is a part is digits alone, and the other way round where there is a digit
+-- a part is digits alone, and the other way round where there is a digit
 part-alone : (p : List ℕ) → is-part p ≡ true → digits-alone p ≡ true
-unfolding is-part digits-alone
+unfolding digits-alone
 part-alone [] e = refl
-part-alone (b ∷ p) e = e
+part-alone (b ∷ p) e = sym (part-digits b p) ∙ e
 
 alone-part : (p : List ℕ) → 0 < length p → digits-alone p ≡ true → is-part p ≡ true
-unfolding is-part digits-alone
 alone-part [] h e = absurd (omega arith)
-alone-part (b ∷ p) h e = e
+alone-part (b ∷ p) h e = part-digits b p ∙ e
 
 -- digits before a point, and digits before the end
 pointed-parts : (p s : List ℕ) → digits-alone p ≡ true → parts (p ++ point ∷ s) ≡ p ∷ parts s
@@ -237,14 +236,14 @@ joined-shaped p ps e f =
 -- ---- written out
 
 pub written-digits : Written-digits
-unfolding value is-part digits-alone is-digit
+unfolding value digits-alone is-digit
 written-digits =
     record {
       decimals = λ n. record {
         digits = alone-part (decimal n) (decimal-some n) (ap digits-alone (sym (decimal-run n)) ∙ run-alone (decimal n));
         number = decimal-value n;
       };
-      zeros = λ p n w. record { digits = part-alone p (w .digits); number = w .number };
+      zeros = λ p n w. record { digits = part-digits digit-zero p ∙ part-alone p (w .digits); number = w .number };
     }
 
 module _ (t : Date) (e : in-range t ≡ true) where
@@ -298,6 +297,6 @@ written-reads t e =
 -- ---- both sides of each edge
 
 pub edges-hold : Edges-hold
-unfolding bytes edges is-digit digits-alone value parts is-part all-parts right-number shaped numbers hour-zero out-of-range dated date-read
+unfolding bytes edges is-digit digits-alone value parts begins is-part all-parts right-number shaped numbers hour-zero out-of-range dated date-read
     first-of days-of in-range within days-in month-days day-of days-before together
 edges-hold = refl

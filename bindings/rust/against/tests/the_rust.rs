@@ -1,6 +1,7 @@
 //! The crate beside the Rust's own types, on the records of the comparison: every token and its place in
 //! the text, every reading bit for bit, every number in front with what is left over, every refusal by
-//! number and place, every sheet and view, what is written of a text, and sheets on file.
+//! number and place, every sheet and view, what is written of a text, and sheets on file. Dates, of which
+//! the Rust's files at hand have nothing, are held against the comparison's own reading and calendar.
 //! `SEED` and `CASES` choose others than are tried by themselves.
 
 use compare::generate::Generator;
@@ -10,7 +11,8 @@ use compare::{kind, oracle, texts};
 use std::env;
 use std::ops::Range;
 use tackacorn::sheet::{self, Sheet};
-use tackacorn::{FileError, Scalar, ScalarError, TextTape, TextToken, WORDS_PER_TOKEN, WriteError};
+use tackacorn::{Date, DateError, FileError, Scalar, ScalarError, TextTape, TextToken, WriteError};
+use tackacorn::{LAST_DAY, WORDS_PER_TOKEN};
 
 fn number(name: &str, default: u64) -> u64 {
     env::var(name).map_or(default, |word| word.parse().expect("a number"))
@@ -65,6 +67,29 @@ fn same_readings(bytes: &[u8]) {
         // ASCII goes through the Rust's decoder, which is not among the files at hand
         && (ours.is_ascii() || format!("{ours} {ours:?}") == format!("{theirs} {theirs:?}"));
     assert!(same, "the readings of {:?} differ", shown(bytes));
+}
+
+// ---- dates ----
+
+/// Year, month and day.
+fn parts(date: Date) -> [u32; 3] {
+    [date.year(), date.month(), date.day()]
+}
+
+/// A scalar as a date with its count, here and by the comparison's own reading.
+fn same_date(scalar: &[u8]) {
+    let told = |date: Date| {
+        let [year, month, day] = parts(date);
+        [year, month, day, date.hour().unwrap_or(0), date.days()]
+    };
+    let ours = Scalar::new(scalar).to_date().map(told).map_err(DateError::number);
+    assert_eq!(ours, compare::date::read(scalar).map_err(u32::from), "{:?}", shown(scalar));
+}
+
+/// The date of a count, here and by the comparison's own calendar.
+fn same_day(count: u32) {
+    let ours = Date::from_days(count).map(parts).map_err(DateError::number);
+    assert_eq!(ours, compare::date::of(count).map_err(u32::from), "{count}");
 }
 
 // ---- tokens ----
@@ -219,7 +244,7 @@ fn same_unpack(asked: &ToUnpack<'_>) {
 fn the_records_of_the_comparison() {
     let (seed, cases) = (number("SEED", 2026), number("CASES", 500_000));
     let (mut parses, mut written, mut scalars, mut fronts, mut sheets) = (0, 0, 0, 0, 0);
-    let (mut views, mut writes, mut files) = (0, 0, 0);
+    let (mut views, mut writes, mut files, mut dates) = (0, 0, 0, 0);
     for record in Generator::new(seed).take(cases as usize) {
         match record.question().expect("a good record") {
             Question::Text { text, capacity } => {
@@ -235,6 +260,14 @@ fn the_records_of_the_comparison() {
             Question::Leading { bytes } => {
                 same_part_read(bytes);
                 fronts += 1;
+            }
+            Question::Date { scalar } => {
+                same_date(scalar);
+                dates += 1;
+            }
+            Question::Day { count } => {
+                same_day(count);
+                dates += 1;
             }
             Question::Check { length, count, words } => {
                 let sound = compare::sheet::sound(length, &words, count);
@@ -264,8 +297,15 @@ fn the_records_of_the_comparison() {
     }
     println!(
         "seed {seed}: {parses} texts, {written} of them written back, {scalars} scalars, {fronts} numbers in \
-         front, {sheets} sheets, {views} views, {writes} sheets to write and {files} on file, no difference"
+         front, {dates} dates and counts, {sheets} sheets, {views} views, {writes} sheets to write and {files} on \
+         file, no difference"
     );
+}
+
+/// Every day that there is, and the first counts that are none.
+#[test]
+fn every_day_by_the_calendar_of_the_comparison() {
+    (0..=LAST_DAY + 1000).for_each(same_day);
 }
 
 /// One tape for many texts, long ones among them: what it held before never shows.

@@ -52,10 +52,7 @@ add-t8 c =
 
 returns-2 : tie.Need-returns-2
 unfolding days-of day-of
-returns-2 c =
-    let date = c .before .before .before .before .before .args .date in
-    rw (days-of, tested (c .before .before .before))
-    (ap (λ (n : ℕ). Is ((date .year - 1) * year-days + n + (date .day - 1))) (c .before .days-before .ensures))
+returns-2 c = rw (days-of, tested (c .before .before .before)) (ap Is (omega (arith, c .before .days-before .ensures)))
 
 pub to-days-spec : {M : Type 1} → statement M
 to-days-spec =
