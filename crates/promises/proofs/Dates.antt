@@ -32,7 +32,8 @@ use Rattle.report.specs.Digits.{decimal}
 use Rattle.report.proofs.Decimal.{decimal-value, decimal-run, decimal-some}
 use Rattle.promises.specs.Cases.{bytes}
 use Rattle.promises.specs.Dates.{Table-holds, In-range, without-hour, Date-and-back, Day-and-back, Earlier, In-order, Exactly, Ends-hold, Else-refused}
-use Rattle.promises.specs.Dates.{date-reasons, Read, joined, Apart, Writes, Written-digits, Reads-itself, hour-part, written, Written-reads, edges, Edges-hold}
+use Rattle.promises.specs.Dates.{date-reasons, Read, joined, Apart, Writes, Written-digits, Reads-itself, hour-part, written, Written-reads}
+use Rattle.promises.specs.Dates.{edges, Edges-hold}
 use Rattle.promises.specs.LeadingNumber.{first-number}
 
 -- ---- the calendar
@@ -228,7 +229,8 @@ joined-parts p (q ∷ ps) e =
     let tests = both (is-part p) (all-parts (q ∷ ps)) e in
     pointed-parts p (joined (q ∷ ps)) (part-alone p (tests .0)) ∙ ap (λ (qs : List (List ℕ)). p ∷ qs) (joined-parts q ps (tests .1))
 
-joined-shaped : (p : List ℕ) (ps : List (List ℕ)) → all-parts (p ∷ ps) ≡ true → right-number (length (p ∷ ps)) ≡ true → shaped (joined (p ∷ ps)) ≡ true
+joined-shaped : (p : List ℕ) (ps : List (List ℕ)) → all-parts (p ∷ ps) ≡ true → right-number (length (p ∷ ps)) ≡ true
+    → shaped (joined (p ∷ ps)) ≡ true
 unfolding shaped
 joined-shaped p ps e f =
     ap (λ (qs : List (List ℕ)). right-number (length qs) && all-parts qs) (joined-parts p ps e) ∙ (λ j. f j && e j)
