@@ -1,7 +1,6 @@
 -- Laws of months that stand one after another: the days before each, and how many end before a day.
 -- Assumes nothing.
-use mathlib.Core.Path.{_≡_, refl, sym, _∙_, ap}
-use mathlib.Core.Bool.{Bool, true, false}
+use mathlib.Core.Path.{_≡_, refl, _∙_, ap}
 use mathlib.Core.List.{List, [], _∷_}
 use Prim.Native.Nat.{ℕ, zero, suc, _+_, _-_, _≤_, _<_}
 use native.Mathlib.Nat.{le-of-suc-le-suc, not-suc-le-zero}
@@ -16,21 +15,14 @@ use Rattle.date.specs.Calendar.{together, months-past, month-days, month
 -- ---- of any months
 
 -- the days before a month and its own are those before the next
-pub next-month : (ns : List ℕ) (k : ℕ) → k < length ns → together (take (suc k) ns) ≡ together (take k ns) + getD ns k 0
+next-month : (ns : List ℕ) (k : ℕ) → k < length ns → together (take (suc k) ns) ≡ together (take k ns) + getD ns k 0
 unfolding together
 next-month [] k h = absurd (not-suc-le-zero h)
 next-month (n ∷ ns) zero h = omega arith
 next-month (n ∷ ns) (suc k) h = omega (arith, next-month ns k (le-of-suc-le-suc h))
 
--- no month has more days than all
-pub one-of-all : (ns : List ℕ) (k : ℕ) → getD ns k 0 ≤ together ns
-unfolding together
-one-of-all [] k = omega arith
-one-of-all (n ∷ ns) zero = omega arith
-one-of-all (n ∷ ns) (suc k) = omega (arith, one-of-all ns k)
-
 -- a month and those before it have no more days than all, and than those before a later one
-pub some-of-all : (ns : List ℕ) (j : ℕ) → together (take j ns) + getD ns j 0 ≤ together ns
+some-of-all : (ns : List ℕ) (j : ℕ) → together (take j ns) + getD ns j 0 ≤ together ns
 unfolding together
 some-of-all [] zero = omega arith
 some-of-all [] (suc j) = omega arith
@@ -46,11 +38,11 @@ before-later (n ∷ ns) zero (suc k) h = omega arith
 before-later (n ∷ ns) (suc j) (suc k) h = omega (arith, before-later ns j k (le-of-suc-le-suc h))
 
 -- the month of a day: it ends after it
-pub past-none : (n : ℕ) (ns : List ℕ) (day : ℕ) → day < n → months-past (n ∷ ns) day ≡ 0
+past-none : (n : ℕ) (ns : List ℕ) (day : ℕ) → day < n → months-past (n ∷ ns) day ≡ 0
 unfolding months-past
 past-none n ns day h = rw (months-past, lt-ltb day n h)
 
-pub past-one : (n : ℕ) (ns : List ℕ) (day : ℕ) → n ≤ day → months-past (n ∷ ns) day ≡ suc (months-past ns (day - n))
+past-one : (n : ℕ) (ns : List ℕ) (day : ℕ) → n ≤ day → months-past (n ∷ ns) day ≡ suc (months-past ns (day - n))
 unfolding months-past
 past-one n ns day h = rw (months-past, le-ltb day n h)
 
@@ -64,12 +56,12 @@ past-here (n ∷ ns) (suc k) day h small =
     ∙ ap suc (ap (months-past ns) (omega arith) ∙ past-here ns k day (le-of-suc-le-suc h) small)
 
 -- and of any day of the year
-pub record Found (ns : List ℕ) (day past : ℕ) : Type 0 where
+record Found (ns : List ℕ) (day past : ℕ) : Type 0 where
   pub among : past < length ns
   pub after : together (take past ns) ≤ day
   pub before : day < together (take past ns) + getD ns past 0
 
-pub past-found : (ns : List ℕ) (day : ℕ) → day < together ns → Found ns day (months-past ns day)
+past-found : (ns : List ℕ) (day : ℕ) → day < together ns → Found ns day (months-past ns day)
 unfolding together
 past-found [] day h = absurd (not-suc-le-zero h)
 past-found (n ∷ ns) day h =
@@ -94,11 +86,6 @@ pub table-days : together month-days ≡ year-days
 unfolding month-days together
 table-days = refl
 
--- no month has more days than a year
-pub days-in-year : (month : ℕ) → days-in month ≤ year-days
-unfolding days-in
-days-in-year month = omega (arith, one-of-all month-days (month - 1), table-days)
-
 -- none are before the first, and those before a month and its own are before the next
 pub before-first : days-before 1 ≡ 0
 unfolding days-before month-days together
@@ -115,26 +102,30 @@ pub before-year : (month : ℕ) → days-before month + days-in month ≤ year-d
 unfolding days-before days-in
 before-year month = omega (arith, some-of-all month-days (month - 1), table-days)
 
+-- so no month has more days than a year
+pub days-in-year : (month : ℕ) → days-in month ≤ year-days
+days-in-year month = omega (arith, before-year month)
+
 -- ---- the month of a day of the year
 
 -- what is left of the year from a month on
 abbrev pub from-month : ℕ → List ℕ
 from-month month = drop (month - 1) month-days
 
-pub from-here : (month : ℕ) → 1 ≤ month → month ≤ months → from-month month ≡ days-in month ∷ from-month (month + 1)
+from-here : (month : ℕ) → 1 ≤ month → month ≤ months → from-month month ≡ days-in month ∷ from-month (month + 1)
 unfolding days-in
 from-here month h k =
     let step : suc (month - 1) ≡ month + 1 - 1 = omega arith in
     drop-cons month-days (month - 1) 0 (omega (arith, table-length)) ∙ ap (λ (j : ℕ). days-in month ∷ drop j month-days) step
 
 -- a day of the first of them
-pub here : (month left : ℕ) → 1 ≤ month → month ≤ months → left < days-in month → months-past (from-month month) left ≡ 0
-here month left h k small = ap (λ (ns : List ℕ). months-past ns left) (from-here month h k) ∙ past-none (days-in month) (from-month (month + 1)) left small
+pub in-this-month : (month left : ℕ) → 1 ≤ month → month ≤ months → left < days-in month → months-past (from-month month) left ≡ 0
+in-this-month month left h k small = ap (λ (ns : List ℕ). months-past ns left) (from-here month h k) ∙ past-none (days-in month) (from-month (month + 1)) left small
 
 -- and one of a later month
-pub later : (month left : ℕ) → 1 ≤ month → month ≤ months → days-in month ≤ left
+pub in-a-later-month : (month left : ℕ) → 1 ≤ month → month ≤ months → days-in month ≤ left
     → months-past (from-month month) left ≡ suc (months-past (from-month (month + 1)) (left - days-in month))
-later month left h k large = ap (λ (ns : List ℕ). months-past ns left) (from-here month h k) ∙ past-one (days-in month) (from-month (month + 1)) left large
+in-a-later-month month left h k large = ap (λ (ns : List ℕ). months-past ns left) (from-here month h k) ∙ past-one (days-in month) (from-month (month + 1)) left large
 
 pub left-over : (month : ℕ) → 1 ≤ month → month ≤ months → together (from-month month) ≡ days-in month + together (from-month (month + 1))
 unfolding together

@@ -2,7 +2,7 @@
 -- Assumes nothing.
 use mathlib.Core.Path.{_≡_, refl, sym, _∙_, ap}
 use mathlib.Core.Bool.{Bool, true, false, _&&_, false≢true}
-use Prim.Native.Nat.{ℕ, _+_, _≤_, _<_, min}
+use Prim.Native.Nat.{ℕ, _≤_, min}
 use native.Mathlib.Omega.{arith}
 use borrow.Author.Tests.{le-leb, leb-true}
 use lib.Dec.{leb}
@@ -23,7 +23,7 @@ pub is-within : (n most : ℕ) → within n most ≡ true → (1 ≤ n) × (n �
 unfolding within
 is-within n most e = let tests = both (leb 1 n) (leb n most) e in (leb-true 1 n (tests .0), leb-true n most (tests .1))
 
-pub within-is : (n most : ℕ) → 1 ≤ n → n ≤ most → within n most ≡ true
+within-is : (n most : ℕ) → 1 ≤ n → n ≤ most → within n most ≡ true
 unfolding within
 within-is n most h k = rw (within, le-leb 1 n h) (le-leb n most k)
 
@@ -60,37 +60,31 @@ pub ranged-out : (t : Date) → in-range t ≡ false → ranged t ≡ OutOfRange
 unfolding ranged
 ranged-out t e = rw (ranged, e)
 
--- ---- a number that is out of every range may stand for all above it
-
--- a number that is in some range stands for itself
-bounded-is : (n : ℕ) → n ≤ most-year → min n past-all ≡ n
-bounded-is n h = omega arith
-
-unbounded-is : (n : ℕ) → min n past-all ≤ most-year → min n past-all ≡ n
-unbounded-is n h = omega arith
+-- ---- a number above every range may stand for all above it
 
 -- the date of four such numbers
 abbrev pub bounded : ℕ → ℕ → ℕ → ℕ → Date
 bounded year month day hour = date (min year past-all) (min month past-all) (min day past-all) (min hour past-all)
 
 module _ (year month day hour : ℕ) where
+  -- numbers within some range stand for themselves
+  bounded-is : min year past-all ≤ most-year → min month past-all ≤ most-year → min day past-all ≤ most-year → min hour past-all ≤ most-year
+      → bounded year month day hour ≡ date year month day hour
+  bounded-is a b c d =
+      let y : min year past-all ≡ year = omega (arith, a) in
+      let m : min month past-all ≡ month = omega (arith, b) in
+      let k : min day past-all ≡ day = omega (arith, c) in
+      let h : min hour past-all ≡ hour = omega (arith, d) in
+      λ j. date (y j) (m j) (k j) (h j)
+
   in-range-same : Ranged (date year month day hour) → bounded year month day hour ≡ date year month day hour
   in-range-same r =
-      let small : day ≤ most-year = omega (arith, r .day .1, days-in-year month) in
-      let y = bounded-is year (r .year .1) in
-      let m = bounded-is month (omega (arith, r .month .1)) in
-      let d = bounded-is day small in
-      let h = bounded-is hour (omega (arith, r .hour)) in
-      λ j. date (y j) (m j) (d j) (h j)
+      bounded-is (omega (arith, r .year)) (omega (arith, r .month)) (omega (arith, r .day, days-in-year month)) (omega (arith, r .hour))
 
   bounded-same : Ranged (bounded year month day hour) → bounded year month day hour ≡ date year month day hour
   bounded-same r =
-      let small : min day past-all ≤ most-year = omega (arith, r .day .1, days-in-year (min month past-all)) in
-      let y = unbounded-is year (r .year .1) in
-      let m = unbounded-is month (omega (arith, r .month .1)) in
-      let d = unbounded-is day small in
-      let h = unbounded-is hour (omega (arith, r .hour)) in
-      λ j. date (y j) (m j) (d j) (h j)
+      bounded-is (omega (arith, r .year)) (omega (arith, r .month)) (omega (arith, r .day, days-in-year (min month past-all)))
+      (omega (arith, r .hour))
 
   -- so what is answered stays the same
   pub bounded-ranged : ranged (bounded year month day hour) ≡ ranged (date year month day hour)

@@ -6,17 +6,17 @@ use mathlib.Core.List.{List, [], _∷_, map}
 use Prim.Native.Nat.{ℕ, _+_, _≤_, _<_}
 use native.Mathlib.Omega.{arith}
 use borrow.Author.Tests.{ne-eqb}
-use lib.ListN.{length, drop}
+use lib.ListN.{length}
 use Rattle.data.proofs.Cases.{by-bool}
 use Rattle.data.specs.Reasons.{first-of}
-use Rattle.scalar.specs.Digits.{digit-run, value}
+use Rattle.scalar.specs.Digits.{value}
 use Rattle.date.specs.Calendar.{date, in-range, ranged}
 use Rattle.date.specs.Reading.{right-number, shaped, numbers, told-by, hour-zero, out-of-range, dated, date-read}
 use Rattle.date.specs.declared.calendar.Date.{Date}
 use Rattle.date.specs.declared.calendar.DateRead.the-variants.{Is, NotADate, OutOfRange}
 use Rattle.date.specs.declared.calendar.DateRead.{DateRead}
 use Rattle.date.proofs.Ranges.{ranged-in, ranged-out, bounded-ranged}
-use Rattle.date.proofs.Shapes.{Taken, closed, closed-parts}
+use Rattle.date.proofs.Shapes.{run, Taken, closed, closed-parts}
 
 -- ---- by the reasons to refuse
 
@@ -70,16 +70,13 @@ module _ (d : List ℕ) (shape : shaped d ≡ true) where
   unfolding hour-zero
   reads-hour year month day hour e h = by-range (year ∷ month ∷ day ∷ hour ∷ []) e (ne-eqb hour 0 (λ z. omega (arith, z)))
 
-  pub reads-no-hour : (year month day : ℕ) → numbers d ≡ year ∷ month ∷ day ∷ 0 ∷ [] → date-read d ≡ OutOfRange
+  reads-no-hour : (year month day : ℕ) → numbers d ≡ year ∷ month ∷ day ∷ 0 ∷ [] → date-read d ≡ OutOfRange
   unfolding hour-zero
   reads-no-hour year month day e = by-zero (year ∷ month ∷ day ∷ 0 ∷ []) e refl
 
 -- ---- and by the parts that were taken
 
--- the bytes of the part at a place, and the number that they write
-abbrev run : List ℕ → ℕ → List ℕ
-run d at = digit-run (drop at d)
-
+-- the number that the digits at a place write
 abbrev written : List ℕ → ℕ → ℕ
 written d at = value 0 (run d at)
 

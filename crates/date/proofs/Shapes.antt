@@ -1,7 +1,7 @@
 -- The parts of a scalar, read one after another from its front.
 -- Assumes nothing.
 use mathlib.Core.Path.{_≡_, refl, sym, _∙_, ap}
-use mathlib.Core.Bool.{Bool, true, false, _&&_, false≢true}
+use mathlib.Core.Bool.{Bool, true, false, _&&_, false≢true, and-false, and-self-left}
 use mathlib.Core.List.{List, [], _∷_, _++_, append-assoc, append-nil}
 use Prim.Native.Nat.{ℕ, suc, _+_, _≤_, _<_, min}
 use native.Mathlib.Omega.{arith}
@@ -15,27 +15,23 @@ use Rattle.scalar.specs.Digits.{is-digit, digits-alone, digit-first, digit-run,
 use Rattle.scalar.specs.Float.{rest}
 use Rattle.scalar.proofs.Rests.{rest-digit, rest-other, run-alone, rest-plain}
 use Rattle.scalar.proofs.Runs.{digit-bounds, run-digit, run-other}
-use Rattle.date.specs.Reading.{in-front, parts, begins, is-part, all-parts, right-number, shaped, past-all, part-at, point-first, pointed-part}
+use Rattle.date.specs.Reading.{onto, parts, is-part, all-parts, day-parts, hour-parts, right-number, shaped, past-all, part-at, point-first}
+use Rattle.date.specs.Reading.{pointed-part}
 use Rattle.date.specs.declared.reading.Part.the-variants as Part
 use Rattle.date.specs.declared.reading.Part.{Part}
 use Rattle.date.proofs.Ranges.{both}
 
 -- ---- the first part begins with the digits in front
 
--- bytes in front of the first part
-abbrev onto : List ℕ → List (List ℕ) → List (List ℕ)
-onto p [] = p ∷ []
-onto p (q ∷ qs) = (p ++ q) ∷ qs
-
-in-front-onto : (b : ℕ) (p : List ℕ) (ps : List (List ℕ)) → in-front b (onto p ps) ≡ onto (b ∷ p) ps
-in-front-onto b p [] = refl
-in-front-onto b p (q ∷ qs) = refl
+-- bytes in front of bytes
+onto-onto : (b : ℕ) (p : List ℕ) (ps : List (List ℕ)) → onto (b ∷ []) (onto p ps) ≡ onto (b ∷ p) ps
+onto-onto b p [] = refl
+onto-onto b p (q ∷ qs) = refl
 
 -- there is always a part
-module _ (b : ℕ) where
-  in-front-some : (ps : List (List ℕ)) → 0 < length (in-front b ps)
-  in-front-some [] = omega arith
-  in-front-some (p ∷ ps) = omega arith
+onto-some : (p : List ℕ) (ps : List (List ℕ)) → 0 < length (onto p ps)
+onto-some p [] = omega arith
+onto-some p (q ∷ qs) = omega arith
 
 pub parts-some : (s : List ℕ) → 0 < length (parts s)
 unfolding parts
@@ -43,7 +39,7 @@ parts-some [] = omega arith
 parts-some (b ∷ s) =
     by-bool (eqb b point)
     (λ t. rw (parts, t) (omega arith))
-    (λ f. rw (parts, f) (in-front-some b (parts s)))
+    (λ f. rw (parts, f) (onto-some (b ∷ []) (parts s)))
 
 onto-nothing : (ps : List (List ℕ)) → 0 < length ps → onto [] ps ≡ ps
 onto-nothing [] h = absurd (omega arith)
@@ -54,7 +50,7 @@ pub parts-point : (b : ℕ) (s : List ℕ) → eqb b point ≡ true → parts (b
 unfolding parts
 parts-point b s e = rw (parts, e)
 
-pub parts-other : (b : ℕ) (s : List ℕ) → eqb b point ≡ false → parts (b ∷ s) ≡ in-front b (parts s)
+pub parts-other : (b : ℕ) (s : List ℕ) → eqb b point ≡ false → parts (b ∷ s) ≡ onto (b ∷ []) (parts s)
 unfolding parts
 parts-other b s e = rw (parts, e)
 
@@ -66,24 +62,16 @@ unfolding parts digit-run
 parts-run [] = refl
 parts-run (b ∷ s) =
     by-bool (is-digit b)
-    (λ t. parts-other b s (digit-no-point b t) ∙ ap (in-front b) (parts-run s) ∙ in-front-onto b (digit-run s) (parts (rest s))
+    (λ t. parts-other b s (digit-no-point b t) ∙ ap (onto (b ∷ [])) (parts-run s) ∙ onto-onto b (digit-run s) (parts (rest s))
     ∙ sym (λ j. onto (run-digit b s t j) (parts (rest-digit b s t j))))
     (λ f. sym (onto-nothing (parts (b ∷ s)) (parts-some (b ∷ s))) ∙ sym (λ j. onto (run-other b s f j) (parts (rest-other b s f j))))
 
 -- ---- what stands after them decides whether they are a part
 
-both-false : (a : Bool) → (a && false) ≡ false
-both-false true = refl
-both-false false = refl
-
--- a part begins with a digit, so it is digits alone, and the other way round where there is a digit
-begins-digit : (b : ℕ) → begins b ≡ is-digit b
-unfolding begins
-begins-digit b = by-bool (is-digit b) (λ t. rw (begins, t)) (λ f. rw (begins, f))
-
+-- a part with a byte in it is digits alone
 pub part-digits : (b : ℕ) (p : List ℕ) → is-part (b ∷ p) ≡ digits-alone (b ∷ p)
-unfolding is-part digits-alone
-part-digits b p = ap (λ (a : Bool). a && digits-alone p) (begins-digit b)
+unfolding is-part digit-first digits-alone
+part-digits b p = and-self-left (is-digit b) (digits-alone p)
 
 run-part : (s : List ℕ) → digit-first s ≡ true → is-part (digit-run s) ≡ true
 unfolding digit-first
@@ -106,13 +94,13 @@ pointed r (b ∷ u) e = ap (onto r) (parts-point b u e) ∙ ap (λ (p : List ℕ
 stained : (r : List ℕ) (b : ℕ) (p : List ℕ) → is-digit b ≡ false → digits-alone (r ++ b ∷ p) ≡ false
 unfolding digits-alone
 stained [] b p e = rw (digits-alone, e)
-stained (x ∷ r) b p e = ap (λ (a : Bool). is-digit x && a) (stained r b p e) ∙ both-false (is-digit x)
+stained (x ∷ r) b p e = ap (λ (a : Bool). is-digit x && a) (stained r b p e) ∙ and-false (is-digit x)
 
 stained-part : (r : List ℕ) (b : ℕ) (p : List ℕ) → is-digit b ≡ false → is-part (r ++ b ∷ p) ≡ false
 stained-part [] b p e = part-digits b p ∙ stained [] b p e
 stained-part (x ∷ r) b p e = part-digits x (r ++ b ∷ p) ∙ stained (x ∷ r) b p e
 
-stained-parts : (r : List ℕ) (b : ℕ) (ps : List (List ℕ)) → is-digit b ≡ false → all-parts (onto r (in-front b ps)) ≡ false
+stained-parts : (r : List ℕ) (b : ℕ) (ps : List (List ℕ)) → is-digit b ≡ false → all-parts (onto r (onto (b ∷ []) ps)) ≡ false
 unfolding all-parts
 stained-parts r b [] e = ap (λ (a : Bool). a && true) (stained-part r b [] e)
 stained-parts r b (p ∷ ps) e = ap (λ (a : Bool). a && all-parts ps) (stained-part r b p e)
@@ -124,12 +112,13 @@ other r (b ∷ u) e f h = ap (λ (ps : List (List ℕ)). all-parts (onto r ps)) 
 
 -- bytes that begin with no digit have no first part
 no-part : (s : List ℕ) → digit-first s ≡ false → all-parts (parts s) ≡ false
-unfolding digit-first parts all-parts is-part
+unfolding digit-first digits-alone parts all-parts is-part
 no-part [] e = refl
 no-part (b ∷ s) e =
     by-bool (eqb b point)
     (λ t. ap all-parts (parts-point b s t))
-    (λ f. ap all-parts (parts-other b s f ∙ sym (onto-nothing (in-front b (parts s)) (in-front-some b (parts s)))) ∙ stained-parts [] b (parts s) e)
+    (λ f. ap all-parts (parts-other b s f ∙ sym (onto-nothing (onto (b ∷ []) (parts s)) (onto-some (b ∷ []) (parts s))))
+    ∙ stained-parts [] b (parts s) e)
 
 -- parts before others do not matter
 after-parts : (ps qs : List (List ℕ)) → all-parts ps ≡ true → all-parts (ps ++ qs) ≡ all-parts qs
@@ -141,6 +130,10 @@ after-parts (p ∷ ps) qs e =
 
 -- ---- so many parts from the front
 
+-- the digits at a place
+abbrev pub run : List ℕ → ℕ → List ℕ
+run d at = digit-run (drop at d)
+
 -- the bytes begin with these parts, and the next stands at a place
 pub record Front (d : List ℕ) (ps : List (List ℕ)) (at : ℕ) : Type 0 where
   pub so-far : parts d ≡ ps ++ parts (drop at d)
@@ -150,8 +143,8 @@ pub record Front (d : List ℕ) (ps : List (List ℕ)) (at : ℕ) : Type 0 where
 pub record Taken (d : List ℕ) (ps : List (List ℕ)) (at number end : ℕ) : Type 0 where
   pub front : Front d ps at
   pub digit : digit-first (drop at d) ≡ true
-  pub number-is : number ≡ min (value 0 (digit-run (drop at d))) past-all
-  pub end-is : end ≡ at + length (digit-run (drop at d))
+  pub number-is : number ≡ min (value 0 (run d at)) past-all
+  pub end-is : end ≡ at + length (run d at)
 
 -- what a part tells, by numbers
 abbrev stands : Part → ℕ
@@ -167,7 +160,7 @@ end-in (Part.Is number end) = end
 end-in Part.Nothing = 0
 
 part-here : (d : List ℕ) (at : ℕ) → digit-first (drop at d) ≡ true
-    → part-at d at ≡ Part.Is (min (value 0 (digit-run (drop at d))) past-all) (at + length (digit-run (drop at d)))
+    → part-at d at ≡ Part.Is (min (value 0 (run d at)) past-all) (at + length (run d at))
 unfolding part-at
 part-here d at e = rw (part-at, e)
 
@@ -187,14 +180,14 @@ first-none [] e = refl
 first-none (b ∷ s) e = ap length (run-other b s e)
 
 -- so a run tells whether a part stands there
-pub part-told : (d : List ℕ) (at number end : ℕ) → at < end → number ≡ min (value 0 (digit-run (drop at d))) past-all
-    → end ≡ at + length (digit-run (drop at d)) → Part.Is number end ≡ part-at d at
+pub part-told : (d : List ℕ) (at number end : ℕ) → at < end → number ≡ min (value 0 (run d at)) past-all → end ≡ at + length (run d at)
+    → Part.Is number end ≡ part-at d at
 part-told d at number end h e f =
     by-bool (digit-first (drop at d))
     (λ t. (λ j. Part.Is (e j) (f j)) ∙ sym (part-here d at t))
     (λ n. absurd (omega (arith, h, f, first-none (drop at d) n)))
 
-pub part-untold : (d : List ℕ) (at end : ℕ) → end ≤ at → end ≡ at + length (digit-run (drop at d)) → Part.Nothing ≡ part-at d at
+pub part-untold : (d : List ℕ) (at end : ℕ) → end ≤ at → end ≡ at + length (run d at) → Part.Nothing ≡ part-at d at
 part-untold d at end h f =
     by-bool (digit-first (drop at d))
     (λ t. absurd (omega (arith, h, f, first-some (drop at d) t)))
@@ -230,17 +223,17 @@ no-point d at h = ap point-first (drop-of-length-le d h)
 -- bytes that are not all parts have not the shape
 unshaped : (d : List ℕ) → all-parts (parts d) ≡ false → shaped d ≡ false
 unfolding shaped
-unshaped d e = ap (λ (a : Bool). right-number (length (parts d)) && a) e ∙ both-false (right-number (length (parts d)))
+unshaped d e = ap (λ (a : Bool). right-number (length (parts d)) && a) e ∙ and-false (right-number (length (parts d)))
 
 -- nor have those with another number of them
 uncounted : (d : List ℕ) → right-number (length (parts d)) ≡ false → shaped d ≡ false
 unfolding shaped
 uncounted d e = ap (λ (a : Bool). a && all-parts (parts d)) e
 
--- as five or more
-many-parts : (n : ℕ) → 4 < n → right-number n ≡ false
+-- as more than there are with an hour
+pub many-parts : (n : ℕ) → hour-parts < n → right-number n ≡ false
 unfolding right-number
-many-parts n h = rw (right-number, ne-eqb n 3 (λ e. omega (arith, e)), ne-eqb n 4 (λ e. omega (arith, e)))
+many-parts n h = rw (right-number, ne-eqb n day-parts (λ e. omega (arith, e)), ne-eqb n hour-parts (λ e. omega (arith, e)))
 
 -- ---- the first
 
@@ -254,30 +247,30 @@ no-first d e = unshaped d (no-part d (untaken d 0 e))
 -- ---- and the next
 
 module _ (d : List ℕ) (ps : List (List ℕ)) (at number end : ℕ) (t : Taken d ps at number end) where
-  -- the bytes of the part that was taken
-  abbrev run : List ℕ
-  run = digit-run (drop at d)
+  -- the part that was taken
+  abbrev part : List ℕ
+  part = run d at
 
   after-run : rest (drop at d) ≡ drop end d
-  after-run = drop-drop (length run) at d ∙ ap (λ (k : ℕ). drop k d) (sym (t .end-is))
+  after-run = drop-drop (length part) at d ∙ ap (λ (k : ℕ). drop k d) (sym (t .end-is))
 
-  all-so-far : parts d ≡ ps ++ onto run (parts (drop end d))
-  all-so-far = t .front .so-far ∙ ap (λ (qs : List (List ℕ)). ps ++ qs) (parts-run (drop at d) ∙ ap (λ (s : List ℕ). onto run (parts s)) after-run)
+  all-so-far : parts d ≡ ps ++ onto part (parts (drop end d))
+  all-so-far = t .front .so-far ∙ ap (λ (qs : List (List ℕ)). ps ++ qs) (parts-run (drop at d) ∙ ap (λ (s : List ℕ). onto part (parts s)) after-run)
 
   plain : digit-first (drop end d) ≡ false
   plain = ap digit-first (sym after-run) ∙ rest-plain (drop at d)
 
-  each-so-far : all-parts (ps ++ (run ∷ [])) ≡ true
+  each-so-far : all-parts (ps ++ (part ∷ [])) ≡ true
   unfolding all-parts
-  each-so-far = after-parts ps (run ∷ []) (t .front .each) ∙ ap (λ (a : Bool). a && true) (run-part (drop at d) (t .digit))
+  each-so-far = after-parts ps (part ∷ []) (t .front .each) ∙ ap (λ (a : Bool). a && true) (run-part (drop at d) (t .digit))
 
-  further : point-first (drop end d) ≡ true → Front d (ps ++ (run ∷ [])) (end + 1)
+  further : point-first (drop end d) ≡ true → Front d (ps ++ (part ∷ [])) (end + 1)
   further e =
       record {
         so-far =
             all-so-far
-            ∙ ap (λ (qs : List (List ℕ)). ps ++ qs) (pointed run (drop end d) e ∙ ap (λ (s : List ℕ). run ∷ parts s) (drop-drop 1 end d))
-            ∙ sym (append-assoc ps (run ∷ []) (parts (drop (end + 1) d)));
+            ∙ ap (λ (qs : List (List ℕ)). ps ++ qs) (pointed part (drop end d) e ∙ ap (λ (s : List ℕ). part ∷ parts s) (drop-drop 1 end d))
+            ∙ sym (append-assoc ps (part ∷ []) (parts (drop (end + 1) d)));
         each = each-so-far;
       }
 
@@ -286,26 +279,26 @@ module _ (d : List ℕ) (ps : List (List ℕ)) (at number end : ℕ) (t : Taken 
   stuck e h =
       unshaped d
       (ap all-parts all-so-far
-      ∙ after-parts ps (onto run (parts (drop end d))) (t .front .each)
-      ∙ other run (drop end d) plain e (rw (length-drop end d) (omega arith)))
+      ∙ after-parts ps (onto part (parts (drop end d))) (t .front .each)
+      ∙ other part (drop end d) plain e (rw (length-drop end d) (omega arith)))
 
   -- all parts are taken
-  pub closed : length d ≤ end → parts d ≡ ps ++ (run ∷ [])
-  closed h = all-so-far ∙ ap (λ (qs : List (List ℕ)). ps ++ qs) (ended run (drop end d) (drop-of-length-le d h))
+  pub closed : length d ≤ end → parts d ≡ ps ++ (part ∷ [])
+  closed h = all-so-far ∙ ap (λ (qs : List (List ℕ)). ps ++ qs) (ended part (drop end d) (drop-of-length-le d h))
 
   pub closed-parts : length d ≤ end → right-number (suc (length ps)) ≡ true → shaped d ≡ true
   unfolding shaped
   closed-parts h e =
-      let counted : length (ps ++ (run ∷ [])) ≡ suc (length ps) = rw length-append (omega arith) in
+      let counted : length (ps ++ (part ∷ [])) ≡ suc (length ps) = rw length-append (omega arith) in
       ap (λ (qs : List (List ℕ)). right-number (length qs) && all-parts qs) (closed h)
       ∙ (λ j. right-number (counted j) && each-so-far j)
       ∙ ap (λ (a : Bool). a && true) e
 
   -- the next part is taken
-  pub next : {m f : ℕ} → pointed-part d end ≡ Part.Is m f → Taken d (ps ++ (run ∷ [])) (end + 1) m f
+  pub next : {m f : ℕ} → pointed-part d end ≡ Part.Is m f → Taken d (ps ++ (part ∷ [])) (end + 1) m f
   next e =
       by-bool (point-first (drop end d))
-      (λ p. taken d (ps ++ (run ∷ [])) (end + 1) _ _ (further p) (sym (pointed-here d end p) ∙ e))
+      (λ p. taken d (ps ++ (part ∷ [])) (end + 1) _ _ (further p) (sym (pointed-here d end p) ∙ e))
       (λ n. absurd (omega (arith, ap stands (sym e ∙ pointed-none d end n))))
 
   -- or there is none, where one must be
@@ -315,20 +308,20 @@ module _ (d : List ℕ) (ps : List (List ℕ)) (at number end : ℕ) (t : Taken 
       (λ p. let front = further p in
       unshaped d
       (ap all-parts (front .so-far)
-      ∙ after-parts (ps ++ (run ∷ [])) (parts (drop (end + 1) d)) (front .each)
+      ∙ after-parts (ps ++ (part ∷ [])) (parts (drop (end + 1) d)) (front .each)
       ∙ no-part (drop (end + 1) d) (untaken d (end + 1) (sym (pointed-here d end p) ∙ e))))
       (λ n. by-bool (leb (length d) end)
       (λ over. let all = leb-true (length d) end over in
-      let counted : length (ps ++ (run ∷ [])) ≡ suc (length ps) = rw length-append (omega arith) in
+      let counted : length (ps ++ (part ∷ [])) ≡ suc (length ps) = rw length-append (omega arith) in
       uncounted d (ap (λ (qs : List (List ℕ)). right-number (length qs)) (closed all) ∙ ap right-number counted ∙ few all))
       (λ under. stuck n (leb-false (length d) end under)))
 
   -- or something follows, where nothing may
-  pub over : length ps ≡ 3 → end < length d → shaped d ≡ false
+  pub over : length ps ≡ day-parts → end < length d → shaped d ≡ false
   over three h =
       by-bool (point-first (drop end d))
       (λ p. let front = further p in
       let qs = parts (drop (end + 1) d) in
-      let many : length (parts d) ≡ 4 + length qs = ap length (front .so-far) ∙ rw (length-append, length-append) (omega (arith, three)) in
+      let many : length (parts d) ≡ hour-parts + length qs = ap length (front .so-far) ∙ rw (length-append, length-append) (omega (arith, three)) in
       uncounted d (many-parts (length (parts d)) (omega (arith, many, parts-some (drop (end + 1) d)))))
       (λ n. stuck n h)

@@ -4,9 +4,9 @@ use mathlib.Core.Bool.{Bool, true, false, _&&_}
 use mathlib.Core.List.{List, [], _∷_}
 use Prim.Native.Nat.{ℕ, suc, _+_, _-_, _*_, _/_, _%_, _≤_}
 use lib.Dec.{leb, ltb}
-use lib.ListN.{length, getD, take}
+use lib.ListN.{getD, take}
 use Rattle.date.specs.declared.calendar.Date.{Date}
-use Rattle.date.specs.declared.calendar.DateRead.the-variants.{Is, NotADate, OutOfRange}
+use Rattle.date.specs.declared.calendar.DateRead.the-variants.{Is, OutOfRange}
 use Rattle.date.specs.declared.calendar.DateRead.{DateRead}
 use Rattle.date.specs.declared.calendar.DaysRead.the-variants as Days
 use Rattle.date.specs.declared.calendar.DaysRead.{DaysRead}
@@ -59,7 +59,7 @@ within n most = leb 1 n && leb n most
 unfoldable pub in-range : Date → Bool
 in-range t = within (t .year) most-year && within (t .month) months && within (t .day) (days-in (t .month)) && leb (t .hour) most-hour
 
--- so this holds of a date in range
+-- what that says, part by part
 pub record Ranged (t : Date) : Type 0 where
   pub year : (1 ≤ t .year) × (t .year ≤ most-year)
   pub month : (1 ≤ t .month) × (t .month ≤ months)
@@ -70,17 +70,18 @@ pub record Ranged (t : Date) : Type 0 where
 unfoldable pub ranged : Date → DateRead
 ranged t = elim (in-range t) [ true ↦ Is t | false ↦ OutOfRange ]
 
--- ---- to a day, which leaves the hour out
+-- ---- to a day count, which leaves the hour out
 
-unfoldable pub day-of : Date → ℕ
-day-of t = (t .year - 1) * year-days + days-before (t .month) + (t .day - 1)
+unfoldable pub count-of : Date → ℕ
+count-of t = (t .year - 1) * year-days + days-before (t .month) + (t .day - 1)
 
+-- a date out of range has none
 unfoldable pub days-of : Date → DaysRead
-days-of t = elim (in-range t) [ true ↦ Days.Is (day-of t) | false ↦ Days.OutOfRange ]
+days-of t = elim (in-range t) [ true ↦ Days.Is (count-of t) | false ↦ Days.OutOfRange ]
 
 -- ---- and back
 
--- the day of the last date
+-- the count of the last date
 abbrev pub last-day : ℕ
 last-day = 3649634
 
@@ -94,10 +95,11 @@ unfoldable pub month-at : ℕ → ℕ
 month-at day = months-past month-days day + 1
 
 -- the date of a day, without an hour
-unfoldable pub date-of : ℕ → Date
-date-of day =
-    let of-year = day % year-days in
-    date (day / year-days + 1) (month-at of-year) (of-year - days-before (month-at of-year) + 1) 0
+unfoldable pub date-counted : ℕ → Date
+date-counted count =
+    let of-year = count % year-days in
+    date (count / year-days + 1) (month-at of-year) (of-year - days-before (month-at of-year) + 1) 0
 
+-- a count past the last has none
 unfoldable pub date-at : ℕ → DateRead
-date-at day = elim (ltb last-day day) [ true ↦ OutOfRange | false ↦ Is (date-of day) ]
+date-at count = elim (ltb last-day count) [ true ↦ OutOfRange | false ↦ Is (date-counted count) ]

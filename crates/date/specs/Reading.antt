@@ -1,13 +1,13 @@
 -- A date in the bytes of a scalar (request W8): read year.month.day with an optional fourth part, an hour 1 to 24; parts are digits without a sign;
 -- leading zeros are read. Refusals: not the shape first, then a part out of range.
 use mathlib.Core.Bool.{Bool, true, false, not, _&&_, _||_}
-use mathlib.Core.List.{List, [], _∷_, map}
+use mathlib.Core.List.{List, [], _∷_, _++_, map}
 use Prim.Native.Nat.{ℕ, _+_, min}
 use lib.Dec.{eqb}
 use lib.ListN.{length, getD, drop}
 use Rattle.data.specs.Bytes.{point}
 use Rattle.data.specs.Reasons.{if-so, first-of}
-use Rattle.scalar.specs.Digits.{is-digit, digits-alone, digit-first, digit-run, value}
+use Rattle.scalar.specs.Digits.{digits-alone, digit-first, digit-run, value}
 use Rattle.date.specs.Calendar.{date, most-year, in-range}
 use Rattle.date.specs.declared.calendar.Date.{Date}
 use Rattle.date.specs.declared.calendar.DateRead.the-variants.{Is, NotADate, OutOfRange}
@@ -17,35 +17,33 @@ use Rattle.date.specs.declared.reading.Part.{Part}
 
 -- ---- the shape
 
--- a byte in front of the first part
-abbrev pub in-front : ℕ → List (List ℕ) → List (List ℕ)
-in-front b [] = (b ∷ []) ∷ []
-in-front b (p ∷ ps) = (b ∷ p) ∷ ps
+-- bytes in front of the first part
+abbrev pub onto : List ℕ → List (List ℕ) → List (List ℕ)
+onto p [] = p ∷ []
+onto p (q ∷ qs) = (p ++ q) ∷ qs
 
 -- the parts: what stands between the points
 unfoldable pub parts : List ℕ → List (List ℕ)
 parts [] = [] ∷ []
-parts (b ∷ d) = elim (eqb b point) [ true ↦ [] ∷ parts d | false ↦ in-front b (parts d) ]
+parts (b ∷ d) = elim (eqb b point) [ true ↦ [] ∷ parts d | false ↦ onto (b ∷ []) (parts d) ]
 
--- each begins with a digit, and not with a sign
-unfoldable pub begins : ℕ → Bool
-begins b = is-digit b
-
--- and has digits alone, one or more
+-- each is digits, one or more, and nothing else
 unfoldable pub is-part : List ℕ → Bool
-is-part [] = false
-is-part (b ∷ p) = begins b && digits-alone p
+is-part p = digit-first p && digits-alone p
 
 unfoldable pub all-parts : List (List ℕ) → Bool
 all-parts [] = true
 all-parts (p ∷ ps) = is-part p && all-parts ps
 
--- year, month and day are three, and with an hour there are four
-abbrev pub with-hour : ℕ
-with-hour = 4
+-- year, month and day, and one more where there is an hour
+abbrev pub day-parts : ℕ
+day-parts = 3
+
+abbrev pub hour-parts : ℕ
+hour-parts = 4
 
 unfoldable pub right-number : ℕ → Bool
-right-number n = eqb n 3 || eqb n with-hour
+right-number n = eqb n day-parts || eqb n hour-parts
 
 unfoldable pub shaped : List ℕ → Bool
 shaped d = right-number (length (parts d)) && all-parts (parts d)
@@ -57,11 +55,11 @@ numbers d = map (value 0) (parts d)
 
 -- the date that they tell
 abbrev pub told-by : List ℕ → Date
-told-by ns = date (getD ns 0 0) (getD ns 1 0) (getD ns 2 0) (getD ns 3 0)
+told-by ns = date (getD ns 0 0) (getD ns 1 0) (getD ns 2 0) (getD ns day-parts 0)
 
--- an hour that stands there begins with 1
+-- hours are counted from 1: an hour of 0 that stands there is out of range
 unfoldable pub hour-zero : List ℕ → Bool
-hour-zero ns = eqb (length ns) with-hour && eqb (getD ns 3 0) 0
+hour-zero ns = eqb (length ns) hour-parts && eqb (getD ns day-parts 0) 0
 
 unfoldable pub out-of-range : List ℕ → Bool
 out-of-range ns = hour-zero ns || not (in-range (told-by ns))
@@ -77,7 +75,7 @@ date-read d = dated (shaped d) (out-of-range (numbers d)) (told-by (numbers d))
 
 -- ---- how it is gone about: part by part
 
--- the least number that is out of every range, which stands for all above it
+-- the least number above every part's range, which stands for all above it
 abbrev pub past-all : ℕ
 past-all = most-year + 1
 

@@ -9,6 +9,8 @@ pub(crate) const MOST_YEAR: u32 = 9999;
 
 const MONTHS: usize = 12;
 
+pub(crate) const FIRST_HOUR: u32 = 1;
+
 const MOST_HOUR: u32 = 24;
 
 // The days of each month.

@@ -1,6 +1,7 @@
 // A date in the bytes of a scalar: year, month and day, and an optional hour, with points between them.
 use crate::calendar::Date;
 use crate::calendar::DateRead;
+use crate::calendar::FIRST_HOUR;
 use crate::calendar::MOST_YEAR;
 use crate::calendar::in_range;
 ghost use mathlib.Core.Path.{_≡_};
@@ -8,11 +9,8 @@ ghost use Prim.Native.Nat.{min};
 ghost use Rattle.date.specs.Calendar.{ranged as ranged-of};
 ghost use Rattle.date.specs.Reading.{past-all, part-at as part-in, pointed-part as pointed-in, date-read};
 
-// The least number that is out of every part's range. It stands for all above it.
+// The least number above every part's range. It stands for all above it.
 const PAST_ALL: u32 = MOST_YEAR + 1;
-
-// Hours are counted from 1; an hour of 0 is refused where one stands.
-const FIRST_HOUR: u32 = 1;
 
 // A part at a place: its number, and the place after it; or that none stands there.
 pub enum Part {
@@ -20,7 +18,7 @@ pub enum Part {
     Nothing,
 }
 
-// A number, or the least that is out of every range.
+// A number, or the least above every range.
 fn bounded(n: u64) -> u32
     ensures { λ r. ⌜ r ≡ min n past-all ⌝ }
 {

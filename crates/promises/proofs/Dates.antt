@@ -15,7 +15,7 @@ use Rattle.data.specs.Reasons.{first-of}
 use Rattle.scalar.specs.Digits.{is-digit, digits-alone, digit-run, value}
 use Rattle.scalar.specs.Numbers.{answered}
 use Rattle.scalar.proofs.Rests.{run-alone}
-use Rattle.date.specs.Calendar.{date, month-days, together, days-in, days-before, within, in-range, Ranged, day-of, days-of, last-day, date-of, date-at}
+use Rattle.date.specs.Calendar.{date, month-days, together, days-in, days-before, within, in-range, Ranged, count-of, days-of, last-day, date-counted, date-at}
 use Rattle.date.specs.Reading.{in-front, parts, begins, is-part, all-parts, right-number, shaped, numbers, told-by, hour-zero, out-of-range, dated, date-read}
 use Rattle.date.specs.Refusals.{date-refusal-of, date-value-of, days-refusal-of, days-value-of}
 use Rattle.date.specs.declared.calendar.Date.{Date}
@@ -47,14 +47,14 @@ in-range-is t = (ranged-is t, is-ranged t)
 -- ---- days
 
 -- the day of a date in range
-day-told : (t : Date) → in-range t ≡ true → days-value-of (days-of t) ≡ day-of t
+day-told : (t : Date) → in-range t ≡ true → days-value-of (days-of t) ≡ count-of t
 day-told t e = ap days-value-of (days-in-range t e)
 
 pub date-and-back : (t : Date) → in-range t ≡ true → Date-and-back t
 date-and-back t e =
     record {
       counted = ap days-refusal-of (days-in-range t e);
-      back = ap date-at (day-told t e) ∙ date-in-range (day-of t) (day-within t e) ∙ ap Dated.Is (date-back t e);
+      back = ap date-at (day-told t e) ∙ date-in-range (count-of t) (day-within t e) ∙ ap Dated.Is (date-back t e);
     }
 
 pub day-and-back : (n : ℕ) → n ≤ last-day → Day-and-back n
@@ -64,12 +64,12 @@ day-and-back n h =
       dated = ap date-refusal-of is;
       ranged = ap (λ (r : DateRead). in-range (date-value-of r)) is ∙ date-within n h;
       back =
-          ap (λ (r : DateRead). days-of (date-value-of r)) is ∙ days-in-range (date-of n) (date-within n h)
+          ap (λ (r : DateRead). days-of (date-value-of r)) is ∙ days-in-range (date-counted n) (date-within n h)
           ∙ ap Days.Is (day-back n h);
     }
 
 pub ends-hold : Ends-hold
-unfolding days-of in-range within days-in month-days day-of days-before together
+unfolding days-of in-range within days-in month-days count-of days-before together
 ends-hold = (refl, refl)
 
 pub else-refused : Else-refused
@@ -83,7 +83,7 @@ pub exactly : Exactly
 exactly n = (
   λ found. let t = found .0 in let e = found .1 in
       omega (arith, day-within t e, sym (day-told t e) ∙ ap days-value-of (found .2)),
-  λ h. (date-of n, date-within n h, days-in-range (date-of n) (date-within n h) ∙ ap Days.Is (day-back n h)),
+  λ h. (date-counted n, date-within n h, days-in-range (date-counted n) (date-within n h) ∙ ap Days.Is (day-back n h)),
 )
 
 -- ---- their order
@@ -95,24 +95,24 @@ module _ (a b : Date) (x : in-range a ≡ true) (y : in-range b ≡ true) where
   q : Ranged b
   q = ranged-is b y
 
-  year-earlier : a .year < b .year → day-of a < day-of b
-  unfolding day-of
+  year-earlier : a .year < b .year → count-of a < count-of b
+  unfolding count-of
   year-earlier h = omega (arith, h, p .day, before-year (a .month), p .year)
 
-  month-earlier : a .year ≡ b .year → a .month < b .month → day-of a < day-of b
-  unfolding day-of days-before days-in
+  month-earlier : a .year ≡ b .year → a .month < b .month → count-of a < count-of b
+  unfolding count-of days-before days-in
   month-earlier e h =
       omega (arith, e, p .day, q .day, before-later month-days (a .month - 1) (b .month - 1) (omega (arith, h, p .month)))
 
-  day-earlier : a .year ≡ b .year → a .month ≡ b .month → a .day < b .day → day-of a < day-of b
-  unfolding day-of
+  day-earlier : a .year ≡ b .year → a .month ≡ b .month → a .day < b .day → count-of a < count-of b
+  unfolding count-of
   day-earlier e f h = omega (arith, e, ap days-before f, h, p .day)
 
-  same-day : a .year ≡ b .year → a .month ≡ b .month → a .day ≡ b .day → day-of a ≡ day-of b
-  unfolding day-of
+  same-day : a .year ≡ b .year → a .month ≡ b .month → a .day ≡ b .day → count-of a ≡ count-of b
+  unfolding count-of
   same-day e f g = omega (arith, e, ap days-before f, g)
 
-  earlier : Earlier a b → day-of a < day-of b
+  earlier : Earlier a b → count-of a < count-of b
   earlier (inl h) = year-earlier h
   earlier (inr (e, inl h)) = month-earlier e h
   earlier (inr (e, inr (f, h))) = day-earlier e f h
@@ -125,7 +125,7 @@ compared m n less more same =
     (λ f. by-bool (ltb n m) (λ t. more (ltb-true n m t)) (λ g. same (omega (arith, ltb-false m n f, ltb-false n m g))))
 
 -- of two days the smaller is the earlier date's
-later : (a b : Date) → in-range a ≡ true → in-range b ≡ true → day-of a < day-of b → Earlier a b
+later : (a b : Date) → in-range a ≡ true → in-range b ≡ true → count-of a < count-of b → Earlier a b
 later a b x y h =
     compared (a .year) (b .year) inl
     (λ over. absurd (omega (arith, h, year-earlier b a y x over)))
@@ -300,5 +300,5 @@ written-reads t e =
 
 pub edges-hold : Edges-hold
 unfolding bytes edges is-digit digits-alone value parts begins is-part all-parts right-number shaped numbers hour-zero out-of-range dated date-read
-    first-of days-of in-range within days-in month-days day-of days-before together
+    first-of days-of in-range within days-in month-days count-of days-before together
 edges-hold = refl

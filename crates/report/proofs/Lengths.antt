@@ -11,7 +11,7 @@ use lib.IntN.{ℤ}
 use lib.ListN.{length, take, drop, length-append, length-take, length-drop}
 use Rattle.data.proofs.Cases.{by-bool}
 use Rattle.data.specs.Bytes.{plus}
-use Rattle.date.specs.Calendar.{in-range, days-of, last-day, date-of}
+use Rattle.date.specs.Calendar.{in-range, days-of, last-day, date-counted}
 use Rattle.date.specs.Refusals.{days-value-of}
 use Rattle.date.specs.declared.calendar.Date.{Date}
 use Rattle.date.specs.declared.calendar.DateRead.the-variants as Dated
@@ -208,7 +208,7 @@ day-short n =
     by-bool (ltb last-day n)
     (λ t. rw (date-past n (ltb-true last-day n t)) (rw length-append (rw length-append (omega (arith, two-short 52 (omega arith))))))
     (λ f. let within = ltb-false last-day n f in
-    rw (date-in-range n within) (rw length-append (omega (arith, ranged-short (date-of n) (date-within n within)))))
+    rw (date-in-range n within) (rw length-append (omega (arith, ranged-short (date-counted n) (date-within n within)))))
 
 -- the line of a check, and of a view
 pub verdict-short : (sound : Bool) → length (verdict sound) ≤ 8

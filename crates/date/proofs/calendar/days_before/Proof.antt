@@ -1,7 +1,7 @@
 -- `date::calendar::days_before` meets its contract: the loop has the days before the month that it is at.
 -- Assumes nothing.
 use mathlib.Core.Path.{_≡_, sym, _∙_, ap}
-use Prim.Native.Nat.{ℕ, _+_, _-_, _≤_}
+use Prim.Native.Nat.{_+_, _-_, _≤_}
 use native.Mathlib.Omega.{arith}
 use borrow.Author.Needs.{needs}
 use Rattle.date.specs.Calendar.{days-before}

@@ -1,12 +1,12 @@
 -- `date::calendar::from_days` meets its contract: the day of the year falls into its month.
 -- Assumes nothing.
-use mathlib.Core.Path.{_≡_, sym, _∙_, ap, subst}
-use Prim.Native.Nat.{ℕ, _+_, _-_, _/_, _%_}
+use mathlib.Core.Path.{sym, _∙_, ap, subst}
+use Prim.Native.Nat.{_+_, _-_, _/_, _%_}
 use native.Mathlib.Nat.{mod-lt}
 use native.Mathlib.Omega.{arith}
 use borrow.Author.Needs.{needs}
 use borrow.Author.Tests.{lt-ltb, le-ltb}
-use Rattle.date.specs.Calendar.{date, year-days, days-before, month-at, date-of, date-at}
+use Rattle.date.specs.Calendar.{date, year-days, days-before, date-counted, date-at}
 use Rattle.date.specs.declared.calendar.DateRead.the-variants.{Is}
 use Rattle.date.proofs.Months.{Falls, month-falls}
 use Rattle.date.proofs.calendar.from_days.Statement.{statement}
@@ -36,7 +36,7 @@ add-day : tie.Need-add-day
 add-day c = search needs
 
 returns-2 : tie.Need-returns-2
-unfolding date-at date-of
+unfolding date-at date-counted
 returns-2 c =
     let at-month = c .before in
     let days = at-month .before .before .args .days in

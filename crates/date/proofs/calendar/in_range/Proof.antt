@@ -1,7 +1,7 @@
 -- `date::calendar::in_range` meets its contract: the tests are the definition's, in its order.
 -- Assumes nothing.
 use mathlib.Core.Path.{_≡_, sym, _∙_, ap}
-use mathlib.Core.Bool.{true, false}
+use mathlib.Core.Bool.{true}
 use borrow.Author.Needs.{needs}
 use borrow.Author.Tests.{not-true, not-false}
 use Rattle.date.specs.Calendar.{within, days-in, months, most-year, in-range}

@@ -1,13 +1,13 @@
 -- `date::calendar::month_of` meets its contract. The invariant says what is left: in the months from here on, the days that are left fall into
 -- the month that is asked for.
 -- Assumes nothing.
-use mathlib.Core.Path.{_≡_, refl, sym, _∙_, ap}
+use mathlib.Core.Path.{_≡_, refl, sym, ap}
 use Prim.Native.Nat.{ℕ, _+_, _-_, _≤_, _<_}
 use native.Mathlib.Nat.{le-of-eq, le-trans, lt-of-lt-of-le}
 use native.Mathlib.Omega.{arith}
 use borrow.Author.Needs.{needs}
 use Rattle.date.specs.Calendar.{months, together, months-past, month-at}
-use Rattle.date.proofs.Months.{table-days, from-month, here, later, left-over, last-month}
+use Rattle.date.proofs.Months.{table-days, from-month, in-this-month, in-a-later-month, left-over, last-month}
 use Rattle.date.proofs.calendar.month_of.Statement.{statement}
 use Rattle.date.proofs.calendar.month_of.Tie as tie
 
@@ -35,7 +35,7 @@ returns : tie.Need-returns Inv-loop μ-loop
 returns c =
     let head = c .before .before .before .loop in
     let small = lt-of-lt-of-le (c .if1 .taken) (le-of-eq (c .before .days-in .ensures)) in
-    omega (arith, here (head .month) (head .left) (head .inv .2) (head .inv .3) small, head .inv .0)
+    omega (arith, in-this-month (head .month) (head .left) (head .inv .2) (head .inv .3) small, head .inv .0)
 
 add-month : tie.Need-add-month Inv-loop μ-loop
 add-month c = search needs
@@ -50,7 +50,7 @@ loop-again c =
     let days = c .before .days-in .ensures in
     let large = le-trans (le-of-eq (sym days)) (c .if1 .left) in
     let same = ap (λ (k : ℕ). months-past (from-month (head .month + 1)) (head .left - k)) days in (
-      omega (arith, same, later (head .month) (head .left) (head .inv .2) (head .inv .3) large, head .inv .0),
+      omega (arith, same, in-a-later-month (head .month) (head .left) (head .inv .2) (head .inv .3) large, head .inv .0),
       omega (arith, days, large, left-over (head .month) (head .inv .2) (head .inv .3), head .inv .1),
       omega arith,
       omega (arith, at-test .loop-test .taken),

@@ -1,12 +1,11 @@
 -- `date::calendar::to_days` meets its contract: of a date in range every sum fits.
 -- Assumes nothing.
 use mathlib.Core.Path.{_≡_, sym, _∙_, ap}
-use mathlib.Core.Bool.{true, false}
-use Prim.Native.Nat.{ℕ, _+_, _-_, _*_}
+use mathlib.Core.Bool.{true}
 use native.Mathlib.Omega.{arith}
 use borrow.Author.Needs.{needs}
 use borrow.Author.Tests.{not-true, not-false}
-use Rattle.date.specs.Calendar.{year-days, in-range, Ranged, day-of, days-of}
+use Rattle.date.specs.Calendar.{in-range, Ranged, count-of, days-of}
 use Rattle.date.specs.declared.calendar.DaysRead.the-variants.{Is}
 use Rattle.date.proofs.Months.{before-year}
 use Rattle.date.proofs.Ranges.{ranged-is}
@@ -51,7 +50,7 @@ add-t8 c =
     omega (arith, r .year, r .day, c .before .days-before .ensures, before-year (c .before .before .before .before .before .args .date .month))
 
 returns-2 : tie.Need-returns-2
-unfolding days-of day-of
+unfolding days-of count-of
 returns-2 c = rw (days-of, tested (c .before .before .before)) (ap Is (omega (arith, c .before .days-before .ensures)))
 
 pub to-days-spec : {M : Type 1} → statement M

@@ -4,8 +4,7 @@ use mathlib.Core.Path.{_≡_, _∙_, ap}
 use Prim.Native.Nat.{ℕ, min}
 use native.Mathlib.Omega.{arith}
 use borrow.Author.Needs.{needs}
-use lib.ListN.{drop}
-use Rattle.scalar.specs.Digits.{digit-run, value, most-u64, digits-in}
+use Rattle.scalar.specs.Digits.{most-u64, digits-in}
 use Rattle.scalar.specs.declared.digits.Digits.{Digits}
 use Rattle.date.specs.Reading.{past-all}
 use Rattle.date.proofs.Shapes.{part-told, part-untold}
@@ -18,7 +17,7 @@ digits-at-requires c κs = search needs
 bounded-requires : tie.Need-bounded-requires
 bounded-requires c κs = search needs
 
--- what stands for a number that 64 bits do not hold is out of every range too
+-- what stands for a number that 64 bits do not hold is above every range too
 twice : (n v : ℕ) → n ≡ min v most-u64 → min n past-all ≡ min v past-all
 twice n v e = omega arith
 

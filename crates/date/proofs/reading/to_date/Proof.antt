@@ -1,15 +1,13 @@
 -- `date::reading::to_date` meets its contract: the parts are taken one after another, and each that is missing, or one too many, leaves no shape.
 -- Assumes nothing.
-use mathlib.Core.Path.{_≡_, refl, sym, _∙_}
+use mathlib.Core.Path.{refl, sym, _∙_}
 use mathlib.Core.List.{List, [], _∷_}
 use Prim.Native.Nat.{ℕ, _+_}
 use native.Mathlib.Omega.{arith}
 use borrow.Author.Needs.{needs}
-use lib.ListN.{drop}
-use Rattle.scalar.specs.Digits.{digit-run}
 use Rattle.date.specs.Reading.{right-number}
 use Rattle.date.proofs.Readings.{reads-none, reads-three, reads-four, reads-zero}
-use Rattle.date.proofs.Shapes.{Taken, first, no-first, next, lost, over}
+use Rattle.date.proofs.Shapes.{run, Taken, first, no-first, next, lost, over}
 use Rattle.date.proofs.reading.to_date.Statement.{statement}
 use Rattle.date.proofs.reading.to_date.Tie as tie
 
@@ -60,8 +58,8 @@ ranged-requires-2 c κs = search needs
 abbrev text : tie.After-year → List ℕ
 text c = c .before .before .before .before .args .d .now
 
-abbrev run : tie.After-year → ℕ → List ℕ
-run c at = digit-run (drop at (text c))
+abbrev part : tie.After-year → ℕ → List ℕ
+part c at = run (text c) at
 
 abbrev after-year : tie.After-year → ℕ
 after-year c = c .year .given .0 .1 .0
@@ -76,7 +74,7 @@ abbrev after-month : tie.After-month → ℕ
 after-month c = c .month .given .0 .1 .0
 
 month : (c : tie.After-month)
-    → Taken (text (at-year c)) (run (at-year c) 0 ∷ []) (after-year (at-year c) + 1) (c .month .given .0 .0) (after-month c)
+    → Taken (text (at-year c)) (part (at-year c) 0 ∷ []) (after-year (at-year c) + 1) (c .month .given .0 .0) (after-month c)
 month c = next _ _ _ _ _ (year (at-year c)) (sym (c .before .before .pointed-part .ensures) ∙ c .month .given .1)
 
 abbrev at-month : tie.After-day → tie.After-month
@@ -86,14 +84,14 @@ abbrev after-day : tie.After-day → ℕ
 after-day c = c .day .given .0 .1 .0
 
 day : (c : tie.After-day) → let y = at-year (at-month c) in
-    Taken (text y) (run y 0 ∷ run y (after-year y + 1) ∷ []) (after-month (at-month c) + 1) (c .day .given .0 .0) (after-day c)
+    Taken (text y) (part y 0 ∷ part y (after-year y + 1) ∷ []) (after-month (at-month c) + 1) (c .day .given .0 .0) (after-day c)
 day c = next _ _ _ _ _ (month (at-month c)) (sym (c .before .before .pointed-part2 .ensures) ∙ c .day .given .1)
 
 abbrev at-day : tie.After-hour → tie.After-day
 at-day c = c .before .before .before .before .before
 
 hour : (c : tie.After-hour) → let m = at-month (at-day c) in let y = at-year m in
-    Taken (text y) (run y 0 ∷ run y (after-year y + 1) ∷ run y (after-month m + 1) ∷ []) (after-day (at-day c) + 1)
+    Taken (text y) (part y 0 ∷ part y (after-year y + 1) ∷ part y (after-month m + 1) ∷ []) (after-day (at-day c) + 1)
     (c .hour .given .0 .0) (c .hour .given .0 .1 .0)
 hour c = next _ _ _ _ _ (day (at-day c)) (sym (c .before .before .pointed-part3 .ensures) ∙ c .hour .given .1)
 
