@@ -477,9 +477,11 @@ uint32_t tackacorn_kind(const uint8_t *scalar, size_t length);
  * BEFORE YOU RECKON WITH DATES
  *
  *  - NOT_A_DATE comes before OUT_OF_RANGE: "1936.13.x" is the former, and says nothing of the month.
- *  - An hour of 0 says that none stands there. None is ever read as 0: "1936.1.12.0" is OUT_OF_RANGE.
+ *  - All four pointers are wanted, to four different numbers, and none is NULL, also where you do not want the hour.
+ *  - An hour of 0 says that none stands there. No hour that stands there is read as 0: "1936.1.12.0" is OUT_OF_RANGE.
  *  - The hour is left out of the count: "1936.1.12.1" and "1936.1.12.24" are the same day, and 0 days lie between
- *    them. Where that matters, hold the hours against each other, too.
+ *    them. Where that matters, hold the hours against each other, too. Where one of the hours is 0, nothing is known
+ *    of which of the two is the earlier.
  *  - There are no leap years: this is not the world's calendar. "1936.2.29" is no date, and from "1936.2.28" to
  *    "1936.3.1" it is one day. Never hand a count to the arithmetic of time_t, nor a count of that to
  *    tackacorn_from_days.
@@ -490,8 +492,10 @@ uint32_t tackacorn_kind(const uint8_t *scalar, size_t length);
  *  - A refusal leaves zeros, and 0 is a day count as well: day 0 is 1.1.1. Only the answer tells.
  *  - tackacorn_kind calls a date a Name. Ask this call, not the kind, whether a scalar is one.
  *
+ * This call is not the Rust's, whose own dates were not at hand and may answer otherwise.
+ *
  * This tells how many days it is from one date to another, below 0 where the second is the earlier. Where it
- * answers false, one of them is refused, and *between stays as it was.
+ * answers false, at least one of them is refused, and *between stays as it was.
  *
  *     static bool days_between(const uint8_t *from, size_t from_length, const uint8_t *to, size_t to_length,
  *                              int64_t *between) {

@@ -78,6 +78,12 @@ impl Record {
     }
 }
 
+/// Whether the Rust itself answers a record, given as its bytes: a text, a scalar or a leading number. Of the others
+/// the answer comes from the comparison's own readings of the papers.
+pub fn rust_answers(record: &[u8]) -> bool {
+    matches!(record.first(), Some(b'T' | b'S' | b'N'))
+}
+
 /// A record's body, taken apart.
 pub enum Question<'r> {
     Text { text: &'r [u8], capacity: usize },
@@ -384,6 +390,24 @@ mod tests {
             served(&input[..input.len() - 1]),
             "answer\n".repeat(good.len() - 1) + "bad record\n"
         );
+    }
+
+    #[test]
+    fn the_rust_answers_three_kinds() {
+        let by_the_rust =
+            [Record::text(Vec::new(), 0), Record::scalar(Vec::new()), Record::leading(Vec::new())];
+        assert!(by_the_rust.iter().all(|record| rust_answers(&record.bytes())));
+        let by_others = [
+            Record::date(Vec::new()),
+            Record::day(0),
+            Record::check(0, 0, &[]),
+            Record::view(0, 0, &[], b""),
+            Record::write(0, 0, 0, &[], b""),
+            Record::pack(0, 0, 0, &[]),
+            Record::unpack(0, Vec::new()),
+        ];
+        assert!(by_others.iter().all(|record| !rust_answers(&record.bytes())));
+        assert!(!rust_answers(b""));
     }
 
     #[test]

@@ -118,16 +118,24 @@ fn try_scalar(scalar: &[u8]) -> usize {
             assert_eq!(numbers, Ok(parts), "{shown:?}");
             assert_eq!(date::read(again.as_bytes()), told, "{shown:?}");
             assert_eq!(date::of(count), Ok([year, month, day]), "{shown:?}");
+            assert_eq!(model_date::from_days(count), Ok([year, month, day]), "{shown:?}");
             0
         }
     }
 }
 
-/// A day count is told alike by both, and leads back.
+/// A day count is told alike by both, and in both the count of the date that is told is this one.
 fn try_count(count: u32) {
     let told = date::of(count);
     assert_eq!(model_date::from_days(count), told, "{count}");
-    assert_eq!(told.is_err(), count > LAST_COUNT, "{count}");
+    match told {
+        Ok([year, month, day]) => {
+            assert!(count <= LAST_COUNT, "{count}");
+            assert_eq!(date::count(year, month, day), Some(count));
+            assert_eq!(model_date::to_days(year, month, day), Ok(count));
+        }
+        Err(refusal) => assert_eq!((refusal, count > LAST_COUNT), (OUT_OF_RANGE, true), "{count}"),
+    }
 }
 
 /// Each answer came, over these records.

@@ -37,12 +37,5 @@ static enum status check_one(const char *file, const struct call *call) {
 
 /* Checks every file that is named, or standard input where none is. */
 enum status check(const struct call *call) {
-    if (call->count == 0) {
-        return check_one("-", call);
-    }
-    enum status status = STATUS_WELL;
-    for (size_t i = 0; i < call->count; i++) {
-        status = worse(status, check_one(call->words[i], call));
-    }
-    return status;
+    return call->count == 0 ? check_one("-", call) : each_word(call, check_one);
 }

@@ -98,6 +98,7 @@ void show_name(FILE *out, const char *name);
 void tell_refusal(const struct save *save, const struct call *call);
 enum status refuse_scalar(const char *word, uint32_t refusal, const struct call *call);
 enum status worse(enum status one, enum status other);
+enum status each_word(const struct call *call, enum status (*with)(const char *word, const struct call *call));
 
 /* The subcommands. */
 enum status look(const struct call *call);

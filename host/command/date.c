@@ -14,33 +14,40 @@ struct date {
     uint32_t days;
 };
 
-/* Reads a scalar as a date, or says why it is refused. */
-static enum status read_date(struct date *read, const char *word, const struct call *call) {
-    uint32_t refusal = tackacorn_to_date((const uint8_t *)word, strlen(word), &read->year, &read->month, &read->day, &read->hour);
-    if (refusal == TACKACORN_OK) {
-        refusal = tackacorn_to_days(read->year, read->month, read->day, &read->days);
-    }
-    return refusal == TACKACORN_OK ? STATUS_WELL : refuse_scalar(word, refusal, call);
+/* Reads a scalar as a date with its count, and answers why it is refused. */
+static uint32_t read_date(struct date *read, const char *word) {
+    const uint32_t refusal = tackacorn_to_date((const uint8_t *)word, strlen(word), &read->year, &read->month, &read->day, &read->hour);
+    return refusal == TACKACORN_OK ? tackacorn_to_days(read->year, read->month, read->day, &read->days) : refusal;
 }
 
 /* Says the parts of one date and its count. */
 static enum status tell_date(const char *word, const struct call *call) {
     struct date read;
-    const enum status status = read_date(&read, word, call);
-    if (status == STATUS_WELL) {
-        printf("%" PRIu32 " %" PRIu32 " %" PRIu32 " %" PRIu32 " %" PRIu32 "\n", read.year, read.month, read.day, read.hour, read.days);
+    const uint32_t refusal = read_date(&read, word);
+    if (refusal != TACKACORN_OK) {
+        return refuse_scalar(word, refusal, call);
     }
-    return status;
+    printf("%" PRIu32 " %" PRIu32 " %" PRIu32 " %" PRIu32 " %" PRIu32 "\n", read.year, read.month, read.day, read.hour, read.days);
+    return STATUS_WELL;
 }
 
-/* Says the date of one count. A number that a uint32_t does not hold is past the last day, as the largest is that it
- * does. */
+/* Reads a day count, digits and nothing else: a plus, which the reading takes, is none here. Digits too many for a
+ * uint32_t, or for the reading, are past the last day, as the largest count is that a uint32_t holds. */
+static uint32_t read_count(uint32_t *count, const char *word) {
+    uint64_t value = 0;
+    const uint32_t refusal = word[0] == '+' ? TACKACORN_ALL_DIGITS : tackacorn_to_u64((const uint8_t *)word, strlen(word), &value);
+    if (refusal == TACKACORN_ALL_DIGITS) {
+        return refusal;
+    }
+    *count = refusal == TACKACORN_OVERFLOW || value > UINT32_MAX ? UINT32_MAX : (uint32_t)value;
+    return TACKACORN_OK;
+}
+
+/* Says the date of one count. */
 static enum status tell_day(const char *word, const struct call *call) {
     struct date found;
-    uint64_t count;
-    uint32_t refusal = tackacorn_to_u64((const uint8_t *)word, strlen(word), &count);
+    uint32_t refusal = read_count(&found.days, word);
     if (refusal == TACKACORN_OK) {
-        found.days = count > UINT32_MAX ? UINT32_MAX : (uint32_t)count;
         refusal = tackacorn_from_days(found.days, &found.year, &found.month, &found.day);
     }
     if (refusal != TACKACORN_OK) {
@@ -52,30 +59,28 @@ static enum status tell_day(const char *word, const struct call *call) {
 
 /* Reads every scalar that is given as a date. */
 enum status date(const struct call *call) {
-    enum status status = STATUS_WELL;
-    for (size_t i = 0; i < call->count; i++) {
-        status = worse(status, tell_date(call->words[i], call));
-    }
-    return status;
+    return each_word(call, tell_date);
 }
 
 /* Says how many days it is from one date to another, in a type with a sign: the second may be the earlier. Both are
- * read, so that each that is refused has its line. */
+ * read, so that each that is refused has its line; with --numbers both have one then, since a line does not name its
+ * word. */
 enum status days(const struct call *call) {
     struct date from, to;
-    enum status status = read_date(&from, call->words[0], call);
-    status = worse(status, read_date(&to, call->words[1], call));
-    if (status == STATUS_WELL) {
+    const uint32_t refusals[2] = {read_date(&from, call->words[0]), read_date(&to, call->words[1])};
+    if (refusals[0] == TACKACORN_OK && refusals[1] == TACKACORN_OK) {
         printf("%" PRId64 "\n", (int64_t)to.days - (int64_t)from.days);
+        return STATUS_WELL;
     }
-    return status;
+    for (size_t i = 0; i < 2; i++) {
+        if (refusals[i] != TACKACORN_OK || call->numbers) {
+            refuse_scalar(call->words[i], refusals[i], call);
+        }
+    }
+    return STATUS_REFUSED;
 }
 
 /* Says the date of every count that is given. */
 enum status day(const struct call *call) {
-    enum status status = STATUS_WELL;
-    for (size_t i = 0; i < call->count; i++) {
-        status = worse(status, tell_day(call->words[i], call));
-    }
-    return status;
+    return each_word(call, tell_day);
 }

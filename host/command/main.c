@@ -72,8 +72,7 @@ const struct subcommand subcommands[] = {
      "they are counted as they stand in the scalar. 12 is '12 0', and 1.14.2 is '1 5 .14.2'. A date is\n"
      "read by 'tackacorn date'. The status is that of the worst scalar, and with --numbers a refused\n"
      "one has its line among the others. A scalar that begins with '-' needs '--' before it, where it\n"
-     "is the first: 'number -- -12 -7'; a lone '-' does not. In a script always write\n"
-     "'number -- \"$value\"': a value of -h or --help prints this, with status 0.\n\n"
+     "is the first: 'number -- -12 -7'; a lone '-' does not.\n\n"
      "Refusal 21: no byte at all, or the first is neither a sign nor a digit. 22: the digits are over\n"
      "9223372036854775807, after a minus too, whatever follows them. Before you take the number, look\n"
      "at what is left: 109E4 is '109 2 E4', and 12.5 is '12 2 .5'. A sign with no digit behind it is 0:\n"
@@ -85,27 +84,27 @@ const struct subcommand subcommands[] = {
      "and 1936.1.12.24 is '1936 1 12 24 706286': the hour is left out of the count. Day 0 is 1.1.1, the\n"
      "last is " WORDS_OF(TACKACORN_LAST_DAY) ", 9999.12.31. Every year has 365 days and February 28: this is not the world's\n"
      "calendar. Zeros in front are read, so that 1936.01.012 is the same date. The status is that of\n"
-     "the worst scalar, and with --numbers a refused one has its line among the others. In a script\n"
-     "always write 'date -- \"$value\"': a value of -h or --help prints this, with status 0.\n\n"
+     "the worst scalar. One that is refused leaves no line on standard output, so that the lines no\n"
+     "longer match the scalars; with --numbers it has its line among the others.\n\n"
      "Refusal 51: not three or four numbers of digits alone, with points between them; it is looked for\n"
      "over the whole scalar first. 52: a year that is not 1 to 9999, a month that is not 1 to 12, a day\n"
      "that the month does not have, or an hour that is not 1 to 24.\n",
      1, ANY_NUMBER, false, date},
     {"days", NUMBERS " FROM TO", "print how many days it is from one date to another",
-     "Prints one number, with a '-' where the second date is the earlier: from 1936.1.12 to 1939.9.1 it\n"
-     "is 1327, and from 1939.9.1 to 1936.1.12 it is -1327. Hours are left out: from 1936.1.12.1 to\n"
-     "1936.1.12.24 it is 0. There are no leap years, as with date, so that it is not the number of days\n"
-     "by the world's calendar. Each of the two that is refused has its line, by the refusals of date,\n"
-     "and no number is printed then. In a script always write 'days -- \"$from\" \"$to\"': a value of -h\n"
-     "or --help prints this, with status 0.\n",
+     "Reads no file. Prints one number, with a '-' where the second date is the earlier: from 1936.1.12\n"
+     "to 1939.9.1 it is 1327, and from 1939.9.1 to 1936.1.12 it is -1327. Hours are left out: from\n"
+     "1936.1.12.1 to 1936.1.12.24 it is 0. There are no leap years, as with date, so that it is not the\n"
+     "number of days by the world's calendar. Each of the two that is refused has its line, by the\n"
+     "refusals of date, and no number is printed then. With --numbers both have a line then, in their\n"
+     "order, and 'refused 0 0' is that of one that is well.\n",
      2, 2, false, days},
     {"day", NUMBERS " COUNT..", "print the date of each day count",
-     "Prints a line for each: the date that has that count, as 1936.1.12 for 706286. It has no hour. A\n"
-     "count is an optional '+' and digits, and a lone '+' is 0, which is 1.1.1. The status is that of\n"
-     "the worst count, and with --numbers a refused one has its line among the others. In a script\n"
-     "always write 'day -- \"$value\"': a value of -h or --help prints this, with status 0.\n\n"
-     "Refusal 21: the count is no such number, as one with a '-' is none; 22: it is over\n"
-     "18446744073709551615; 52: it is over " WORDS_OF(TACKACORN_LAST_DAY) ", the last day.\n",
+     "Reads no file. Prints a line for each: the date that has that count, as 1936.1.12 for 706286. It\n"
+     "has no hour. The status is that of the worst count. One that is refused leaves no line on\n"
+     "standard output, so that the lines no longer match the counts; with --numbers it has its line\n"
+     "among the others.\n\n"
+     "Refusal 21: the count is not digits alone, one or more, without a sign. 52: it is over " WORDS_OF(TACKACORN_LAST_DAY) ",\n"
+     "the last day, however many digits it has.\n",
      1, ANY_NUMBER, false, day},
     {"help", "[SUBCOMMAND]", "print this, or more about a subcommand", "", 0, 1, false, help},
 };

@@ -30,9 +30,5 @@ static enum status read_one(const char *word, const struct call *call) {
 
 /* Reads every scalar that is given. */
 enum status number(const struct call *call) {
-    enum status status = STATUS_WELL;
-    for (size_t i = 0; i < call->count; i++) {
-        status = worse(status, read_one(call->words[i], call));
-    }
-    return status;
+    return each_word(call, read_one);
 }

@@ -1,5 +1,5 @@
 /* What the command says besides its answers: refusals in words, complaints about the system. Each is one line
- * of standard error, whatever bytes a file's name or a scalar has. */
+ * of standard error, whatever bytes a file's name or a scalar has. And how it goes over several words. */
 #include "command.h"
 
 #include <errno.h>
@@ -9,6 +9,15 @@
 /* The worse of two ends. */
 enum status worse(enum status one, enum status other) {
     return one > other ? one : other;
+}
+
+/* Does the same with every word of a call, and ends as the worst of them. */
+enum status each_word(const struct call *call, enum status (*with)(const char *word, const struct call *call)) {
+    enum status status = STATUS_WELL;
+    for (size_t i = 0; i < call->count; i++) {
+        status = worse(status, with(call->words[i], call));
+    }
+    return status;
 }
 
 /* Writes bytes as they stand, but for control bytes, which could break or forge a line: \x0a for a LF. */
@@ -95,7 +104,8 @@ void tell_refusal(const struct save *save, const struct call *call) {
     }
 }
 
-/* Says why a scalar is refused, as of a save, but that a scalar has no place to point at. */
+/* Says why a scalar is refused, as of a save, but that a scalar has no place to point at. With --numbers it may be told
+ * of one that is not, as 0 and 0. */
 enum status refuse_scalar(const char *word, uint32_t refusal, const struct call *call) {
     const struct save refused = {.name = *word == '\0' ? "an empty scalar" : word, .refusal = refusal};
     tell_refusal(&refused, call);

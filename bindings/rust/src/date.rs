@@ -3,12 +3,13 @@
 use crate::calls;
 use crate::error::DateError;
 use std::fmt;
+use std::str::FromStr;
 
 /// A day of the calendar, from 1.1.1 to 9999.12.31, and perhaps an hour of it.
 ///
 /// Every year has 365 days, and its months have 31, 28, 31, 30, 31, 30, 31, 31, 30, 31, 30 and 31. A date that there is
-/// not cannot be made: [`Scalar::to_date`](crate::Scalar::to_date), [`new`](Date::new) and
-/// [`from_days`](Date::from_days) refuse it.
+/// not cannot be made: [`Scalar::to_date`](crate::Scalar::to_date), `parse` of a `str`, [`new`](Date::new),
+/// [`with_hour`](Date::with_hour), [`from_days`](Date::from_days) and [`plus_days`](Date::plus_days) refuse it.
 ///
 /// ```
 /// use tackacorn::{Date, DateError, Scalar};
@@ -20,8 +21,9 @@ use std::fmt;
 /// assert_eq!((start.days(), war.days()), (706_286, 707_613));
 /// assert_eq!((start.days_until(war), war.days_until(start)), (1327, -1327));
 /// // ninety days on
-/// let later = Date::from_days(start.days() + 90)?;
-/// assert_eq!(later.to_string(), "1936.4.12");
+/// assert_eq!(start.plus_days(90)?.to_string(), "1936.4.12");
+/// // and from a count or a `str`
+/// assert_eq!(Date::from_days(706_286)?, "1936.1.12".parse()?);
 /// # Ok::<(), DateError>(())
 /// ```
 ///
@@ -30,7 +32,8 @@ use std::fmt;
 /// - **This is not the world's calendar.** It has no leap years: from 1936.2.28 to 1936.3.1 it is one day. Never hand a
 ///   count to what reckons by that, nor a count of that to [`from_days`](Date::from_days).
 /// - **The hour is left out of the count.** Two dates may differ, and have the same [`days`](Date::days). Dates are
-///   ordered by their day, then by their hour, one without an hour before those with one.
+///   ordered by their day, then by their hour, one without an hour before those with one, though nothing is known of
+///   which of these is the earlier.
 /// - **Zeros in front are read.** `1936.1.12` and `1936.01.012` are the same date: compare dates, never the bytes.
 /// - **Counts have no sign.** [`days_until`](Date::days_until) subtracts them in a type that has one.
 ///
@@ -48,9 +51,11 @@ pub struct Date {
     year: u32,
     month: u32,
     day: u32,
-    /// 0 where there is none.
-    hour: u32,
+    hour: Option<u32>,
 }
+
+/// The hours of a day, from 1 on; the header has no number for it, and a test holds it against the library.
+const LAST_HOUR: u32 = 24;
 
 /// An answer's value where it is not refused, else why not.
 fn answered<T>((refusal, value): (u32, T)) -> Result<T, DateError> {
@@ -61,7 +66,7 @@ impl Date {
     /// The date that a scalar's bytes are: see [`Scalar::to_date`](crate::Scalar::to_date).
     pub(crate) fn read(scalar: &[u8]) -> Result<Date, DateError> {
         let [year, month, day, hour] = answered(calls::to_date(scalar))?;
-        Ok(Date { year, month, day, hour })
+        Ok(Date { year, month, day, hour: (hour != 0).then_some(hour) })
     }
 
     /// The date of these parts, without an hour.
@@ -76,7 +81,26 @@ impl Date {
     #[inline]
     pub fn new(year: u32, month: u32, day: u32) -> Result<Date, DateError> {
         answered(calls::to_days(year, month, day))?;
-        Ok(Date { year, month, day, hour: 0 })
+        Ok(Date { year, month, day, hour: None })
+    }
+
+    /// The same day with this hour, from 1 to 24, whether it had one or not.
+    ///
+    /// ```
+    /// use tackacorn::{Date, DateError};
+    ///
+    /// let day = Date::new(1936, 1, 12)?;
+    /// assert_eq!(day.with_hour(24)?.to_string(), "1936.1.12.24");
+    /// assert_eq!(day.with_hour(0), Err(DateError::OutOfRange));
+    /// assert_eq!(day.with_hour(25), Err(DateError::OutOfRange));
+    /// # Ok::<(), DateError>(())
+    /// ```
+    #[inline]
+    pub fn with_hour(self, hour: u32) -> Result<Date, DateError> {
+        if !(1..=LAST_HOUR).contains(&hour) {
+            return Err(DateError::OutOfRange);
+        }
+        Ok(Date { hour: Some(hour), ..self })
     }
 
     /// The date of a day count, without an hour. Counts above [`LAST_DAY`](crate::LAST_DAY) have none.
@@ -91,7 +115,7 @@ impl Date {
     #[inline]
     pub fn from_days(days: u32) -> Result<Date, DateError> {
         let [year, month, day] = answered(calls::from_days(days))?;
-        Ok(Date { year, month, day, hour: 0 })
+        Ok(Date { year, month, day, hour: None })
     }
 
     /// The year, from 1 to 9999.
@@ -115,7 +139,7 @@ impl Date {
     /// The hour, from 1 to 24, where there is one.
     #[inline]
     pub fn hour(self) -> Option<u32> {
-        (self.hour != 0).then_some(self.hour)
+        self.hour
     }
 
     /// The day count: how many days it is behind 1.1.1, which is day 0. The hour has no part in it.
@@ -130,13 +154,44 @@ impl Date {
     pub fn days_until(self, other: Date) -> i64 {
         i64::from(other.days()) - i64::from(self.days())
     }
+
+    /// The date so many days on, or back where they are below 0, with the same hour or none. Past either end of the
+    /// calendar there is no date.
+    ///
+    /// ```
+    /// use tackacorn::{Date, DateError};
+    ///
+    /// let start = Date::new(1936, 1, 12)?;
+    /// assert_eq!(start.plus_days(90), Date::new(1936, 4, 12));
+    /// assert_eq!(start.plus_days(-12), Date::new(1935, 12, 31));
+    /// assert_eq!(Date::new(1, 1, 1)?.plus_days(-1), Err(DateError::OutOfRange));
+    /// assert_eq!(Date::new(9999, 12, 31)?.plus_days(1), Err(DateError::OutOfRange));
+    /// # Ok::<(), DateError>(())
+    /// ```
+    #[inline]
+    pub fn plus_days(self, days: i64) -> Result<Date, DateError> {
+        let sum = i64::from(self.days()).checked_add(days);
+        let count = sum.and_then(|sum| u32::try_from(sum).ok()).ok_or(DateError::OutOfRange)?;
+        let date = Date::from_days(count)?;
+        Ok(Date { hour: self.hour, ..date })
+    }
+}
+
+impl FromStr for Date {
+    type Err = DateError;
+
+    /// As [`Scalar::to_date`](crate::Scalar::to_date) reads the bytes.
+    #[inline]
+    fn from_str(scalar: &str) -> Result<Date, DateError> {
+        Date::read(scalar.as_bytes())
+    }
 }
 
 impl fmt::Display for Date {
     /// As a save has it, without zeros in front: `1936.1.12`, and with an hour `1936.1.12.24`.
     fn fmt(&self, f: &mut fmt::Formatter<'_>) -> fmt::Result {
         write!(f, "{}.{}.{}", self.year, self.month, self.day)?;
-        match self.hour() {
+        match self.hour {
             Some(hour) => write!(f, ".{hour}"),
             None => Ok(()),
         }

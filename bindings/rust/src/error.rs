@@ -162,6 +162,38 @@ impl fmt::Display for Error {
 
 impl std::error::Error for Error {}
 
+/// What the errors share that are a number and no more: the way from the number, and how they print.
+macro_rules! numbered {
+    ($error:ident, $numbers:literal, $($variant:ident)+) => {
+        impl $error {
+            /// The refusal of this number, which the library has answered.
+            pub(crate) fn new(number: u32) -> Self {
+                let all = [$($error::$variant),+];
+                let error = all.into_iter().find(|error| error.number() == number);
+                error.unwrap_or_else(|| unknown(number))
+            }
+
+            #[doc = concat!("The refusal's number, ", $numbers, ".")]
+            pub fn number(self) -> u32 {
+                self as u32
+            }
+
+            /// The refusal in words, without a full stop.
+            pub fn words(self) -> &'static str {
+                calls::refusal_text(self.number())
+            }
+        }
+
+        impl fmt::Display for $error {
+            fn fmt(&self, f: &mut fmt::Formatter<'_>) -> fmt::Result {
+                write!(f, "refusal {}: {}", self.number(), self.words())
+            }
+        }
+
+        impl std::error::Error for $error {}
+    };
+}
+
 /// Why a sheet is not written. Each is looked for in the whole sheet before the next, in this order.
 ///
 /// ```
@@ -194,40 +226,7 @@ pub enum WriteError {
     ReadsOtherwise = 45,
 }
 
-const WRITE_ERRORS: [WriteError; 6] = [
-    WriteError::NotSound,
-    WriteError::OtherForm,
-    WriteError::TooDeep,
-    WriteError::TooLong,
-    WriteError::NoRoom,
-    WriteError::ReadsOtherwise,
-];
-
-impl WriteError {
-    /// The refusal of this number, which the library has answered.
-    pub(crate) fn new(number: u32) -> Self {
-        let error = WRITE_ERRORS.into_iter().find(|error| error.number() == number);
-        error.unwrap_or_else(|| unknown(number))
-    }
-
-    /// The refusal's number, from 41 to 46.
-    pub fn number(self) -> u32 {
-        self as u32
-    }
-
-    /// The refusal in words, without a full stop.
-    pub fn words(self) -> &'static str {
-        calls::refusal_text(self.number())
-    }
-}
-
-impl fmt::Display for WriteError {
-    fn fmt(&self, f: &mut fmt::Formatter<'_>) -> fmt::Result {
-        write!(f, "refusal {}: {}", self.number(), self.words())
-    }
-}
-
-impl std::error::Error for WriteError {}
+numbered!(WriteError, "from 41 to 46", NotSound OtherForm TooDeep TooLong NoRoom ReadsOtherwise);
 
 /// Why a sheet is not put on file, or a file is not read. The first that holds is told, in this order.
 ///
@@ -259,40 +258,7 @@ pub enum FileError {
     NoRoom = 34,
 }
 
-const FILE_ERRORS: [FileError; 6] = [
-    FileError::Length,
-    FileError::UnknownVersion,
-    FileError::Count,
-    FileError::NotSound,
-    FileError::TooLarge,
-    FileError::NoRoom,
-];
-
-impl FileError {
-    /// The refusal of this number, which the library has answered.
-    pub(crate) fn new(number: u32) -> Self {
-        let error = FILE_ERRORS.into_iter().find(|error| error.number() == number);
-        error.unwrap_or_else(|| unknown(number))
-    }
-
-    /// The refusal's number, from 31 to 36.
-    pub fn number(self) -> u32 {
-        self as u32
-    }
-
-    /// The refusal in words, without a full stop.
-    pub fn words(self) -> &'static str {
-        calls::refusal_text(self.number())
-    }
-}
-
-impl fmt::Display for FileError {
-    fn fmt(&self, f: &mut fmt::Formatter<'_>) -> fmt::Result {
-        write!(f, "refusal {}: {}", self.number(), self.words())
-    }
-}
-
-impl std::error::Error for FileError {}
+numbered!(FileError, "from 31 to 36", Length UnknownVersion Count NotSound TooLarge NoRoom);
 
 /// Why bytes, parts or a count are no date. The first that holds is told, in this order.
 ///
@@ -316,30 +282,4 @@ pub enum DateError {
     OutOfRange = 52,
 }
 
-const DATE_ERRORS: [DateError; 2] = [DateError::NotADate, DateError::OutOfRange];
-
-impl DateError {
-    /// The refusal of this number, which the library has answered.
-    pub(crate) fn new(number: u32) -> Self {
-        let error = DATE_ERRORS.into_iter().find(|error| error.number() == number);
-        error.unwrap_or_else(|| unknown(number))
-    }
-
-    /// The refusal's number, 51 or 52.
-    pub fn number(self) -> u32 {
-        self as u32
-    }
-
-    /// The refusal in words, without a full stop.
-    pub fn words(self) -> &'static str {
-        calls::refusal_text(self.number())
-    }
-}
-
-impl fmt::Display for DateError {
-    fn fmt(&self, f: &mut fmt::Formatter<'_>) -> fmt::Result {
-        write!(f, "refusal {}: {}", self.number(), self.words())
-    }
-}
-
-impl std::error::Error for DateError {}
+numbered!(DateError, "51 or 52", NotADate OutOfRange);

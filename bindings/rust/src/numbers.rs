@@ -87,91 +87,95 @@ mod tests {
         text.lines().filter_map(named).collect()
     }
 
+    /// The sizes, and the last day.
+    const SIZES: &[(&str, u64)] = &[
+        ("TEXT_LIMIT", TEXT_LIMIT as u64),
+        ("LEVEL_LIMIT", LEVEL_LIMIT as u64),
+        ("WORDS_PER_TOKEN", WORDS_PER_TOKEN as u64),
+        ("FILE_HEAD", FILE_HEAD as u64),
+        ("FILE_TOKEN", FILE_TOKEN as u64),
+        ("LAST_DAY", LAST_DAY as u64),
+    ];
+
+    /// The codes of tokens and operators, and the refusals of the readings.
+    const CODES: &[(&str, u64)] = &[
+        ("ARRAY", ARRAY as u64),
+        ("OBJECT", OBJECT as u64),
+        ("MIXED_CONTAINER", MIXED_CONTAINER as u64),
+        ("UNQUOTED", UNQUOTED as u64),
+        ("QUOTED", QUOTED as u64),
+        ("PARAMETER", PARAMETER as u64),
+        ("UNDEFINED_PARAMETER", UNDEFINED_PARAMETER as u64),
+        ("OPERATOR", OPERATOR as u64),
+        ("END", END as u64),
+        ("HEADER", HEADER as u64),
+        ("QUOTED_ESCAPE", QUOTED_ESCAPE as u64),
+        ("LESS_THAN", LESS_THAN as u64),
+        ("LESS_THAN_EQUAL", LESS_THAN_EQUAL as u64),
+        ("GREATER_THAN", GREATER_THAN as u64),
+        ("GREATER_THAN_EQUAL", GREATER_THAN_EQUAL as u64),
+        ("NOT_EQUAL", NOT_EQUAL as u64),
+        ("EXACT", EXACT as u64),
+        ("EQUAL", EQUAL as u64),
+        ("EXISTS", EXISTS as u64),
+        ("ALL_DIGITS", ALL_DIGITS as u64),
+        ("OVERFLOW", OVERFLOW as u64),
+        ("INVALID_BOOL", INVALID_BOOL as u64),
+        ("PRECISION_LOSS", PRECISION_LOSS as u64),
+    ];
+
+    /// The refusals of a text and of a view.
+    const KINDS: &[(&str, u64)] = &[
+        ("TOO_LONG", ErrorKind::TooLong as u64),
+        ("EOF", ErrorKind::Eof as u64),
+        ("STACK_EMPTY", ErrorKind::StackEmpty as u64),
+        ("NO_HEADER", ErrorKind::NoHeader as u64),
+        ("NO_VALUE", ErrorKind::NoValue as u64),
+        ("MIXED_PARAMETER", ErrorKind::MixedParameter as u64),
+        ("NOTHING_PRECEDES", ErrorKind::NothingPrecedes as u64),
+        ("UNKNOWN_OPERATOR", ErrorKind::UnknownOperator as u64),
+        ("NO_PARAMETER", ErrorKind::NoParameter as u64),
+        ("OPEN_NAME", ErrorKind::OpenName as u64),
+        ("FULL", ErrorKind::Full as u64),
+        ("NO_SCALAR", ErrorKind::NoScalar as u64),
+    ];
+
+    /// The refusals of a sheet to write, of a sheet on file and of a date.
+    const ERRORS: &[(&str, u64)] = &[
+        ("NOT_SOUND", WriteError::NotSound as u64),
+        ("TOO_DEEP", WriteError::TooDeep as u64),
+        ("WRITTEN_TOO_LONG", WriteError::TooLong as u64),
+        ("NO_ROOM", WriteError::NoRoom as u64),
+        ("READS_OTHERWISE", WriteError::ReadsOtherwise as u64),
+        ("OTHER_FORM", WriteError::OtherForm as u64),
+        ("FILE_LENGTH", FileError::Length as u64),
+        ("UNKNOWN_VERSION", FileError::UnknownVersion as u64),
+        ("FILE_NOT_SOUND", FileError::NotSound as u64),
+        ("FILE_NO_ROOM", FileError::NoRoom as u64),
+        ("FILE_TOO_LARGE", FileError::TooLarge as u64),
+        ("FILE_COUNT", FileError::Count as u64),
+        ("NOT_A_DATE", DateError::NotADate as u64),
+        ("OUT_OF_RANGE", DateError::OutOfRange as u64),
+    ];
+
+    /// What a scalar is.
+    const READINGS: &[(&str, u64)] = &[
+        ("BOOL", ReadingKind::Bool as u64),
+        ("WHOLE", ReadingKind::Whole as u64),
+        ("DECIMAL", ReadingKind::Decimal as u64),
+        ("NAME", ReadingKind::Name as u64),
+    ];
+
     #[test]
     fn the_header_has_the_same_numbers() {
         let header = header();
-        let same = |name: &str, number: u64| {
+        let named = [SIZES, CODES, KINDS, ERRORS, READINGS].concat();
+        for &(name, number) in &named {
             let found = header.iter().find(|named| named.0 == name);
             assert_eq!(found.map(|named| named.1), Some(number), "TACKACORN_{name}");
-        };
-        same("TEXT_LIMIT", TEXT_LIMIT as u64);
-        same("LEVEL_LIMIT", LEVEL_LIMIT as u64);
-        same("WORDS_PER_TOKEN", WORDS_PER_TOKEN as u64);
-        same("FILE_HEAD", FILE_HEAD as u64);
-        same("FILE_TOKEN", FILE_TOKEN as u64);
-        same("LAST_DAY", LAST_DAY.into());
-        let codes = [
-            ("ARRAY", ARRAY),
-            ("OBJECT", OBJECT),
-            ("MIXED_CONTAINER", MIXED_CONTAINER),
-            ("UNQUOTED", UNQUOTED),
-            ("QUOTED", QUOTED),
-            ("PARAMETER", PARAMETER),
-            ("UNDEFINED_PARAMETER", UNDEFINED_PARAMETER),
-            ("OPERATOR", OPERATOR),
-            ("END", END),
-            ("HEADER", HEADER),
-            ("QUOTED_ESCAPE", QUOTED_ESCAPE),
-            ("LESS_THAN", LESS_THAN),
-            ("LESS_THAN_EQUAL", LESS_THAN_EQUAL),
-            ("GREATER_THAN", GREATER_THAN),
-            ("GREATER_THAN_EQUAL", GREATER_THAN_EQUAL),
-            ("NOT_EQUAL", NOT_EQUAL),
-            ("EXACT", EXACT),
-            ("EQUAL", EQUAL),
-            ("EXISTS", EXISTS),
-            ("ALL_DIGITS", ALL_DIGITS),
-            ("OVERFLOW", OVERFLOW),
-            ("INVALID_BOOL", INVALID_BOOL),
-            ("PRECISION_LOSS", PRECISION_LOSS),
-        ];
-        let kinds = [
-            ("TOO_LONG", ErrorKind::TooLong),
-            ("EOF", ErrorKind::Eof),
-            ("STACK_EMPTY", ErrorKind::StackEmpty),
-            ("NO_HEADER", ErrorKind::NoHeader),
-            ("NO_VALUE", ErrorKind::NoValue),
-            ("MIXED_PARAMETER", ErrorKind::MixedParameter),
-            ("NOTHING_PRECEDES", ErrorKind::NothingPrecedes),
-            ("UNKNOWN_OPERATOR", ErrorKind::UnknownOperator),
-            ("NO_PARAMETER", ErrorKind::NoParameter),
-            ("OPEN_NAME", ErrorKind::OpenName),
-            ("FULL", ErrorKind::Full),
-            ("NO_SCALAR", ErrorKind::NoScalar),
-        ];
-        let writes = [
-            ("NOT_SOUND", WriteError::NotSound),
-            ("TOO_DEEP", WriteError::TooDeep),
-            ("WRITTEN_TOO_LONG", WriteError::TooLong),
-            ("NO_ROOM", WriteError::NoRoom),
-            ("READS_OTHERWISE", WriteError::ReadsOtherwise),
-            ("OTHER_FORM", WriteError::OtherForm),
-        ];
-        let files = [
-            ("FILE_LENGTH", FileError::Length),
-            ("UNKNOWN_VERSION", FileError::UnknownVersion),
-            ("FILE_NOT_SOUND", FileError::NotSound),
-            ("FILE_NO_ROOM", FileError::NoRoom),
-            ("FILE_TOO_LARGE", FileError::TooLarge),
-            ("FILE_COUNT", FileError::Count),
-        ];
-        let dates = [("NOT_A_DATE", DateError::NotADate), ("OUT_OF_RANGE", DateError::OutOfRange)];
-        let readings = [
-            ("BOOL", ReadingKind::Bool),
-            ("WHOLE", ReadingKind::Whole),
-            ("DECIMAL", ReadingKind::Decimal),
-            ("NAME", ReadingKind::Name),
-        ];
-        codes.iter().for_each(|&(name, number)| same(name, number.into()));
-        kinds.iter().for_each(|&(name, kind)| same(name, kind.number().into()));
-        writes.iter().for_each(|&(name, error)| same(name, error.number().into()));
-        files.iter().for_each(|&(name, error)| same(name, error.number().into()));
-        dates.iter().for_each(|&(name, error)| same(name, error.number().into()));
-        readings.iter().for_each(|&(name, kind)| same(name, kind as u64));
-        // and it has no other besides the version: the five sizes, the last day, OK and NOTHING
-        let errors = kinds.len() + writes.len() + files.len() + dates.len();
-        let known = 8 + codes.len() + errors + readings.len();
+        }
+        // and it has no other besides the version, OK and NOTHING
         let others = header.iter().filter(|named| !named.0.starts_with("VERSION"));
-        assert_eq!(others.count(), known, "{header:?}");
+        assert_eq!(others.count(), named.len() + 2, "{header:?}");
     }
 }

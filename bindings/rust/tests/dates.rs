@@ -99,6 +99,52 @@ fn parts_and_counts_that_are_no_date() {
     }
 }
 
+/// Every hour that the library reads can be given to a date, and no other.
+#[test]
+fn hours_given_to_a_date() {
+    let (day, last) = (date("1936.1.12").unwrap(), date("1936.1.12.24").unwrap());
+    for hour in (0..=300).chain([65_537, 1 << 31, u32::MAX]) {
+        let read = date(&format!("1936.1.12.{hour}"));
+        assert_eq!((day.with_hour(hour), last.with_hour(hour)), (read, read), "{hour}");
+    }
+    assert_eq!(day.with_hour(24), Ok(last));
+    let first = day.with_hour(1).unwrap();
+    assert!(day < first && first < last);
+}
+
+/// A `str` is read as its bytes are as a scalar.
+#[test]
+fn a_str_is_read_as_a_scalar() {
+    let dates = ["1936.1.12", "1936.01.012.024", "9999.12.31", "1.1.1.1"];
+    let others = ["", " 1.1.1", "1.1.1 ", "1.1.\u{e9}"];
+    let all = dates.into_iter().chain(OTHER_SHAPES.split(' ')).chain(OUT_OF_RANGE.split(' '));
+    for bytes in all.chain(others) {
+        assert_eq!(bytes.parse(), date(bytes), "{bytes}");
+    }
+}
+
+/// Days on and back, to either end of the calendar and past it, with the hour that there was.
+#[test]
+fn days_on_and_back() {
+    let all = i64::from(LAST_DAY);
+    let (first, last) = (date("1.1.1").unwrap(), date("9999.12.31").unwrap());
+    assert_eq!((first.plus_days(all), last.plus_days(-all)), (Ok(last), Ok(first)));
+    let out = Err(DateError::OutOfRange);
+    for past in [1, 2, 365, all, 1 << 31, 1 << 32, (1 << 32) + 1, i64::MAX - all] {
+        assert_eq!((first.plus_days(-past), first.plus_days(all + past)), (out, out), "{past}");
+        assert_eq!((last.plus_days(past), last.plus_days(-all - past)), (out, out), "{past}");
+    }
+    for far in [i64::MIN, i64::MIN + 1, i64::MAX] {
+        assert_eq!((first.plus_days(far), last.plus_days(far)), (out, out));
+    }
+    let night = date("1936.2.28.24").unwrap();
+    assert_eq!((night.plus_days(0), night.plus_days(1)), (Ok(night), date("1936.3.1.24")));
+    for (year, month, day) in calendar().step_by(997) {
+        let to = Date::new(year, month, day).unwrap();
+        assert_eq!(night.plus_days(night.days_until(to)), to.with_hour(24));
+    }
+}
+
 #[test]
 fn zeros_hours_and_days_between() {
     let zeros = "0".repeat(1000);

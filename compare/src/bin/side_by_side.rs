@@ -4,7 +4,7 @@ use compare::generate::{self, Generator, LeftOut};
 use compare::model::boundary;
 use compare::numbers::{LAST_COUNT, OUT_OF_RANGE};
 use compare::pipe::{answers, ask, from_hex, hex};
-use compare::record::Record;
+use compare::record::{Record, rust_answers};
 use compare::rng::Rng;
 use compare::tally::Tally;
 use compare::{date, dates, kind, leading, oracle, scalars, standin};
@@ -116,7 +116,8 @@ fn show(difference: &Difference) {
     let body = record.get(5..).unwrap_or_default();
     println!("asked  {}", hex(record));
     println!("body   {:?}", String::from_utf8_lossy(&body[..body.len().min(400)]));
-    println!("the Rust:\n{rust}ours:\n{ours}replay with  compare/run --case {}", hex(record));
+    let by = if rust_answers(record) { "the Rust" } else { "expected" };
+    println!("{by}:\n{rust}ours:\n{ours}replay with  compare/run --case {}", hex(record));
 }
 
 /// Runs cases until a side differs; the number of the case that did, counted from 1, and it.

@@ -27,7 +27,7 @@ use Rattle.file_lines.proofs.Told.{reads-given}
 use Rattle.file_lines.proofs.Room.{file-short}
 use Rattle.answers.specs.declared.Answer.{Answer}
 use Rattle.answers.specs.declared.Answer.the-variants.{Put}
-use Rattle.answers.specs.Whole.{most-answer, most-words, All, Left, Whole}
+use Rattle.answers.specs.Whole.{word-bytes, word-in, most-answer, most-words, All, Left, Whole}
 use Rattle.answers.specs.Whole.{Answers, dump, readings, leading, date, day, verdict, view, written, filed, found}
 
 -- what was put, and the buffer of a text that was written back
@@ -73,12 +73,15 @@ module _ (capacity : ℕ) (body out : List ℕ) (at : ℕ) {r : ℕ} {o : List �
       → All capacity body out at r o
   leading-all e within room = fits (leading-of body) leading e (omega (arith, leading-short body within)) room
 
-  -- the date that it says, and the date of a day
+  -- the date that it says, and the date of the count that it is
   pub date-all : wrote r o ≡ append out at (date-line body) → at + most-answer ≤ length out → All capacity body out at r o
   date-all e room = fits (date-line body) date e (omega (arith, date-short body)) room
 
-  pub day-all : (n : ℕ) → wrote r o ≡ append out at (day-line n) → at + most-answer ≤ length out → All capacity body out at r o
-  day-all n e room = fits (day-line n) (day n) e (omega (arith, day-short n)) room
+  pub day-all : (n : ℕ) → n ≡ word-in body 0 → length body ≡ word-bytes → wrote r o ≡ append out at (day-line n)
+      → at + most-answer ≤ length out → All capacity body out at r o
+  day-all n f sized e room =
+      fits (day-line (word-in body 0)) (day sized) (e ∙ ap (λ (k : ℕ). append out at (day-line k)) f)
+      (omega (arith, day-short (word-in body 0))) room
 
   -- a verdict
   pub verdict-all : {Holds : Type 0} → sheets.Judged Holds out at (wrote r o) → at + most-answer ≤ length out

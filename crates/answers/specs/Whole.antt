@@ -9,6 +9,8 @@ use Rattle.writer.specs.declared.Written.{Written}
 use Rattle.file.specs.declared.Written as file
 use Rattle.file.specs.declared.Found.{Found}
 use Rattle.file.specs.Files as files
+use Rattle.packed.specs.Numbers.{width-of, field}
+use Rattle.packed.specs.declared.numbers.Width.the-variants.{Four}
 use Rattle.tape.specs.Words.{words-for}
 use Rattle.put.specs.Append.{wrote, whole}
 use Rattle.report.specs.Dates.{date-line, day-line}
@@ -32,20 +34,27 @@ stop-bytes = 11
 abbrev pub block-bytes : ℕ
 block-bytes = 2 * (most-answer + stop-bytes)
 
+-- the bytes of a word in a body, and the number that they spell from a place on
+abbrev pub word-bytes : ℕ
+word-bytes = width-of Four
+
+abbrev pub word-in : List ℕ → ℕ → ℕ
+word-in bytes at = field bytes at word-bytes
+
 -- the most words that are lent to read a file: more than the file in any body needs
 abbrev pub most-words : ℕ
 most-words = 16384
 
 -- the lines that answer a record with a capacity and a body: the dump of a text, with room for no more tokens than a dump has, the
--- readings of a scalar, the number that one begins with, the date that it says, the date of a day, what is said of a sheet, a view of the
--- text that stands from some place on, the way back from a sheet and its file, each in a buffer of no more bytes than an input has, and
--- the sheet that the body is a file of
+-- readings of a scalar, the number that one begins with, the date that it says, the date of the day count that is all of the body, what
+-- is said of a sheet, a view of the text that stands from some place on, the way back from a sheet and its file, each in a buffer of no
+-- more bytes than an input has, and the sheet that the body is a file of
 pub data Answers (capacity : ℕ) (body : List ℕ) : List ℕ → Type 0 where
   dump : Answers capacity body (dump-of body (words-for (min capacity most-tokens)))
   readings : Answers capacity body (readings-of body)
   leading : Answers capacity body (leading-of body)
   date : Answers capacity body (date-line body)
-  day : (n : ℕ) → Answers capacity body (day-line n)
+  day : length body ≡ word-bytes → Answers capacity body (day-line (word-in body 0))
   verdict : (sound : Bool) → Answers capacity body (sheets.verdict sound)
   view : (from size : ℕ) (v : Viewed) → Answers capacity body (sheets.view-text (take size (drop from body)) v)
   written : (w : Written) (buffer : List ℕ) → length buffer ≤ most-input → Answers capacity body (sheets.written-text w buffer)

@@ -2,6 +2,8 @@
 // bytes and a body of that length; numbers have their larger bytes first. Input is read and answers are written in large blocks.
 use libc::STDIN_FILENO;
 use libc::STDOUT_FILENO;
+use packed::numbers::Width;
+use packed::numbers::number_at;
 use put::front;
 use report::limits::DUMP_BYTES;
 use report::limits::MOST_INPUT;
@@ -13,7 +15,7 @@ ghost use Prim.Native.Nat.{_+_, _≤_, _<_, min};
 ghost use lib.ListN.{length};
 ghost use Rattle.tape.specs.Words.{words-for};
 ghost use Rattle.report.specs.Room.{most-input, most-tokens};
-ghost use Rattle.answers.specs.Whole.{most-answer, stop-bytes, block-bytes, Whole};
+ghost use Rattle.answers.specs.Whole.{word-in, most-answer, stop-bytes, block-bytes, Whole};
 
 // The bytes of a record before its body: its kind, its capacity and its length.
 const HEAD: usize = 5;
@@ -71,16 +73,11 @@ fn pair(high: u8, low: u8) -> usize
     (high as usize) * 256 + (low as usize)
 }
 
-// A number of four bytes.
-fn quad(a: u8, b: u8, c: u8, d: u8) -> u32 {
-    ((a as u32) << 24) | ((b as u32) << 16) | ((c as u32) << 8) | (d as u32)
-}
-
 // The number of four bytes at a place.
 fn word_at(bytes: &[u8], at: usize) -> u32
-    requires { ⌜ at + 3 < length (now bytes) ⌝ }
+    ensures { λ r. ⌜ r ≡ word-in (now (bytes .entry)) at ⌝ }
 {
-    quad(bytes[at], bytes[at + 1], bytes[at + 2], bytes[at + 3])
+    number_at(bytes, at, Width::Four)
 }
 
 // Puts the numbers that bytes spell into words, as far as there is room, and answers how many there are.
@@ -139,7 +136,7 @@ fn leading_answer(out: &mut [u8], at: usize, capacity: usize, scalar: &[u8]) -> 
     Answer::Put(report::readings::put_leading(out, at, scalar))
 }
 
-// Kind `D`: the date that a scalar says, with its day.
+// Kind `D`: the date that a scalar says, with its day count.
 fn date_answer(out: &mut [u8], at: usize, capacity: usize, scalar: &[u8]) -> Answer
     requires { ⌜ at + most-answer ≤ length (now out) ⌝ }
     ensures { λ r. ⌜ Whole capacity (now (scalar .entry)) (now (out .entry)) at r (now (out .exit)) ⌝ }
@@ -147,7 +144,7 @@ fn date_answer(out: &mut [u8], at: usize, capacity: usize, scalar: &[u8]) -> Ans
     Answer::Put(report::dates::put_date(out, at, scalar))
 }
 
-// Kind `Y`: the date of a day, which is all of the body.
+// Kind `Y`: the date of a day count, which is all of the body.
 fn day_answer(out: &mut [u8], at: usize, capacity: usize, body: &[u8]) -> Answer
     requires { ⌜ at + most-answer ≤ length (now out) ⌝ }
     ensures { λ r. ⌜ Whole capacity (now (body .entry)) (now (out .entry)) at r (now (out .exit)) ⌝ }

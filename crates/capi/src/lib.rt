@@ -1,5 +1,5 @@
 // The calls for C: parse, check, views, tokens, the way back, sheet files, readings and dates under plain names, on slices (a pointer and a
-// length), pointers to single numbers, and numbers. Each answers document 01's number of a refusal, 0 for none, and writes through
+// length), pointers to single numbers, and numbers. Each answers a refusal's number, 0 for none, and writes through
 // every pointer that it is given, whatever it answers.
 use date::Date;
 use file::Found;
@@ -297,7 +297,7 @@ pub extern "C" fn tackacorn_to_date(
     wide(date::date_refusal(read))
 }
 
-// The day of a date.
+// The day count of a date.
 #[no_mangle]
 pub extern "C" fn tackacorn_to_days(year: u32, month: u32, day: u32, days: &mut u32) -> u32
     ensures { λ r. ⌜ read-told r (now (days .exit)) ≡ tell-days (days-of (date year month day 0)) ⌝ }
@@ -312,7 +312,7 @@ pub extern "C" fn tackacorn_to_days(year: u32, month: u32, day: u32, days: &mut 
     wide(date::days_refusal(read))
 }
 
-// The date of a day.
+// The date of a day count.
 #[no_mangle]
 pub extern "C" fn tackacorn_from_days(
     days: u32,

@@ -120,12 +120,14 @@ from-here month h k =
 
 -- a day of the first of them
 pub in-this-month : (month left : ℕ) → 1 ≤ month → month ≤ months → left < days-in month → months-past (from-month month) left ≡ 0
-in-this-month month left h k small = ap (λ (ns : List ℕ). months-past ns left) (from-here month h k) ∙ past-none (days-in month) (from-month (month + 1)) left small
+in-this-month month left h k small =
+    ap (λ (ns : List ℕ). months-past ns left) (from-here month h k) ∙ past-none (days-in month) (from-month (month + 1)) left small
 
 -- and one of a later month
 pub in-a-later-month : (month left : ℕ) → 1 ≤ month → month ≤ months → days-in month ≤ left
     → months-past (from-month month) left ≡ suc (months-past (from-month (month + 1)) (left - days-in month))
-in-a-later-month month left h k large = ap (λ (ns : List ℕ). months-past ns left) (from-here month h k) ∙ past-one (days-in month) (from-month (month + 1)) left large
+in-a-later-month month left h k large =
+    ap (λ (ns : List ℕ). months-past ns left) (from-here month h k) ∙ past-one (days-in month) (from-month (month + 1)) left large
 
 pub left-over : (month : ℕ) → 1 ≤ month → month ≤ months → together (from-month month) ≡ days-in month + together (from-month (month + 1))
 unfolding together

@@ -129,3 +129,33 @@ by-date P d is none out =
     (λ e. subst P (sym (read ∙ ranged-in _ e)) (is _ e))
     (λ e. subst P (sym (read ∙ ranged-out _ e)) out)))
     (λ f. subst P (sym (reads-none d f)) none)
+
+-- what is known of bytes that are read as a date
+pub record Is-read (d : List ℕ) (t : Date) : Type 0 where
+  pub shape : shaped d ≡ true
+  pub hour : hour-zero (numbers d) ≡ false
+  pub ranged : in-range t ≡ true
+  pub told : t ≡ told-by (numbers d)
+
+-- whether there is a date, by a number, so that a date is no refusal
+abbrev some-date : DateRead → ℕ
+some-date (Is t) = 1
+some-date NotADate = 0
+some-date OutOfRange = 0
+
+abbrev date-in : Date → DateRead → Date
+date-in else (Is t) = t
+date-in else NotADate = else
+date-in else OutOfRange = else
+
+pub is-read : (d : List ℕ) (t : Date) → date-read d ≡ Is t → Is-read d t
+is-read d t e =
+    by-bool (shaped d)
+    (λ shape. by-bool (hour-zero (numbers d))
+    (λ zero. absurd (omega (arith, ap some-date (sym e ∙ by-zero d shape (numbers d) refl zero))))
+    (λ some. let read = by-range d shape (numbers d) refl some in
+    by-bool (in-range (told-by (numbers d)))
+    (λ within. let same = ap (date-in t) (sym e ∙ read ∙ ranged-in _ within) in
+    record { shape = shape; hour = some; ranged = ap in-range same ∙ within; told = same })
+    (λ out. absurd (omega (arith, ap some-date (sym e ∙ read ∙ ranged-out (told-by (numbers d)) out))))))
+    (λ none. absurd (omega (arith, ap some-date (sym e ∙ reads-none d none))))

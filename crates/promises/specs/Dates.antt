@@ -1,18 +1,20 @@
--- Dates (request W8): counting their days and reading them. Told by the request's numbers.
-use Prim.Native.Nat.{ℕ, _≤_, _<_}
+-- Dates (request W8): their day counts and their reading. Told by the request's numbers.
+use Prim.Native.Nat.{ℕ, _+_, _≤_, _<_}
 use Prim.Native.String.{String}
 use mathlib.Core.Bool.{Bool, true, false, not}
 use mathlib.Core.List.{List, [], _∷_, _++_, map}
 use mathlib.Core.Logic.{_⊎_, _↔_}
 use mathlib.Core.Path.{_≡_}
 use lib.Dec.{eqb}
+use lib.IntN.{pos}
 use lib.ListN.{length}
 use Rattle.data.specs.Bytes.{point, digit-zero}
 use Rattle.data.specs.Reasons.{Reason, if-so}
-use Rattle.scalar.specs.Digits.{value}
-use Rattle.scalar.specs.Numbers.{answered}
-use Rattle.date.specs.Calendar.{date, month-days, together, months, year-days, in-range, Ranged, days-of, last-day, date-at}
-use Rattle.date.specs.Reading.{parts, is-part, shaped, numbers, told-by, out-of-range, date-read}
+use Rattle.scalar.specs.Digits.{digit-first, value, digits-in}
+use Rattle.scalar.specs.Numbers.{answered, i64-refusal-of, i64-value-of}
+use Rattle.scalar.specs.Whole.{i64-number, i64-rest}
+use Rattle.date.specs.Calendar.{date, month-days, together, months, year-days, days-in, most-year, in-range, Ranged, days-of, last-day, date-at}
+use Rattle.date.specs.Reading.{parts, is-part, all-parts, right-number, shaped, numbers, told-by, out-of-range, date-read}
 use Rattle.date.specs.Refusals as refusals
 use Rattle.date.specs.Refusals.{date-refusal-of, date-value-of, days-refusal-of, days-value-of}
 use Rattle.date.specs.declared.calendar.Date.{Date}
@@ -32,9 +34,9 @@ Table-holds = (length month-days ≡ months) × (together month-days ≡ year-da
 abbrev pub In-range : Type 0
 In-range = (t : Date) → (in-range t ≡ true) ↔ Ranged t
 
--- ---- days
+-- ---- day counts
 
--- the date without its hour, which is what a day tells of it
+-- the date without its hour, which is what a count tells of it
 abbrev pub without-hour : Date → Date
 without-hour t = date (t .year) (t .month) (t .day) 0
 
@@ -43,11 +45,21 @@ pub record Date-and-back (t : Date) : Type 0 where
   pub counted : days-refusal-of (days-of t) ≡ answered
   pub back : date-at (days-value-of (days-of t)) ≡ Dated.Is (without-hour t)
 
+abbrev pub Dates-and-back : Type 0
+Dates-and-back = (t : Date) → in-range t ≡ true → Date-and-back t
+
+-- the count leaves the hour out
+abbrev pub Hour-left-out : Type 0
+Hour-left-out = (t : Date) → in-range t ≡ true → days-of t ≡ days-of (without-hour t)
+
 -- count to date and back is the count; the date is in range
-pub record Day-and-back (n : ℕ) : Type 0 where
+pub record Count-and-back (n : ℕ) : Type 0 where
   pub dated : date-refusal-of (date-at n) ≡ answered
   pub ranged : in-range (date-value-of (date-at n)) ≡ true
   pub back : days-of (date-value-of (date-at n)) ≡ Days.Is n
+
+abbrev pub Counts-and-back : Type 0
+Counts-and-back = (n : ℕ) → n ≤ last-day → Count-and-back n
 
 -- order on dates is by year, then month, then day
 abbrev pub Earlier : Date → Date → Type 0
@@ -65,12 +77,12 @@ Exactly = (n : ℕ) → ((t : Date) × (in-range t ≡ true) × (days-of t ≡ D
 
 -- day 0 is 1.1.1, and the last is the end of the year 9999
 abbrev pub Ends-hold : Type 0
-Ends-hold = (days-of (date 1 1 1 0) ≡ Days.Is 0) × (days-of (date 9999 12 31 0) ≡ Days.Is last-day)
+Ends-hold = (days-of (date 1 1 1 0) ≡ Days.Is 0) × (days-of (date most-year months (days-in months) 0) ≡ Days.Is last-day)
 
 -- all else is refused: a date out of range, and a count past the last day
 pub record Else-refused : Type 0 where
   pub date : (t : Date) → in-range t ≡ false → days-refusal-of (days-of t) ≡ refusals.out-of-range
-  pub day : (n : ℕ) → last-day < n → date-refusal-of (date-at n) ≡ refusals.out-of-range
+  pub count : (n : ℕ) → last-day < n → date-refusal-of (date-at n) ≡ refusals.out-of-range
 
 -- ---- the reading
 
@@ -81,7 +93,7 @@ date-reasons unshaped out = if-so unshaped refusals.not-a-date ∷ if-so out ref
 pub record Read (d : List ℕ) : Type 0 where
   -- the refusal is the first reason's
   pub refusal : date-refusal-of (date-read d) ≡ first-number (date-reasons (not (shaped d)) (out-of-range (numbers d)))
-  -- what is read are the numbers that the parts write, it is in range, and it has a day
+  -- what is read are the numbers that the parts write, it is in range, and it has a day count
   pub told : date-refusal-of (date-read d) ≡ answered → date-value-of (date-read d) ≡ told-by (numbers d)
   pub ranged : date-refusal-of (date-read d) ≡ answered → in-range (date-value-of (date-read d)) ≡ true
   pub counted : date-refusal-of (date-read d) ≡ answered → days-refusal-of (days-of (date-value-of (date-read d))) ≡ answered
@@ -96,24 +108,33 @@ joined (p ∷ q ∷ ps) = p ++ point ∷ joined (q ∷ ps)
 abbrev pub Apart : Type 0
 Apart = (d : List ℕ) → joined (parts d) ≡ d
 
+-- so bytes have the shape exactly if they are three or four parts of digits with points between them
+abbrev pub Shape : Type 0
+Shape = (d : List ℕ) → (shaped d ≡ true)
+    ↔ ((ps : List (List ℕ)) × (right-number (length ps) ≡ true) × (all-parts ps ≡ true) × (d ≡ joined ps))
+
 -- digits that write a number, as many zeros in front as there may be
 pub record Writes (p : List ℕ) (n : ℕ) : Type 0 where
   pub digits : is-part p ≡ true
   pub number : value 0 p ≡ n
 
--- so do its decimal digits, and those of any digits with one more zero
+-- so do its decimal digits, and any digits that write it, with one more zero in front
 pub record Written-digits : Type 0 where
   pub decimals : (n : ℕ) → Writes (decimal n) n
   pub zeros : (p : List ℕ) (n : ℕ) → Writes p n → Writes (digit-zero ∷ p) n
 
--- written out as digits with points, a date in range reads as itself, without an hour and with one
-pub record Reads-itself (t : Date) : Type 0 where
-  pub day : (y m d : List ℕ) → Writes y (t .year) → Writes m (t .month) → Writes d (t .day)
-      → date-read (joined (y ∷ m ∷ d ∷ [])) ≡ Dated.Is (without-hour t)
-  pub hour : (y m d h : List ℕ) → Writes y (t .year) → Writes m (t .month) → Writes d (t .day) → Writes h (t .hour) → 1 ≤ t .hour
-      → date-read (joined (y ∷ m ∷ d ∷ h ∷ [])) ≡ Dated.Is t
+-- a scalar that is a date written out as digits with points, without an hour and with one
+pub data Written-out (d : List ℕ) (t : Date) : Type 0 where
+  to-the-day : (y m k : List ℕ) → Writes y (t .year) → Writes m (t .month) → Writes k (t .day) → t .hour ≡ 0
+      → d ≡ joined (y ∷ m ∷ k ∷ []) → Written-out d t
+  to-the-hour : (y m k h : List ℕ) → Writes y (t .year) → Writes m (t .month) → Writes k (t .day) → Writes h (t .hour) → 1 ≤ t .hour
+      → d ≡ joined (y ∷ m ∷ k ∷ h ∷ []) → Written-out d t
 
--- as it does in its decimal digits, with the hour where it has one
+-- written out so, a date in range reads as itself, and no other scalar reads as it
+abbrev pub Reads-exactly : Type 0
+Reads-exactly = (d : List ℕ) (t : Date) → (date-read d ≡ Dated.Is t) ↔ ((in-range t ≡ true) × Written-out d t)
+
+-- so it does in its decimal digits, with the hour where it has one
 abbrev pub hour-part : ℕ → List (List ℕ)
 hour-part hour = elim (eqb hour 0) [ true ↦ [] | false ↦ decimal hour ∷ [] ]
 
@@ -123,21 +144,32 @@ written t = joined (decimal (t .year) ∷ decimal (t .month) ∷ decimal (t .day
 abbrev pub Written-reads : Type 0
 Written-reads = (t : Date) → in-range t ≡ true → date-read (written t) ≡ Dated.Is t
 
--- ---- both sides of each edge: a scalar, its refusal, its date and its day
+-- ---- on W7
+
+-- bytes that begin with a digit: where the leading number is answered, it is the one that a part is read from, and what is left over begins where
+-- the part ends
+pub record On-leading-number (d : List ℕ) : Type 0 where
+  pub number : i64-value-of (i64-number d) ≡ pos (digits-in d 0 .number)
+  pub end : digits-in d 0 .end + length (i64-rest d) ≡ length d
+
+abbrev pub On-leading-numbers : Type 0
+On-leading-numbers = (d : List ℕ) → digit-first d ≡ true → i64-refusal-of (i64-number d) ≡ answered → On-leading-number d
+
+-- ---- both sides of each edge: a scalar, its refusal, its date and its day count
 
 pub record Edge : Type 0 where
   pub text : String
   pub refusal : ℕ
   pub value : Date
-  pub day : ℕ
+  pub count : ℕ
 
--- a date and its day
+-- a date and its day count
 abbrev pub gives : String → Date → ℕ → Edge
-gives text value day = record { text = text; refusal = answered; value = value; day = day }
+gives text value count = record { text = text; refusal = answered; value = value; count = count }
 
 -- a refusal
 abbrev pub refuses : String → ℕ → Edge
-refuses text refusal = record { text = text; refusal = refusal; value = date 0 0 0 0; day = 0 }
+refuses text refusal = record { text = text; refusal = refusal; value = refusals.no-date; count = 0 }
 
 unfoldable pub edges : List Edge
 edges =
@@ -163,4 +195,4 @@ told d =
 
 -- what is promised: each line holds
 abbrev pub Edges-hold : Type 0
-Edges-hold = map (λ (e : Edge). told (bytes (e .text))) edges ≡ map (λ (e : Edge). (e .refusal, e .value, e .day)) edges
+Edges-hold = map (λ (e : Edge). told (bytes (e .text))) edges ≡ map (λ (e : Edge). (e .refusal, e .value, e .count)) edges

@@ -12,7 +12,7 @@ use lib.ListN.{length, take, drop, length-append, length-take, length-drop}
 use Rattle.data.proofs.Cases.{by-bool}
 use Rattle.data.specs.Bytes.{plus}
 use Rattle.date.specs.Calendar.{in-range, days-of, last-day, date-counted}
-use Rattle.date.specs.Refusals.{days-value-of}
+use Rattle.date.specs.Refusals.{not-a-date, out-of-range, days-value-of}
 use Rattle.date.specs.declared.calendar.Date.{Date}
 use Rattle.date.specs.declared.calendar.DateRead.the-variants as Dated
 use Rattle.date.proofs.Days.{days-in-range, date-in-range, date-past, day-within, date-within}
@@ -44,7 +44,7 @@ use Rattle.writer.specs.declared.Written.the-variants.{Text, Refused}
 use Rattle.writer.specs.Refusals.{number}
 use Rattle.sheet.specs.declared.views.Viewed.the-variants.{At, NoScalar}
 use Rattle.report.proofs.Room.{decimal-short, bit-short, number-short}
-use Rattle.report.specs.Dates.{day-text, date-text, date-line, day-line}
+use Rattle.report.specs.Dates.{year-month-day, date-text, date-line, day-line}
 use Rattle.report.specs.Digits.{decimal, hex-by, most-hex, hex}
 use Rattle.report.specs.Dump.{field}
 use Rattle.report.specs.Readings.{integer, bool-text, u64-text, i64-text, f64-text, exact-of, readings-of, left-text, leading-of}
@@ -166,18 +166,18 @@ leading-short d h =
     simp length-append
     (omega (arith, number-of-short (i64-part d) (i64-part-short d), left-short (i64-number d) (length (i64-rest d)) (omega (arith, rest-within d))))
 
--- the line of a date: every number of it is one of a word's width
+-- the line of a date: every number of it is below 2^32
 field-short : (n : ℕ) → n < 2 ^ 32 → length (field n) ≤ 21
 field-short n h = omega (arith, number-short n (omega arith))
 
-day-text-short : (t : Date) → t .year < 2 ^ 32 → t .month < 2 ^ 32 → t .day < 2 ^ 32 → length (day-text t) ≤ 63
-day-text-short t y m d =
+year-month-day-short : (t : Date) → t .year < 2 ^ 32 → t .month < 2 ^ 32 → t .day < 2 ^ 32 → length (year-month-day t) ≤ 63
+year-month-day-short t y m d =
     simp length-append (omega (arith, number-short (t .year) (omega arith), number-short (t .month) (omega arith), number-short (t .day) (omega arith)))
 
-ranged-short : (t : Date) → in-range t ≡ true → length (day-text t) ≤ 63
+ranged-short : (t : Date) → in-range t ≡ true → length (year-month-day t) ≤ 63
 ranged-short t e =
     let r = ranged-is t e in
-    day-text-short t (omega (arith, r .year)) (omega (arith, r .month)) (omega (arith, r .day, days-in-year (t .month)))
+    year-month-day-short t (omega (arith, r .year)) (omega (arith, r .month)) (omega (arith, r .day, days-in-year (t .month)))
 
 read-short : (t : Date) → in-range t ≡ true → length (date-text (Dated.Is t)) ≤ 105
 read-short t e =
@@ -198,15 +198,15 @@ date-short d =
     (omega (
       arith,
       by-date (λ r. length (date-text r) ≤ 105) d read-short
-          (omega (arith, two-short 51 (omega arith))) (omega (arith, two-short 52 (omega arith))),
+          (omega (arith, two-short not-a-date (omega arith))) (omega (arith, two-short out-of-range (omega arith))),
     ))
 
--- and of the date of a day
+-- and of the date of a day count
 pub day-short : (n : ℕ) → length (day-line n) ≤ 64
 unfolding day-line
 day-short n =
     by-bool (ltb last-day n)
-    (λ t. rw (date-past n (ltb-true last-day n t)) (rw length-append (rw length-append (omega (arith, two-short 52 (omega arith))))))
+    (λ t. rw (date-past n (ltb-true last-day n t)) (rw length-append (rw length-append (omega (arith, two-short out-of-range (omega arith))))))
     (λ f. let within = ltb-false last-day n f in
     rw (date-in-range n within) (rw length-append (omega (arith, ranged-short (date-counted n) (date-within n within)))))
 

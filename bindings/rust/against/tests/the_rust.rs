@@ -238,68 +238,68 @@ fn same_unpack(asked: &ToUnpack<'_>) {
     assert!(words[taken..].iter().all(|&word| word == 0));
 }
 
+/// Whether a sheet is sound, here and by the comparison's own check.
+fn same_check(length: u32, count: u32, words: &[u32]) {
+    let sound = compare::sheet::sound(length, words, count);
+    assert_eq!(sheet::is_sound(length as usize, words, count as usize), sound);
+}
+
+/// The part of the text that a view is, or none.
+fn same_view(index: u32, count: u32, words: &[u32], text: &[u8]) {
+    let theirs = compare::sheet::view(text, words, count, index).ok();
+    let ours = sheet::view(text, words, count as usize, index as usize).ok().map(Scalar::as_bytes);
+    assert_eq!(ours.map(<[u8]>::as_ptr_range), theirs.map(<[u8]>::as_ptr_range));
+}
+
 // ---- what is tried ----
+
+/// What records of each kind ask for.
+const KINDS: [(u8, &str); 10] = [
+    (b'T', "texts"),
+    (b'S', "scalars"),
+    (b'N', "numbers in front"),
+    (b'D', "dates"),
+    (b'Y', "day counts"),
+    (b'C', "sheets"),
+    (b'V', "views"),
+    (b'W', "sheets to write"),
+    (b'F', "sheets to put on file"),
+    (b'R', "files to read"),
+];
+
+/// Asks both sides what a record asks. Answers whether it is a text that is written back.
+fn try_record(asked: Question<'_>) -> bool {
+    match asked {
+        Question::Text { text, capacity } => {
+            same_parse(text, &mut TextTape::new());
+            same_words(text, capacity);
+            return same_back(text);
+        }
+        Question::Scalar { bytes } => same_readings(bytes),
+        Question::Leading { bytes } => same_part_read(bytes),
+        Question::Date { scalar } => same_date(scalar),
+        Question::Day { count } => same_day(count),
+        Question::Check { length, count, words } => same_check(length, count, &words),
+        Question::View { index, count, words, text } => same_view(index, count, &words, text),
+        Question::Write(asked) => same_write(asked),
+        Question::Pack(asked) => same_pack(&asked),
+        Question::Unpack(asked) => same_unpack(&asked),
+    }
+    false
+}
 
 #[test]
 fn the_records_of_the_comparison() {
     let (seed, cases) = (number("SEED", 2026), number("CASES", 500_000));
-    let (mut parses, mut written, mut scalars, mut fronts, mut sheets) = (0, 0, 0, 0, 0);
-    let (mut views, mut writes, mut files, mut dates) = (0, 0, 0, 0);
+    let (mut tried, mut written) = ([0; KINDS.len()], 0);
     for record in Generator::new(seed).take(cases as usize) {
-        match record.question().expect("a good record") {
-            Question::Text { text, capacity } => {
-                same_parse(text, &mut TextTape::new());
-                same_words(text, capacity);
-                written += u64::from(same_back(text));
-                parses += 1;
-            }
-            Question::Scalar { bytes } => {
-                same_readings(bytes);
-                scalars += 1;
-            }
-            Question::Leading { bytes } => {
-                same_part_read(bytes);
-                fronts += 1;
-            }
-            Question::Date { scalar } => {
-                same_date(scalar);
-                dates += 1;
-            }
-            Question::Day { count } => {
-                same_day(count);
-                dates += 1;
-            }
-            Question::Check { length, count, words } => {
-                let sound = compare::sheet::sound(length, &words, count);
-                assert_eq!(sheet::is_sound(length as usize, &words, count as usize), sound);
-                sheets += 1;
-            }
-            Question::View { index, count, words, text } => {
-                let theirs = compare::sheet::view(text, &words, count, index).ok();
-                let ours = sheet::view(text, &words, count as usize, index as usize);
-                let parts = (ours.ok().map(Scalar::as_bytes), theirs);
-                assert_eq!(parts.0.map(<[u8]>::as_ptr_range), parts.1.map(<[u8]>::as_ptr_range));
-                views += 1;
-            }
-            Question::Write(asked) => {
-                same_write(asked);
-                writes += 1;
-            }
-            Question::Pack(asked) => {
-                same_pack(&asked);
-                files += 1;
-            }
-            Question::Unpack(asked) => {
-                same_unpack(&asked);
-                files += 1;
-            }
-        }
+        let kind = KINDS.iter().position(|&(kind, _)| kind == record.kind);
+        tried[kind.expect("a kind that is named")] += 1;
+        written += u64::from(try_record(record.question().expect("a good record")));
     }
-    println!(
-        "seed {seed}: {parses} texts, {written} of them written back, {scalars} scalars, {fronts} numbers in \
-         front, {dates} dates and counts, {sheets} sheets, {views} views, {writes} sheets to write and {files} on \
-         file, no difference"
-    );
+    let tried = KINDS.iter().zip(tried).map(|((_, what), times)| format!("{times} {what}"));
+    let tried: Vec<String> = tried.collect();
+    println!("seed {seed}: {}; {written} texts written back; no difference", tried.join(", "));
 }
 
 /// Every day that there is, and the first counts that are none.

@@ -20,7 +20,8 @@ same-length c = search needs
 returns-2 : tie.Need-returns-2
 returns-2 c =
     let at-put = c .before .before in
-    record { holds = day-all _ _ _ _ _ (at-put .put-date-of .ensures) (search needs) }
+    let at-word = at-put .before in
+    record { holds = day-all _ _ _ _ _ (at-word .word-at .ensures) (at-word .before .before .if1 .left) (at-put .put-date-of .ensures) (search needs) }
 
 pub day-answer-spec : {M : Type 1} → statement M
 day-answer-spec = tie.close (tie.spec returns word-at-requires put-date-of-requires same-length returns-2)

@@ -13,8 +13,8 @@ use Rattle.report.proofs.dates.put_read.Tie as tie
 enum-known-r : tie.Need-enum-known-r
 enum-known-r c = search needs
 
-put-day-requires : tie.Need-put-day-requires
-put-day-requires c κs = search needs
+put-year-month-day-requires : tie.Need-put-year-month-day-requires
+put-year-month-day-requires c κs = search needs
 
 cast-put-field : tie.Need-cast-put-field
 cast-put-field c = search needs
@@ -67,12 +67,12 @@ returns c =
     let at-value = at-put-field2 .before in
     let at-days = at-value .before in
     let at-put-field = at-days .before .before .before .before in
-    let at-put-day = at-put-field .before .before .before .before .before in
-    let at-date = at-put-day .before .before .before in
+    let at-put-year-month-day = at-put-field .before .before .before .before .before in
+    let at-date = at-put-year-month-day .before .before .before in
     let days = at-value .days-value .ensures ∙ ap days-value-of (at-days .to-days .ensures) in
     same-bytes _ _ _ _
     (chain _ _ _ _
-    (chain _ _ _ _ (at-put-day .put-day .ensures) (at-put-field .put-field .ensures))
+    (chain _ _ _ _ (at-put-year-month-day .put-year-month-day .ensures) (at-put-field .put-field .ensures))
     (same-bytes _ _ _ _ (at-put-field2 .put-field2 .ensures) (ap field days)))
     (sym (ap date-text (at-date .r .given .1)))
 
@@ -103,7 +103,7 @@ put-read-spec =
     tie.close
     (tie.spec
     enum-known-r
-    put-day-requires
+    put-year-month-day-requires
     cast-put-field
     put-field-requires
     to-days-requires

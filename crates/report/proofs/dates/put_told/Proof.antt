@@ -10,8 +10,8 @@ use Rattle.report.proofs.dates.put_told.Tie as tie
 enum-known-r : tie.Need-enum-known-r
 enum-known-r c = search needs
 
-put-day-requires : tie.Need-put-day-requires
-put-day-requires c κs = search needs
+put-year-month-day-requires : tie.Need-put-year-month-day-requires
+put-year-month-day-requires c κs = search needs
 
 enum-told : tie.Need-enum-told
 enum-told c = search needs
@@ -30,9 +30,9 @@ same-length c = search needs
 
 returns : tie.Need-returns
 returns c =
-    let at-put-day = c .before .before in
-    let at-date = at-put-day .before .before .before in
-    same-bytes _ _ _ _ (at-put-day .put-day .ensures) (sym (ap told-text (at-date .r .given .1)))
+    let at-put-year-month-day = c .before .before in
+    let at-date = at-put-year-month-day .before .before .before in
+    same-bytes _ _ _ _ (at-put-year-month-day .put-year-month-day .ensures) (sym (ap told-text (at-date .r .given .1)))
 
 same-length-2 : tie.Need-same-length-2
 same-length-2 c = search needs
@@ -57,7 +57,7 @@ put-told-spec =
     tie.close
     (tie.spec
     enum-known-r
-    put-day-requires
+    put-year-month-day-requires
     enum-told
     put-refusal-requires
     enum-told-2

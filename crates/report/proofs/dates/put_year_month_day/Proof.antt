@@ -1,9 +1,9 @@
--- `report::dates::put_day` meets its contract: its parts one behind the other.
+-- `report::dates::put_year_month_day` meets its contract: its parts one behind the other.
 -- Assumes nothing.
 use borrow.Author.Needs.{needs}
 use Rattle.put.proofs.Append.{chain}
-use Rattle.report.proofs.dates.put_day.Statement.{statement}
-use Rattle.report.proofs.dates.put_day.Tie as tie
+use Rattle.report.proofs.dates.put_year_month_day.Statement.{statement}
+use Rattle.report.proofs.dates.put_year_month_day.Tie as tie
 
 cast-put-value : tie.Need-cast-put-value
 cast-put-value c = search needs
@@ -35,8 +35,8 @@ returns c =
     (chain _ _ _ _ (at-put-value .put-value .ensures) (at-put-field .put-field .ensures))
     (at-put-field2 .put-field2 .ensures)
 
-pub put-day-spec : {M : Type 1} → statement M
-put-day-spec =
+pub put-year-month-day-spec : {M : Type 1} → statement M
+put-year-month-day-spec =
     tie.close
     (tie.spec
     cast-put-value
