@@ -2,41 +2,17 @@
 //! and a mix of right dates, parts out of range, other shapes, both together, and any bytes.
 
 use crate::date::{self, LAST_MONTH, last_day};
+use crate::generate::Series;
 use crate::numbers::{LAST_COUNT, LAST_HOUR, LAST_YEAR, YEAR_DAYS};
 use crate::record::Record;
 use crate::rng::Rng;
 use crate::scalars::{digits, spelt};
-use crate::{date_edges, generate, scalars};
+use crate::{date_edges, scalars};
 use std::iter;
 
-/// The dates and day counts of one seed. They have a chance of their own, so that they do not change which
-/// other cases a seed has.
-pub struct Dates {
-    rng: Rng,
-    made: usize,
-    short: usize,
-}
-
-impl Dates {
-    pub fn new(rng: Rng) -> Self {
-        Dates { rng, made: 0, short: 0 }
-    }
-
-    /// Whether the next case is one of these, so many times of a hundred.
-    pub fn are_due(&mut self, percent: usize) -> bool {
-        self.rng.chance(percent)
-    }
-
-    /// The next short one where it is due, and else one of the mix.
-    pub fn record(&mut self) -> Record {
-        if generate::short_is_due(&mut self.made)
-            && let Some(scalar) = short(self.short)
-        {
-            self.short += 1;
-            return Record::date(scalar);
-        }
-        any(&mut self.rng)
-    }
+/// The dates and day counts of one seed.
+pub fn series(rng: Rng) -> Series {
+    Series::new(rng, |number| short(number).map(Record::date), any)
 }
 
 /// The edges and every short scalar.

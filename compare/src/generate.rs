@@ -1,13 +1,12 @@
 //! Cases by seed: document 01's own at the head of a run, then the short ones in order and among
 //! them a mix.
 
-use crate::dates::Dates;
 use crate::files::Files;
 use crate::numbers::{LONGEST, MOST_ROOM, MOST_SCRATCH, MOST_TOKENS, UNQUOTED, WORDS, token};
 use crate::record::Record;
 use crate::rng::Rng;
 use crate::sheets::Sheet;
-use crate::{domain, edges, edits, leading, oracle, scalars, sheets, texts, writer};
+use crate::{dates, domain, edges, edits, leading, oracle, scalars, sheets, texts, writer};
 
 /// All cases of one seed, one after another.
 pub struct Generator {
@@ -18,8 +17,8 @@ pub struct Generator {
     scalars: usize,
     sheets: usize,
     writes: Writes,
-    leading: leading::Scalars,
-    dates: Dates,
+    leading: Series,
+    dates: Series,
     pub files: Files,
     pub left_out: LeftOut,
 }
@@ -40,6 +39,42 @@ pub fn short_is_due(made: &mut usize) -> bool {
     let every = if *made < HEAD { 2 } else { 4 };
     *made += 1;
     made.is_multiple_of(every)
+}
+
+/// The cases of one kind of a seed, short ones in order and a mix. They have a chance of their own, so that
+/// they do not change which other cases a seed has.
+pub struct Series {
+    rng: Rng,
+    made: usize,
+    short: usize,
+    in_order: fn(usize) -> Option<Record>,
+    any: fn(&mut Rng) -> Record,
+}
+
+impl Series {
+    pub fn new(
+        rng: Rng,
+        in_order: fn(usize) -> Option<Record>,
+        any: fn(&mut Rng) -> Record,
+    ) -> Self {
+        Series { rng, made: 0, short: 0, in_order, any }
+    }
+
+    /// Whether the next case is one of these, so many times of a hundred.
+    pub fn are_due(&mut self, percent: usize) -> bool {
+        self.rng.chance(percent)
+    }
+
+    /// The next short one where it is due, and else one of the mix.
+    pub fn record(&mut self) -> Record {
+        if short_is_due(&mut self.made)
+            && let Some(record) = (self.in_order)(self.short)
+        {
+            self.short += 1;
+            return record;
+        }
+        (self.any)(&mut self.rng)
+    }
 }
 
 /// How many of a hundred cases are dates and day counts.
@@ -121,8 +156,8 @@ impl Generator {
             scalars: 0,
             sheets: 0,
             writes: Writes { rng: chance(b'W'), made: 0, short: 0 },
-            leading: leading::Scalars::new(chance(b'N')),
-            dates: Dates::new(chance(b'D')),
+            leading: leading::series(chance(b'N')),
+            dates: dates::series(chance(b'D')),
             files: Files::new(chance(b'F')),
             left_out: LeftOut::default(),
         }

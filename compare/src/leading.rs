@@ -1,40 +1,16 @@
 //! Scalars whose leading number is asked: the edges, every short one in order, and a mix of numbers
 //! about the limits, dates, several signs, and digits with any byte behind them.
 
+use crate::generate::Series;
 use crate::record::Record;
 use crate::rng::Rng;
 use crate::scalars::{digits, spelt};
-use crate::{generate, leading_edges, scalars};
+use crate::{leading_edges, scalars};
 use std::iter;
 
-/// The scalars of one seed whose leading number is asked. They have a chance of their own, so that
-/// they do not change which other cases a seed has.
-pub struct Scalars {
-    rng: Rng,
-    made: usize,
-    short: usize,
-}
-
-impl Scalars {
-    pub fn new(rng: Rng) -> Self {
-        Scalars { rng, made: 0, short: 0 }
-    }
-
-    /// Whether the next case is one of these, so many times of a hundred.
-    pub fn are_due(&mut self, percent: usize) -> bool {
-        self.rng.chance(percent)
-    }
-
-    /// The next short one where it is due, and else one of the mix.
-    pub fn record(&mut self) -> Record {
-        if generate::short_is_due(&mut self.made)
-            && let Some(scalar) = short(self.short)
-        {
-            self.short += 1;
-            return Record::leading(scalar);
-        }
-        Record::leading(any(&mut self.rng))
-    }
+/// The scalars of one seed whose leading number is asked.
+pub fn series(rng: Rng) -> Series {
+    Series::new(rng, |number| short(number).map(Record::leading), |rng| Record::leading(any(rng)))
 }
 
 /// The edges and every short scalar.

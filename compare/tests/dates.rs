@@ -213,7 +213,7 @@ fn of_dates(wrong: Wrong, name: &str) -> bool {
 /// The cases find every fault that has to do with dates without the edges' help.
 #[test]
 fn the_cases_find_the_faults() {
-    let mut asked = dates::Dates::new(Rng::new(42));
+    let mut asked = dates::series(Rng::new(42));
     let cases: Vec<(Record, String)> = std::iter::repeat_with(|| asked.record())
         .take(10_000)
         .map(|record| (record.clone(), record.answered_by(oracle::answer)))

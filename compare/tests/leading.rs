@@ -121,7 +121,7 @@ fn many_scalars() {
 /// the i64 reading where it is asked of the same scalars.
 #[test]
 fn the_cases_find_the_faults() {
-    let mut scalars = leading::Scalars::new(Rng::new(32));
+    let mut scalars = leading::series(Rng::new(32));
     let asked = std::iter::repeat_with(|| scalars.record());
     let cases: Vec<[(Record, String); 2]> = asked
         .take(10_000)
