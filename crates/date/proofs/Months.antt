@@ -8,7 +8,7 @@ use native.Mathlib.Omega.{arith}
 use borrow.Author.Tests.{lt-ltb, le-ltb, ltb-true, ltb-false}
 use lib.Dec.{ltb}
 use lib.ListN.{length, getD, take, drop}
-use lib.Seq.{drop-cons}
+use lib.Seq.{drop-cons, take-all}
 use Rattle.data.proofs.Cases.{by-bool}
 use Rattle.date.specs.Calendar.{together, months-past, month-days, months, year-days, days-in, days-before, month-at}
 
@@ -21,14 +21,7 @@ next-month [] k h = absurd (not-suc-le-zero h)
 next-month (n ∷ ns) zero h = omega arith
 next-month (n ∷ ns) (suc k) h = omega (arith, next-month ns k (le-of-suc-le-suc h))
 
--- a month and those before it have no more days than all, and than those before a later one
-some-of-all : (ns : List ℕ) (j : ℕ) → together (take j ns) + getD ns j 0 ≤ together ns
-unfolding together
-some-of-all [] zero = omega arith
-some-of-all [] (suc j) = omega arith
-some-of-all (n ∷ ns) zero = omega arith
-some-of-all (n ∷ ns) (suc j) = omega (arith, some-of-all ns j)
-
+-- a month and those before it have no more days than those before a later one, and than all
 pub before-later : (ns : List ℕ) (j k : ℕ) → j < k → together (take j ns) + getD ns j 0 ≤ together (take k ns)
 unfolding together
 before-later ns j zero h = absurd (not-suc-le-zero h)
@@ -36,6 +29,11 @@ before-later [] zero (suc k) h = omega arith
 before-later [] (suc j) (suc k) h = omega arith
 before-later (n ∷ ns) zero (suc k) h = omega arith
 before-later (n ∷ ns) (suc j) (suc k) h = omega (arith, before-later ns j k (le-of-suc-le-suc h))
+
+some-of-all : (ns : List ℕ) (j : ℕ) → together (take j ns) + getD ns j 0 ≤ together ns
+some-of-all ns j =
+    let past = suc j + length ns in
+    omega (arith, ap together (take-all past ns (omega arith)), before-later ns j past (omega arith))
 
 -- the month of a day: it ends after it
 past-none : (n : ℕ) (ns : List ℕ) (day : ℕ) → day < n → months-past (n ∷ ns) day ≡ 0

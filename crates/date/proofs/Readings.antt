@@ -47,19 +47,18 @@ reads-none d e = ap (λ (s : Bool). dated s (out-of-range (numbers d)) (told-by 
 -- ---- bytes that have it, by their numbers
 
 module _ (d : List ℕ) (shape : shaped d ≡ true) where
-  by-range : (ns : List ℕ) → numbers d ≡ ns → hour-zero ns ≡ false → date-read d ≡ ranged (told-by ns)
+  by-hour : (ns : List ℕ) {zero : Bool} → numbers d ≡ ns → hour-zero ns ≡ zero
+      → date-read d ≡ dated true (zero || not (in-range (told-by ns))) (told-by ns)
   unfolding date-read out-of-range
-  by-range ns e f =
+  by-hour ns e f =
       (λ j. dated (shape j) (out-of-range (e j)) (told-by (e j)))
       ∙ ap (λ (z : Bool). dated true (z || not (in-range (told-by ns))) (told-by ns)) f
-      ∙ dated-range (told-by ns)
+
+  by-range : (ns : List ℕ) → numbers d ≡ ns → hour-zero ns ≡ false → date-read d ≡ ranged (told-by ns)
+  by-range ns e f = by-hour ns e f ∙ dated-range (told-by ns)
 
   by-zero : (ns : List ℕ) → numbers d ≡ ns → hour-zero ns ≡ true → date-read d ≡ OutOfRange
-  unfolding date-read out-of-range
-  by-zero ns e f =
-      (λ j. dated (shape j) (out-of-range (e j)) (told-by (e j)))
-      ∙ ap (λ (z : Bool). dated true (z || not (in-range (told-by ns))) (told-by ns)) f
-      ∙ dated-out (told-by ns)
+  by-zero ns e f = by-hour ns e f ∙ dated-out (told-by ns)
 
   pub reads-day : (year month day : ℕ) → numbers d ≡ year ∷ month ∷ day ∷ [] → date-read d ≡ ranged (date year month day 0)
   unfolding hour-zero
@@ -118,24 +117,24 @@ module _ (d : List ℕ) {year month day after-year after-month after-day : ℕ} 
 
 -- ---- whatever the bytes are
 
--- by what is read: a date in range, or a refusal
-pub by-date : (P : DateRead → Type 0) (d : List ℕ) → ((t : Date) → in-range t ≡ true → P (Is t)) → P NotADate → P OutOfRange → P (date-read d)
-by-date P d is none out =
-    by-bool (shaped d)
-    (λ shape. by-bool (hour-zero (numbers d))
-    (λ zero. subst P (sym (by-zero d shape (numbers d) refl zero)) out)
-    (λ some. let read = by-range d shape (numbers d) refl some in
-    by-bool (in-range (told-by (numbers d)))
-    (λ e. subst P (sym (read ∙ ranged-in _ e)) (is _ e))
-    (λ e. subst P (sym (read ∙ ranged-out _ e)) out)))
-    (λ f. subst P (sym (reads-none d f)) none)
-
 -- what is known of bytes that are read as a date
 pub record Is-read (d : List ℕ) (t : Date) : Type 0 where
   pub shape : shaped d ≡ true
   pub hour : hour-zero (numbers d) ≡ false
   pub ranged : in-range t ≡ true
   pub told : t ≡ told-by (numbers d)
+
+-- by what is read: a date, or a refusal
+pub by-date : (P : DateRead → Type 0) (d : List ℕ) → ((t : Date) → Is-read d t → P (Is t)) → P NotADate → P OutOfRange → P (date-read d)
+by-date P d is none out =
+    by-bool (shaped d)
+    (λ shape. by-bool (hour-zero (numbers d))
+    (λ zero. subst P (sym (by-zero d shape (numbers d) refl zero)) out)
+    (λ some. let read = by-range d shape (numbers d) refl some in
+    by-bool (in-range (told-by (numbers d)))
+    (λ e. subst P (sym (read ∙ ranged-in _ e)) (is _ (record { shape = shape; hour = some; ranged = e; told = refl })))
+    (λ e. subst P (sym (read ∙ ranged-out _ e)) out)))
+    (λ f. subst P (sym (reads-none d f)) none)
 
 -- whether there is a date, by a number, so that a date is no refusal
 abbrev some-date : DateRead → ℕ
@@ -149,13 +148,8 @@ date-in else NotADate = else
 date-in else OutOfRange = else
 
 pub is-read : (d : List ℕ) (t : Date) → date-read d ≡ Is t → Is-read d t
-is-read d t e =
-    by-bool (shaped d)
-    (λ shape. by-bool (hour-zero (numbers d))
-    (λ zero. absurd (omega (arith, ap some-date (sym e ∙ by-zero d shape (numbers d) refl zero))))
-    (λ some. let read = by-range d shape (numbers d) refl some in
-    by-bool (in-range (told-by (numbers d)))
-    (λ within. let same = ap (date-in t) (sym e ∙ read ∙ ranged-in _ within) in
-    record { shape = shape; hour = some; ranged = ap in-range same ∙ within; told = same })
-    (λ out. absurd (omega (arith, ap some-date (sym e ∙ read ∙ ranged-out (told-by (numbers d)) out))))))
-    (λ none. absurd (omega (arith, ap some-date (sym e ∙ reads-none d none))))
+is-read d t =
+    by-date (λ r. r ≡ Is t → Is-read d t) d
+    (λ u known same. subst (Is-read d) (ap (date-in t) same) known)
+    (λ same. absurd (omega (arith, ap some-date same)))
+    (λ same. absurd (omega (arith, ap some-date same)))

@@ -264,6 +264,9 @@ module _ (d : List ℕ) (ps : List (List ℕ)) (at number end : ℕ) (t : Taken 
   unfolding all-parts
   each-so-far = after-parts ps (part ∷ []) (t .front .each) ∙ ap (λ (a : Bool). a && true) (run-part (drop at d) (t .digit))
 
+  one-more : length (ps ++ (part ∷ [])) ≡ suc (length ps)
+  one-more = rw length-append (omega arith)
+
   further : point-first (drop end d) ≡ true → Front d (ps ++ (part ∷ [])) (end + 1)
   further e =
       record {
@@ -289,9 +292,8 @@ module _ (d : List ℕ) (ps : List (List ℕ)) (at number end : ℕ) (t : Taken 
   pub closed-parts : length d ≤ end → right-number (suc (length ps)) ≡ true → shaped d ≡ true
   unfolding shaped
   closed-parts h e =
-      let counted : length (ps ++ (part ∷ [])) ≡ suc (length ps) = rw length-append (omega arith) in
       ap (λ (qs : List (List ℕ)). right-number (length qs) && all-parts qs) (closed h)
-      ∙ (λ j. right-number (counted j) && each-so-far j)
+      ∙ (λ j. right-number (one-more j) && each-so-far j)
       ∙ ap (λ (a : Bool). a && true) e
 
   -- the next part is taken
@@ -312,8 +314,7 @@ module _ (d : List ℕ) (ps : List (List ℕ)) (at number end : ℕ) (t : Taken 
       ∙ no-part (drop (end + 1) d) (untaken d (end + 1) (sym (pointed-here d end p) ∙ e))))
       (λ n. by-bool (leb (length d) end)
       (λ over. let all = leb-true (length d) end over in
-      let counted : length (ps ++ (part ∷ [])) ≡ suc (length ps) = rw length-append (omega arith) in
-      uncounted d (ap (λ (qs : List (List ℕ)). right-number (length qs)) (closed all) ∙ ap right-number counted ∙ few all))
+      uncounted d (ap (λ (qs : List (List ℕ)). right-number (length qs)) (closed all) ∙ ap right-number one-more ∙ few all))
       (λ under. stuck n (leb-false (length d) end under)))
 
   -- or something follows, where nothing may

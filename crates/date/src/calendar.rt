@@ -1,5 +1,5 @@
-// The calendar: which dates there are, and their days, counted from 1.1.1, which is day 0. No year is a leap year, so that both ways
-// take a division and the table of months.
+// The calendar: which dates there are, and their day counts, from 1.1.1, which is day 0. No year is a leap year, so that neither way goes
+// over years: a product or a division, and the table of months.
 ghost use mathlib.Core.Path.{_≡_};
 ghost use Prim.Native.Nat.{_≤_, _<_};
 ghost use Rattle.date.specs.Calendar.{within as is-within, days-in, days-before, year-days, months, in-range, days-of, month-at, date-at};
@@ -32,7 +32,7 @@ const MONTH_DAYS: [u32; MONTHS] = [
 // The days of a year.
 const YEAR_DAYS: u32 = 365;
 
-// The day of the last date.
+// The day count of the last date.
 const LAST_DAY: u32 = MOST_YEAR * YEAR_DAYS - 1;
 
 // A date; its hour is 0 where none is told.
@@ -50,14 +50,14 @@ pub enum DateRead {
     OutOfRange,
 }
 
-// The day of a date, or that the calendar has no such date.
+// The day count of a date, or that the calendar has no such date.
 pub enum DaysRead {
     Is(u32),
     OutOfRange,
 }
 
 // Whether a number is from 1 to another.
-pub(crate) fn within(n: u32, most: u32) -> bool
+fn within(n: u32, most: u32) -> bool
     ensures { λ r. ⌜ r ≡ is-within n most ⌝ }
 {
     if 1 <= n { n <= most } else { false }
@@ -101,7 +101,7 @@ fn days_before(month: u32) -> u32
     days
 }
 
-// The day of a date. The hour is left out.
+// The day count of a date. The hour is left out.
 pub fn to_days(date: Date) -> DaysRead
     ensures { λ r. ⌜ r ≡ days-of date ⌝ }
 {
@@ -132,7 +132,7 @@ fn month_of(day: u32) -> u32
     month
 }
 
-// The date of a day, without an hour. It is never `NotADate`.
+// The date of a day count, without an hour. It is never `NotADate`.
 pub fn from_days(days: u32) -> DateRead
     ensures { λ r. ⌜ r ≡ date-at days ⌝ }
 {

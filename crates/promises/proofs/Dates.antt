@@ -19,7 +19,7 @@ use Rattle.scalar.specs.Numbers.{answered}
 use Rattle.scalar.specs.Whole.{most-i64, signed, i64-rest}
 use Rattle.scalar.proofs.Rests.{run-alone}
 use Rattle.scalar.proofs.Runs.{digit-bounds, run-length}
-use Rattle.date.specs.Calendar.{date, month-days, together, days-in, days-before, within, in-range, Ranged, count-of, days-of, last-day, date-counted, date-at}
+use Rattle.date.specs.Calendar.{date, month-days, together, days-in, days-before, within, in-range, Ranged, count-of, days-of, date-counted, date-at}
 use Rattle.date.specs.Reading.{onto, parts, is-part, all-parts, right-number, shaped, numbers, told-by, hour-zero, out-of-range, dated, date-read}
 use Rattle.date.specs.Refusals.{date-refusal-of, date-value-of, days-refusal-of, days-value-of}
 use Rattle.date.specs.declared.calendar.Date.{Date}
@@ -175,7 +175,7 @@ none-there false out t e = absurd (omega (arith, e))
 read-ranged : (d : List ℕ) → date-refusal-of (date-read d) ≡ answered → in-range (date-value-of (date-read d)) ≡ true
 read-ranged d =
     by-date (λ r. date-refusal-of r ≡ answered → in-range (date-value-of r) ≡ true) d
-    (λ t e none. e)
+    (λ t r none. r .ranged)
     (λ none. absurd (omega (arith, none)))
     (λ none. absurd (omega (arith, none)))
 

@@ -197,7 +197,7 @@ date-short d =
     rw length-append
     (omega (
       arith,
-      by-date (λ r. length (date-text r) ≤ 105) d read-short
+      by-date (λ r. length (date-text r) ≤ 105) d (λ t r. read-short t (r .ranged))
           (omega (arith, two-short not-a-date (omega arith))) (omega (arith, two-short out-of-range (omega arith))),
     ))
 
