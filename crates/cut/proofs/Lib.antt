@@ -3,3 +3,8 @@ pub mod Blanks
 pub mod Runs
 pub mod Quotes
 pub mod Scalars
+pub mod Words
+pub mod Lanes
+pub mod Zeros
+pub mod Marks
+pub mod Scans

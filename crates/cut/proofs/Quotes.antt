@@ -1,8 +1,8 @@
 -- Reading a quoted run, a byte at a time, where it ends, and whether a backslash took part in it.
 -- Assumes nothing.
 use mathlib.Core.Path.{_≡_, refl, sym, _∙_, ap}
-use mathlib.Core.Bool.{Bool, true, false, false≢true}
-use mathlib.Core.List.{List, _∷_}
+use mathlib.Core.Bool.{Bool, true, false, _||_, false≢true}
+use mathlib.Core.List.{List, [], _∷_}
 use mathlib.Core.Logic.{_⊎_, inl, inr, _↔_}
 use Prim.Native.Nat.{ℕ, zero, suc, _+_, _≤_, _<_}
 use native.Mathlib.Omega.{arith}
@@ -12,6 +12,7 @@ use lib.ListN.{length, getD, drop, drop-of-length-le}
 use Rattle.data.proofs.Cases.{by-bool}
 use Rattle.data.specs.Bytes.{quote, backslash}
 use Rattle.cut.specs.Quotes.{quoted-from, skipped-from, quoted-run, Backslash, Tells}
+use Rattle.cut.specs.declared.Quoted.{Quoted}
 use Rattle.cut.specs.declared.Quoted.the-variants.{Closed, Unclosed}
 use Rattle.cut.proofs.Places.{drop-here, by-place}
 
@@ -140,3 +141,43 @@ quoted-run-closes d end escaped q =
     only : (false ≡ true) ⊎ Backslash d 0 end → Backslash d 0 end
     only (inl t) = absurd (false≢true t)
     only (inr s) = s
+
+-- ---- a run that begins further on
+
+-- what is read of later bytes, counted from m on, with a backslash before them or none
+abbrev pub moved : ℕ → Bool → Quoted → Quoted
+moved m e (Closed n f) = Closed (m + n) (e || f)
+moved m e Unclosed = Unclosed
+
+or-true : (e : Bool) → (e || true) ≡ true
+or-true true = refl
+or-true false = refl
+
+or-false : (e : Bool) → (e || false) ≡ e
+or-false true = refl
+or-false false = refl
+
+-- at a byte of the run, and at one that a backslash skips
+moves : (bytes : List ℕ) (m : ℕ) (e : Bool)
+    → ((n : ℕ) (f : Bool) → quoted-from bytes (m + n) (e || f) ≡ moved m e (quoted-from bytes n f))
+    × ((n : ℕ) → skipped-from bytes (m + n) ≡ moved m e (skipped-from bytes n))
+unfolding quoted-from
+moves [] m e = (λ n f. refl, λ n. refl)
+moves (b ∷ bs) m e =
+    let later = moves bs m e in
+    let next : (n : ℕ) → m + n + 1 ≡ m + (n + 1) = λ n. omega arith in (
+      λ n f. by-bool (eqb b quote)
+          (λ q. rw (quoted-from, q))
+          (λ o. by-bool (eqb b backslash)
+          (λ s. rw (quoted-from, o, s) (ap (skipped-from bs) (next n) ∙ later .1 (n + 1)))
+          (λ g. rw (quoted-from, o, g) (ap (λ (k : ℕ). quoted-from bs k (e || f)) (next n) ∙ later .0 (n + 1) f))),
+      λ n. ap (λ (k : ℕ). quoted-from bs k true) (next n)
+          ∙ ap (quoted-from bs (m + (n + 1))) (sym (or-true e)) ∙ later .0 (n + 1) true,
+    )
+
+-- so the run of the bytes that are left is the rest of the run
+pub quoted-moved : (bytes : List ℕ) (at : ℕ) (e : Bool) → quoted-from bytes at e ≡ moved at e (quoted-run bytes)
+unfolding quoted-run
+quoted-moved bytes at e =
+    ap (λ (k : ℕ). quoted-from bytes k e) {x = at} {y = at + 0} (omega arith)
+    ∙ ap (quoted-from bytes (at + 0)) (sym (or-false e)) ∙ moves bytes at e .0 0 false

@@ -178,17 +178,22 @@ run-within stops text at h =
     by-place text at (λ inside. run-of-run stops text at inside .within) (λ past. rw (run-past stops text at past) h)
 
 -- a run cut from a slice's later part, as the code lends it
+part-of-run : (stops : ℕ → Bool) (text : List ℕ) (at n : ℕ) → n ≡ run-of stops (take (length text - at) (drop at text))
+    → at + n ≡ run-end-of stops text at
+unfolding run-end-of
+part-of-run stops text at n e = ap (λ (k : ℕ). at + k) (e ∙ ap (run-of stops) (later-part text at))
+
 pub run-of-part : (table text : List ℕ) (at n : ℕ) → n ≡ run-by table (take (length text - at) (drop at text)) → at + n ≡ run-end-by table text at
-unfolding run-by run-end-by run-end-of
-run-of-part table text at n e = ap (λ (k : ℕ). at + k) (e ∙ ap (run-of (classed table)) (later-part text at))
+unfolding run-by run-end-by
+run-of-part table text at n e = part-of-run (classed table) text at n e
+
+pub unquoted-part : (text : List ℕ) (at n : ℕ) → n ≡ unquoted-run (take (length text - at) (drop at text)) → at + n ≡ run-end text at
+unfolding unquoted-run run-end
+unquoted-part text at n e = part-of-run is-boundary text at n e
 
 pub run-end-by-within : (table text : List ℕ) (at : ℕ) → at ≤ length text → run-end-by table text at ≤ length text
 unfolding run-end-by
 run-end-by-within table text at h = run-within (classed table) text at h
-
-pub run-end-by-past : (table text : List ℕ) (at : ℕ) → length text ≤ at → run-end-by table text at ≡ at
-unfolding run-end-by
-run-end-by-past table text at h = run-past (classed table) text at h
 
 -- data's table gives a class to the thirteen boundary bytes and to no other number
 pub classed-classes : classed classes ≡ is-boundary
@@ -208,6 +213,10 @@ run-end-by-classes text at = ap (λ (s : ℕ → Bool). run-end-of s text at) cl
 pub run-end-run : (text : List ℕ) (at : ℕ) → at < length text → Run is-boundary text at (run-end text at)
 unfolding run-end
 run-end-run text at h = run-of-run is-boundary text at h
+
+pub run-end-within : (text : List ℕ) (at : ℕ) → at ≤ length text → run-end text at ≤ length text
+unfolding run-end
+run-end-within text at h = run-within is-boundary text at h
 
 pub run-end-past : (text : List ℕ) (at : ℕ) → length text ≤ at → run-end text at ≡ at
 unfolding run-end

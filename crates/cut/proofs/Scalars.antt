@@ -11,17 +11,17 @@ use lib.ListN.{length, getD, take, drop, length-drop, List·getD-eq-default}
 use lib.Seq.{getD-drop}
 use Rattle.data.proofs.Cases.{by-bool}
 use Rattle.data.specs.Bytes.{quote, at-sign, bracket-open}
-use Rattle.data.specs.Classes.{is-boundary, classes}
+use Rattle.data.specs.Classes.{is-boundary}
 use Rattle.cut.specs.Quotes.{quoted-run, Backslash}
 use Rattle.cut.specs.Runs.{run-end-of}
-use Rattle.cut.specs.Scalars.{unquoted, quoted, closes-bracket, bracket-run, opens-variable, variable-cut, cut-of, scalar-cut-by, scalar-cut}
+use Rattle.cut.specs.Scalars.{unquoted, quoted, closes-bracket, bracket-run, opens-variable, variable-cut, cut-of, scalar-cut}
 use Rattle.cut.specs.declared.Cut.{Cut}
 use Rattle.cut.specs.declared.Cut.the-variants.{Unquoted, Quoted, End}
 use Rattle.cut.specs.declared.Quoted as Quotes
 use Rattle.cut.specs.declared.Quoted.the-variants.{Closed, Unclosed}
 use Rattle.cut.proofs.Places.{later-part, by-place}
 use Rattle.cut.proofs.Quotes.{Closed-run, quoted-run-closes}
-use Rattle.cut.proofs.Runs.{scanned, run-of-run, classed-classes}
+use Rattle.cut.proofs.Runs.{scanned, run-of-run}
 
 -- a variable starts at no other byte than `@`
 pub opens-not : (text : List ℕ) (at : ℕ) → (getD text at 0 ≡ at-sign → ⊥) → opens-variable text at ≡ false
@@ -80,11 +80,6 @@ variable-closed text at n e h = rw (e, variable-cut, lt-ltb (at + 2 + bracket-ru
 pub variable-open : (text : List ℕ) (at n : ℕ) → n ≡ bracket-run (drop (at + 2) text) → length text ≤ at + 2 + n → variable-cut text at ≡ End
 unfolding variable-cut
 variable-open text at n e h = rw (variable-cut, ← e, le-ltb (at + 2 + n) (length text) h)
-
--- what is cut by data's table is cut by the thirteen bytes
-pub scalar-cut-by-classes : (text : List ℕ) (at : ℕ) → scalar-cut-by classes text at ≡ scalar-cut text at
-unfolding scalar-cut-by scalar-cut
-scalar-cut-by-classes text at = ap (λ (s : ℕ → Bool). cut-of s text at) classed-classes
 
 -- what the quoted run of a slice's later part says of the text
 pub quoted-part : (text : List ℕ) (start : ℕ) (q : Quotes.Quoted) → q ≡ quoted-run (take (length text - start) (drop start text))

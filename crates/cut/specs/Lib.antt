@@ -2,3 +2,5 @@ pub mod Blanks
 pub mod Runs
 pub mod Quotes
 pub mod Scalars
+pub mod Lanes
+pub mod Marks

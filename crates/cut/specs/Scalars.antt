@@ -7,7 +7,7 @@ use lib.ListN.{length, drop, getD}
 use Rattle.data.specs.Bytes.{quote, at-sign, bracket-open, bracket-close}
 use Rattle.data.specs.Classes.{is-boundary}
 use Rattle.cut.specs.Quotes.{quoted-run}
-use Rattle.cut.specs.Runs.{stop-from, run-end-of, classed}
+use Rattle.cut.specs.Runs.{stop-from, run-end-of}
 use Rattle.cut.specs.declared.Cut.{Cut}
 use Rattle.cut.specs.declared.Cut.the-variants.{Unquoted, Quoted, End}
 use Rattle.cut.specs.declared.Quoted as Quotes
@@ -56,9 +56,6 @@ cut-of stops text at =
       ]
     ]
 
--- by a table of classes, and by the thirteen boundary bytes
-unfoldable pub scalar-cut-by : List ℕ → List ℕ → ℕ → Cut
-scalar-cut-by table text at = cut-of (classed table) text at
-
+-- by the thirteen boundary bytes
 unfoldable pub scalar-cut : List ℕ → ℕ → Cut
 scalar-cut text at = cut-of is-boundary text at

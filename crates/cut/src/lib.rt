@@ -1,12 +1,15 @@
 // Where bytes are cut: blanks, unquoted runs, quoted runs, and the scalar at a place of a text.
-// A place counts from the text's first byte. The table of classes is lent by whoever loops over the text.
+// A place counts from the text's first byte. The plain pair of cuts looks at a byte at a time, and its table of classes is lent by whoever
+// loops over the text; `strides` has the pair that answers the same by eight bytes at a time, which scalars are cut by.
 ghost use mathlib.Core.Path.{_≡_};
 ghost use Prim.Native.Nat.{_+_, _≤_, _<_};
 ghost use lib.ListN.{length, drop};
 ghost use Rattle.cut.specs.Blanks.{is-blank, skip-ws};
 ghost use Rattle.cut.specs.Quotes.{quoted-run};
-ghost use Rattle.cut.specs.Runs.{run-by, run-end-by};
-ghost use Rattle.cut.specs.Scalars.{quoted, bracket-run, opens-variable, variable-cut, scalar-cut-by};
+ghost use Rattle.cut.specs.Runs.{run-by, run-end};
+ghost use Rattle.cut.specs.Scalars.{quoted, bracket-run, opens-variable, variable-cut, scalar-cut};
+
+pub mod strides;
 
 // What skipping blanks finds.
 pub enum Skipped {
@@ -133,11 +136,11 @@ pub fn parse_variable(d: &[u8]) -> usize
 }
 
 // The place after the unquoted run that starts at a place.
-pub fn run_end(text: &[u8], at: usize, classes: &[u8; data::BYTE_COUNT]) -> usize
-    ensures { λ r. ⌜ r ≡ run-end-by (now (classes .entry)) (now (text .entry)) at ⌝ }
+pub fn run_end(text: &[u8], at: usize) -> usize
+    ensures { λ r. ⌜ r ≡ run-end (now (text .entry)) at ⌝ }
 {
     if at < text.len() {
-        at + split_at_scalar(&text[at..], classes)
+        at + strides::split_at_scalar(&text[at..])
     } else {
         at
     }
@@ -148,7 +151,7 @@ fn quoted_at(text: &[u8], start: usize) -> Cut
     requires { ⌜ start ≤ length (now text) ⌝ }
     ensures { λ r. ⌜ r ≡ quoted start (quoted-run (drop start (now (text .entry)))) ⌝ }
 {
-    match parse_quote_scalar(&text[start..]) {
+    match strides::parse_quote_scalar(&text[start..]) {
         Quoted::Closed { length, escaped } => {
             let end = start + length;
             let rest = end + 1;
@@ -199,8 +202,8 @@ fn variable_at(text: &[u8], at: usize) -> Cut
 }
 
 // The scalar that starts at a place: its first byte says which kind of run it is.
-pub fn scalar_at(text: &[u8], at: usize, classes: &[u8; data::BYTE_COUNT]) -> Cut
-    ensures { λ r. ⌜ r ≡ scalar-cut-by (now (classes .entry)) (now (text .entry)) at ⌝ }
+pub fn scalar_at(text: &[u8], at: usize) -> Cut
+    ensures { λ r. ⌜ r ≡ scalar-cut (now (text .entry)) at ⌝ }
 {
     if at >= text.len() {
         return Cut::End;
@@ -211,7 +214,7 @@ pub fn scalar_at(text: &[u8], at: usize, classes: &[u8; data::BYTE_COUNT]) -> Cu
     if opens_variable(text, at) {
         return variable_at(text, at);
     }
-    let end = run_end(text, at, classes);
+    let end = run_end(text, at);
     Cut::Unquoted {
         start: at,
         end,

@@ -1,4 +1,5 @@
 pub mod Cases
+pub mod Below
 pub mod Boundary
 pub mod Pairs
 pub mod Told

@@ -1,6 +1,6 @@
-// The boundary bytes of the save format, as a table of 256 classes.
+// The boundary bytes of the save format, as a table of 256 classes, and as a test of a byte.
 ghost use mathlib.Core.Path.{_≡_};
-ghost use Rattle.data.specs.Classes.{classes};
+ghost use Rattle.data.specs.Classes.{classes, is-boundary};
 
 // How many bytes there are, each with its class.
 pub const BYTE_COUNT: usize = 256;
@@ -270,4 +270,23 @@ pub fn character_class() -> [u8; BYTE_COUNT]
     ensures { λ r. ⌜ r ≡ classes ⌝ }
 {
     CHARACTER_CLASS
+}
+
+// The boundary bytes below 64, a bit for each, and those from 64 to 127.
+const LOW_BOUNDARIES: u64 = 0x7800_0009_0000_2600;
+
+const HIGH_BOUNDARIES: u64 = 0x2800_0000_2800_0000;
+
+// Whether a byte ends an unquoted run: the table's rule, for whoever looks at a byte here and there and would pay for a table.
+pub fn is_boundary(b: u8) -> bool
+    ensures { λ r. ⌜ r ≡ is-boundary b ⌝ }
+{
+    if 127 < b {
+        return false;
+    }
+    let mut bits = LOW_BOUNDARIES;
+    if 63 < b {
+        bits = HIGH_BOUNDARIES;
+    }
+    (bits >> (b & 63)) & 1 == 1
 }

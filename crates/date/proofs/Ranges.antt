@@ -1,22 +1,17 @@
 -- A date in range, part by part.
 -- Assumes nothing.
-use mathlib.Core.Path.{_≡_, refl, sym, _∙_, ap}
-use mathlib.Core.Bool.{Bool, true, false, _&&_, false≢true}
+use mathlib.Core.Path.{_≡_, sym, _∙_, ap}
+use mathlib.Core.Bool.{true, false}
 use Prim.Native.Nat.{ℕ, _≤_, min}
 use native.Mathlib.Omega.{arith}
 use borrow.Author.Tests.{le-leb, leb-true}
 use lib.Dec.{leb}
-use Rattle.data.proofs.Cases.{by-bool}
+use Rattle.data.proofs.Cases.{by-bool, both}
 use Rattle.date.specs.Calendar.{date, within, days-in, months, most-year, most-hour, in-range, Ranged, ranged}
 use Rattle.date.specs.Reading.{past-all}
 use Rattle.date.specs.declared.calendar.Date.{Date}
 use Rattle.date.specs.declared.calendar.DateRead.the-variants.{Is, OutOfRange}
 use Rattle.date.proofs.Months.{days-in-year}
-
--- what two tests together say of each
-pub both : (a b : Bool) → (a && b) ≡ true → (a ≡ true) × (b ≡ true)
-both true b e = (refl, e)
-both false b e = absurd (false≢true e)
 
 -- from 1 to a number
 pub is-within : (n most : ℕ) → within n most ≡ true → (1 ≤ n) × (n ≤ most)

@@ -9,7 +9,7 @@ use borrow.Author.Tests.{ne-eqb, leb-true, leb-false}
 use lib.Dec.{eqb, leb}
 use lib.ListN.{length, getD, drop, length-append, length-drop, drop-of-length-le}
 use lib.Seq.{drop-cons, drop-drop}
-use Rattle.data.proofs.Cases.{by-bool}
+use Rattle.data.proofs.Cases.{by-bool, both}
 use Rattle.data.specs.Bytes.{point}
 use Rattle.scalar.specs.Digits.{is-digit, digits-alone, digit-first, digit-run, value}
 use Rattle.scalar.specs.Float.{rest}
@@ -19,7 +19,6 @@ use Rattle.date.specs.Reading.{onto, parts, is-part, all-parts, day-part
 use Rattle.date.specs.Reading.{pointed-part}
 use Rattle.date.specs.declared.reading.Part.the-variants as Part
 use Rattle.date.specs.declared.reading.Part.{Part}
-use Rattle.date.proofs.Ranges.{both}
 
 -- ---- the first part begins with the digits in front
 

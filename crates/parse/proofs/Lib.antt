@@ -2,6 +2,7 @@ pub mod Falls
 pub mod Moves
 pub mod Outcomes
 pub mod Runs
+pub mod Equals
 pub mod Splits
 pub mod States
 pub mod Steps

@@ -57,7 +57,7 @@ fn state_turn(text: &[u8], table: &[u8; data::BYTE_COUNT], tape: &mut [u32], m: 
 {
     match state_step(text, table, tape, m) {
         Step::Turned(turned) => turned,
-        Step::Scalar(state) => step::entry(text, table, tape, m, state),
+        Step::Scalar(state) => step::entry(text, tape, m, state),
     }
 }
 
@@ -83,7 +83,7 @@ fn run(text: &[u8], tape: &mut [u32], from: Machine) -> Ending
     let mut m = from;
     loop {
         match turn(text, &table, tape, m) {
-            Turn::Next(after) => m = after,
+            Turn::Next(after) => m = separator::past_equals(text, after),
             Turn::Done(count) => return Ending::Done(count),
             Turn::Refused(refusal) => return Ending::Refused(refusal),
         }

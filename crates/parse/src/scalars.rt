@@ -4,11 +4,11 @@ use tape::token;
 use tape::token::ScalarKind;
 ghost use mathlib.Core.Path.{_≡_};
 ghost use Prim.Native.Nat.{_-_, _≤_};
+ghost use lib.ListN.{length};
 ghost use Rattle.tape.specs.Token.{scalar-of};
 ghost use Rattle.cut.specs.Scalars.{scalar-cut};
 ghost use Rattle.parse.specs.Scalars.{scalar-found};
 ghost use Rattle.parse.specs.Parse.{text-limit};
-ghost use Rattle.parse.specs.Here.{Lent};
 
 // The token of a scalar of a kind, with the view from start to end.
 pub(crate) fn viewed(kind: ScalarKind, start: usize, end: usize) -> token::Token
@@ -25,11 +25,11 @@ pub enum Scalar {
 }
 
 // The scalar at a place.
-pub(crate) fn scalar_at(text: &[u8], table: &[u8; data::BYTE_COUNT], at: usize) -> Scalar
-    requires { ⌜ Lent (now text) (now table) ⌝ }
+pub(crate) fn scalar_at(text: &[u8], at: usize) -> Scalar
+    requires { ⌜ length (now text) ≤ text-limit ⌝ }
     ensures { λ r. ⌜ r ≡ scalar-found (scalar-cut (now (text .entry)) at) ⌝ }
 {
-    match cut::scalar_at(text, at, table) {
+    match cut::scalar_at(text, at) {
         Cut::Unquoted { start, end, rest } => Scalar::Cut {
             token: viewed(ScalarKind::Unquoted, start, end),
             rest,

@@ -15,7 +15,7 @@ ghost use mathlib.Core.Path.{_≡_};
 ghost use Prim.Native.Nat.{_≤_, _<_};
 ghost use Rattle.tape.specs.Tape.{view};
 ghost use Rattle.parse.specs.After.{after, next};
-ghost use Rattle.parse.specs.KeyValueSeparator.{mix-then, separator-then, separator-turn};
+ghost use Rattle.parse.specs.KeyValueSeparator.{mix-then, separator-then, separator-turn, is-separator, past-equals};
 ghost use Rattle.parse.specs.Parse.{text-limit};
 ghost use Rattle.parse.specs.Here.{Here};
 
@@ -63,4 +63,35 @@ pub(crate) fn separator_turn(text: &[u8], tape: &mut [u32], m: Machine) -> Turn
             mix(tape, m)
         }
     }
+}
+
+// Whether a state is KeyValueSeparator.
+fn is_separator(state: State) -> bool
+    ensures { λ r. ⌜ r ≡ is-separator state ⌝ }
+{
+    match state {
+        State::Key => false,
+        State::KeyValueSeparator => true,
+        State::ObjectValue => false,
+        State::ParseOpen => false,
+        State::ArrayValue => false,
+    }
+}
+
+// The machine past the `=` that most keys have right behind them, which adds no token: a turn of its own would find the same.
+pub(crate) fn past_equals(text: &[u8], m: Machine) -> Machine
+    ensures { λ r. ⌜ r ≡ past-equals (now (text .entry)) m ⌝ }
+{
+    let state = m.state;
+    if !is_separator(state) {
+        return m;
+    }
+    let at = m.at;
+    if byte_at(text, at) != b'=' {
+        return m;
+    }
+    if byte_at(text, at + 1) == b'=' {
+        return m;
+    }
+    m.to(at + 1, State::ObjectValue, m.count)
 }

@@ -12,10 +12,12 @@ use machine::is_parse_open;
 use tape::words;
 use tape::words::Pushed;
 ghost use mathlib.Core.Path.{_≡_};
+ghost use Prim.Native.Nat.{_≤_};
+ghost use lib.ListN.{length};
 ghost use Rattle.tape.specs.Tape.{view};
 ghost use Rattle.parse.specs.After.{after};
 ghost use Rattle.parse.specs.Step.{entered, entry};
-ghost use Rattle.parse.specs.Here.{Lent};
+ghost use Rattle.parse.specs.Parse.{text-limit};
 
 // What a state makes of a byte: a whole turn, or that a scalar is due and the state after it.
 pub enum Step {
@@ -28,25 +30,19 @@ fn entered(text: &[u8], tape: &mut [u32], m: Machine) -> Turn
     ensures { λ r. ⌜ after r (now (tape .exit)) ≡ entered (now (text .entry)) (view (now (tape .entry)) (m .count)) m ⌝ }
 {
     let state = m.state;
-    if is_parse_open(state) {
-        flag_parent(tape, m);
-        return open_as(text, tape, m);
+    if !is_parse_open(state) {
+        return Turn::Next(m);
     }
-    Turn::Next(m)
+    flag_parent(tape, m);
+    open_as(text, tape, m)
 }
 
 // Takes the scalar that is due, and goes on past it in a state.
-pub(crate) fn entry(
-    text: &[u8],
-    table: &[u8; data::BYTE_COUNT],
-    tape: &mut [u32],
-    m: Machine,
-    state: State,
-) -> Turn
-    requires { ⌜ Lent (now text) (now table) ⌝ }
+pub(crate) fn entry(text: &[u8], tape: &mut [u32], m: Machine, state: State) -> Turn
+    requires { ⌜ length (now text) ≤ text-limit ⌝ }
     ensures { λ r. ⌜ after r (now (tape .exit)) ≡ entry (now (text .entry)) state (view (now (tape .entry)) (m .count)) m ⌝ }
 {
-    let Scalar::Cut { token, rest } = scalar_at(text, table, m.at) else {
+    let Scalar::Cut { token, rest } = scalar_at(text, m.at) else {
         return Turn::Refused(Refusal::Eof);
     };
     match words::push(tape, m.count, token) {

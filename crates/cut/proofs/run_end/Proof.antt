@@ -4,7 +4,7 @@ use mathlib.Core.Path.{sym}
 use native.Mathlib.Omega.{arith}
 use borrow.Author.Needs.{needs}
 use denote.Ref.{now}
-use Rattle.cut.proofs.Runs.{run-of-part, run-end-by-within, run-end-by-past}
+use Rattle.cut.proofs.Runs.{unquoted-part, run-end-within, run-end-past}
 use Rattle.cut.proofs.run_end.Statement.{statement}
 use Rattle.cut.proofs.run_end.Tie as tie
 
@@ -25,15 +25,15 @@ add-result c =
     let a = c .before .before .before .before .args in
     omega (
       arith,
-      run-of-part (now (a .classes)) (now (a .text)) (a .at) (c .split-at-scalar .result) (c .split-at-scalar .ensures),
-      run-end-by-within (now (a .classes)) (now (a .text)) (a .at) (search needs),
+      unquoted-part (now (a .text)) (a .at) (c .split-at-scalar .result) (c .split-at-scalar .ensures),
+      run-end-within (now (a .text)) (a .at) (search needs),
     )
 
 returns : tie.Need-returns
-returns c = run-of-part _ _ _ _ (c .split-at-scalar .ensures)
+returns c = unquoted-part _ _ _ (c .split-at-scalar .ensures)
 
 returns-2 : tie.Need-returns-2
-returns-2 c = sym (run-end-by-past _ _ _ (c .if1 .left))
+returns-2 c = sym (run-end-past _ _ (c .if1 .left))
 
 pub run-end-spec : {M : Type 1} → statement M
 run-end-spec =

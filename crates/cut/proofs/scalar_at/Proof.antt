@@ -2,15 +2,16 @@
 -- Assumes nothing.
 use mathlib.Core.Path.{sym, _∙_, ap}
 use borrow.Author.Needs.{needs}
-use Rattle.cut.specs.Runs.{classed, run-end-by}
-use Rattle.cut.specs.Scalars.{unquoted, scalar-cut-by}
+use Rattle.data.specs.Classes.{is-boundary}
+use Rattle.cut.specs.Runs.{run-end}
+use Rattle.cut.specs.Scalars.{unquoted, scalar-cut}
 use Rattle.cut.proofs.Scalars.{opens-within, cut-past, cut-quoted, cut-variable, cut-run}
 use Rattle.cut.proofs.scalar_at.Statement.{statement}
 use Rattle.cut.proofs.scalar_at.Tie as tie
 
 returns : tie.Need-returns
-unfolding scalar-cut-by
-returns c = sym (cut-past (classed _) _ _ (c .if1 .taken))
+unfolding scalar-cut
+returns c = sym (cut-past is-boundary _ _ (c .if1 .taken))
 
 shared-slice-read-if2 : tie.Need-shared-slice-read-if2
 shared-slice-read-if2 c = search needs
@@ -22,8 +23,8 @@ quoted-at-requires : tie.Need-quoted-at-requires
 quoted-at-requires c κs = search needs
 
 returns-2 : tie.Need-returns-2
-unfolding scalar-cut-by
-returns-2 c = c .quoted-at .ensures ∙ sym (cut-quoted (classed _) _ _ (c .before .before .before .if1 .left) (c .before .if2 .taken))
+unfolding scalar-cut
+returns-2 c = c .quoted-at .ensures ∙ sym (cut-quoted is-boundary _ _ (c .before .before .before .if1 .left) (c .before .if2 .taken))
 
 opens-variable-requires : tie.Need-opens-variable-requires
 opens-variable-requires c κs = search needs
@@ -32,22 +33,22 @@ variable-at-requires : tie.Need-variable-at-requires
 variable-at-requires c κs = opens-within _ _ (sym (c .before .opens-variable .ensures) ∙ c .if3 .taken)
 
 returns-3 : tie.Need-returns-3
-unfolding scalar-cut-by
+unfolding scalar-cut
 returns-3 c =
     c .variable-at .ensures
     ∙ sym
-    (cut-variable (classed _) _ _ (c .before .before .before .before .before .if1 .left) (c .before .before .before .if2 .left)
+    (cut-variable is-boundary _ _ (c .before .before .before .before .before .if1 .left) (c .before .before .before .if2 .left)
     (sym (c .before .before .opens-variable .ensures) ∙ c .before .if3 .taken))
 
 run-end-requires : tie.Need-run-end-requires
 run-end-requires c κs = search needs
 
 returns-4 : tie.Need-returns-4
-unfolding scalar-cut-by run-end-by
+unfolding scalar-cut run-end
 returns-4 c =
     ap (unquoted _) (c .run-end .ensures)
     ∙ sym
-    (cut-run (classed _) _ _ (c .before .before .before .before .before .if1 .left) (c .before .before .before .if2 .left)
+    (cut-run is-boundary _ _ (c .before .before .before .before .before .if1 .left) (c .before .before .before .if2 .left)
     (sym (c .before .before .opens-variable .ensures) ∙ c .before .if3 .left))
 
 pub scalar-at-spec : {M : Type 1} → statement M

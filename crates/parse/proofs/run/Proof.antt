@@ -11,7 +11,8 @@ use Rattle.data.specs.Classes.{classes}
 use Rattle.tape.specs.Tape.{view}
 use Rattle.parse.specs.After.{next}
 use Rattle.parse.specs.Parse.{run, enough}
-use Rattle.parse.proofs.Falls.{left, turn-falls}
+use Rattle.parse.proofs.Equals.{fell, goes-on}
+use Rattle.parse.proofs.Falls.{left}
 use Rattle.parse.proofs.Runs.{run-done, run-refused, run-turn, run-enough, within-enough}
 use Rattle.parse.proofs.run.Statement.{statement}
 use Rattle.parse.proofs.run.Tie as tie
@@ -41,26 +42,24 @@ turn-requires c κs =
 enum-known-after : tie.Need-enum-known-after Inv-loop μ-loop
 enum-known-after c = search needs
 
+past-equals-requires : tie.Need-past-equals-requires Inv-loop μ-loop
+past-equals-requires c κs = search needs
+
 loop-less : tie.Need-loop-less Inv-loop μ-loop
 loop-less c =
-    let at-turn = c .before .before .before .before .before in
-    let at-loop = at-turn .before .before .before in
-    let text = now (at-loop .before .before .before .before .args .text) in
-    let m = at-loop .loop .m in
-    rw (← (at-turn .turn .ensures), c .before .after .given .1) at (turn-falls text (view (at-loop .loop .tape) (m .count)) m)
+    let told = c .before in
+    let at-turn = told .before .before .before .before .before in
+    fell _ _ _ _ _ _ _ (at-turn .turn .ensures) (told .before .after .given .1) (c .past-equals .ensures)
 
 loop-again : tie.Need-loop-again Inv-loop μ-loop
 loop-again c =
-    let at-turn = c .before .before .before .before .before in
-    let at-loop = at-turn .before .before .before in
-    let text = now (at-loop .before .before .before .before .args .text) in
-    let m = at-loop .loop .m in
-    let t = view (at-loop .loop .tape) (m .count) in (
+    let told = c .before in
+    let at-turn = told .before .before .before .before .before in
+    let at-loop = at-turn .before .before .before in (
       at-turn .turn .kept .1 .1 .0 ∙ at-loop .loop .inv .0,
       at-loop .loop .inv .1,
       at-loop .loop .inv .2
-          ∙ rw (run-turn text (left text (m .at) (m .state)) m t, ← (at-turn .turn .ensures), c .before .after .given .1)
-          (run-enough text _ _ _ _ (rw (← (at-turn .turn .ensures), c .before .after .given .1) at (turn-falls text t m)) (omega arith)),
+          ∙ goes-on _ _ _ _ _ _ _ (at-turn .turn .ensures) (told .before .after .given .1) (c .past-equals .ensures),
     )
 
 enum-known-count : tie.Need-enum-known-count Inv-loop μ-loop
@@ -111,6 +110,7 @@ run-spec =
     loop-holds
     turn-requires
     enum-known-after
+    past-equals-requires
     loop-less
     loop-again
     enum-known-count

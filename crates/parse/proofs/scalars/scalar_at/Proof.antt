@@ -4,7 +4,6 @@ use borrow.Author.Needs.{needs}
 use native.Mathlib.Omega.{arith}
 use mathlib.Core.Path.{sym, _∙_}
 use Rattle.cut.proofs.Scalars.{unquoted-bounds, quoted-bounds}
-use Rattle.parse.proofs.Tables.{scalar-cut-lent}
 use Rattle.parse.proofs.scalars.scalar_at.Statement.{statement}
 use Rattle.parse.proofs.scalars.scalar_at.Tie as tie
 
@@ -18,7 +17,7 @@ viewed-requires : tie.Need-viewed-requires
 viewed-requires c κs =
     let at-start = c .before in
     let at-cut = at-start .before .before in
-    let e = sym (at-cut .scalar-at .ensures ∙ scalar-cut-lent _ _ _ (at-cut .before .before .pre .1)) ∙ at-start .start .given .1 in
+    let e = sym (at-cut .scalar-at .ensures) ∙ at-start .start .given .1 in
     let b = unquoted-bounds _ _ _ _ _ e in
     omega (arith, b .starts, b .moves, b .within)
 
@@ -32,7 +31,7 @@ viewed-requires-2 : tie.Need-viewed-requires-2
 viewed-requires-2 c κs =
     let at-start = c .before .before in
     let at-cut = at-start .before .before in
-    let e = sym (at-cut .scalar-at .ensures ∙ scalar-cut-lent _ _ _ (at-cut .before .before .pre .1)) ∙ at-start .start2 .given .1 in
+    let e = sym (at-cut .scalar-at .ensures) ∙ at-start .start2 .given .1 in
     let b = quoted-bounds _ _ _ _ _ _ e in
     omega (arith, b .starts, b .run .from, b .run .within)
 
@@ -43,7 +42,7 @@ returns : tie.Need-returns
 returns c =
     let at-start = c .before .before in
     let at-cut = at-start .before .before in
-    rw (← (at-cut .scalar-at .ensures ∙ scalar-cut-lent _ _ _ (at-cut .before .before .pre .1)), at-start .start .given .1, c .viewed .ensures)
+    rw (← (at-cut .scalar-at .ensures), at-start .start .given .1, c .viewed .ensures)
 
 returns-2 : tie.Need-returns-2
 returns-2 c =
@@ -51,7 +50,7 @@ returns-2 c =
     let at-start = at-kind .before .before in
     let at-cut = at-start .before .before in
     rw (
-      ← (at-cut .scalar-at .ensures ∙ scalar-cut-lent _ _ _ (at-cut .before .before .pre .1)),
+      ← (at-cut .scalar-at .ensures),
       at-start .start2 .given .1,
       c .viewed2 .ensures,
       at-kind .quoted-kind .ensures,
@@ -60,7 +59,7 @@ returns-2 c =
 returns-3 : tie.Need-returns-3
 returns-3 c =
     let at-cut = c .before .before in
-    rw (← (at-cut .scalar-at .ensures ∙ scalar-cut-lent _ _ _ (at-cut .before .before .pre .1)), c .enum-told .given .1)
+    rw (← (at-cut .scalar-at .ensures), c .enum-told .given .1)
 
 pub scalar-at-spec : {M : Type 1} → statement M
 scalar-at-spec =

@@ -1,0 +1,24 @@
+-- `cut::strides::may_end` meets its contract: the mask is computed as it is defined, and no sum or difference leaves the word.
+-- Assumes nothing.
+use mathlib.Core.Path.{refl}
+use native.Mathlib.Omega.{arith}
+use lib.Bits.{and-le-r}
+use Rattle.cut.specs.Lanes.{over}
+use Rattle.cut.proofs.strides.may_end.Statement.{statement}
+use Rattle.cut.proofs.strides.may_end.Tie as tie
+
+sub-small : tie.Need-sub-small
+sub-small c = omega (arith, and-le-r (c .args .x) 0x7f7f_7f7f_7f7f_7f7f)
+
+add-signs : tie.Need-add-signs
+add-signs c = omega (arith, and-le-r (c .args .x) 0x1f1f_1f1f_1f1f_1f1f)
+
+add-signs-2 : tie.Need-add-signs-2
+add-signs-2 c = omega (arith, and-le-r (c .args .x) 0x1f1f_1f1f_1f1f_1f1f)
+
+returns : tie.Need-returns
+unfolding over
+returns c = refl
+
+pub may-end-spec : {M : Type 1} → statement M
+may-end-spec = tie.close (tie.spec sub-small add-signs add-signs-2 returns)

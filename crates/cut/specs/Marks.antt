@@ -1,0 +1,54 @@
+-- Two masks, each of which marks the bytes that a cut looks for, and a few others, by a byte's top bit; and the first mark of two words.
+use Prim.Native.Nat.{ℕ, _+_, _*_, _/_, _^_}
+use mathlib.Core.Bool.{Bool, true, false}
+use lib.Bits.{bitAnd, bitOr}
+use lib.Count.{trailingZeros}
+use lib.Dec.{eqb}
+use Rattle.data.specs.Bytes.{quote, backslash}
+use Rattle.cut.specs.Lanes.{Lane, it, all, both, either, differ, plus, minus}
+
+-- ---- the masks
+
+-- what may end an unquoted run: up to `#`, and by the low five bits `;` `<` `=` `>` `[` `]` `{` `}`. A byte from 128 on is marked as the
+-- one 128 less
+abbrev pub may-end : Lane
+may-end =
+    either
+    (minus (all 0xa3) (both it (all 0x7f)))
+    (differ (plus (both it (all 0x1f)) (all 0x65)) (plus (both it (all 0x1f)) (all 0x61)))
+
+-- what may close a quoted run, or skip a byte of it: a quote and a backslash
+abbrev pub may-close : Lane
+may-close =
+    either
+    (minus (all 0x80) (differ (both it (all 0x7f)) (all 0x22)))
+    (minus (all 0x80) (differ (both it (all 0x7f)) (all 0x5c)))
+
+-- the mark alone
+abbrev pub top : Lane → Lane
+top e = both e (all 0x80)
+
+-- whether a byte of a quoted run is a quote or a backslash
+unfoldable pub turns-quote : ℕ → Bool
+turns-quote b = elim (eqb b quote) [ true ↦ true | false ↦ eqb b backslash ]
+
+-- ---- two words
+
+-- how many bytes a word has, and the two of a step
+abbrev pub word-size : ℕ
+word-size = 8
+
+abbrev pub stride : ℕ
+stride = 16
+
+-- the top bit of every byte of a word
+abbrev pub tops : ℕ
+tops = 0x8080_8080_8080_8080
+
+-- whether two words have no mark
+unfoldable pub all-unmarked : ℕ → ℕ → Bool
+all-unmarked x y = eqb (bitOr (bitAnd x tops) (bitAnd y tops)) 0
+
+-- how many bytes stand before the first mark of two words, the second above the first; all of them where there is none
+unfoldable pub first-mark : ℕ → ℕ → ℕ
+first-mark x y = trailingZeros 128 (bitAnd y tops * 2 ^ 64 + bitAnd x tops) / 8
