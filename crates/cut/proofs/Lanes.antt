@@ -11,23 +11,8 @@ use lib.Dec.{ltb, leb}
 use lib.ListN.{length}
 use Rattle.data.proofs.Cases as cases
 use Rattle.data.specs.Classes.{byte-count}
-use Rattle.cut.specs.Lanes.{Lane, it, all, both, either, differ, plus, minus, word, spread, value, on, over}
-use Rattle.cut.proofs.Words.{Bytes, Keeps, each, each-word, each-spread, each-op, each-plus, each-apart, each-le}
-
--- whether a computation stays within a byte, at a byte
-unfoldable pub stays : Lane → ℕ → Bool
-unfolding on
-stays it b = true
-stays (all c) b = ltb c byte-count
-stays (both e f) b = stays e b && stays f b
-stays (either e f) b = stays e b && stays f b
-stays (differ e f) b = stays e b && stays f b
-stays (plus e f) b = (stays e b && stays f b) && ltb (on e b + on f b) byte-count
-stays (minus e f) b = (stays e b && stays f b) && leb (on f b) (on e b)
-
--- at every byte
-abbrev pub Stays : Lane → Type 0
-Stays e = (b : ℕ) → b < 2 ^ 8 → stays e b ≡ true
+use Rattle.cut.specs.Lanes.{Bytes, Lane, it, all, both, either, differ, plus, minus, word, spread, value, on, over, stays, Stays}
+use Rattle.cut.proofs.Words.{Keeps, each, each-word, each-spread, each-op, each-plus, each-apart, each-le}
 
 module _ (e f : Lane) where
   both-stay : ((b : ℕ) → b < 2 ^ 8 → (stays e b && stays f b) ≡ true) → Stays e × Stays f

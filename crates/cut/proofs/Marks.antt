@@ -16,18 +16,14 @@ use Rattle.data.proofs.Below.{all-below, below}
 use Rattle.data.proofs.Cases as cases
 use Rattle.data.specs.Bytes.{quote, backslash}
 use Rattle.data.specs.Classes.{is-boundary, byte-count}
-use Rattle.cut.specs.Lanes.{Lane, word, spread, value, on, over}
+use Rattle.cut.specs.Lanes.{Bytes, Lane, word, spread, value, on, over, stays, Stays}
 use Rattle.cut.specs.Marks.{may-end, may-close, top, turns-quote, word-size, stride, tops, all-unmarked, first-mark}
-use Rattle.cut.proofs.Lanes.{stays, Stays, keeps, over-each, over-below}
-use Rattle.cut.proofs.Words.{Bytes, each, each-append, bytes, length-bytes, bytes-bytes, word-bytes}
+use Rattle.cut.specs.Marks.{Marks, Calm, marks-at, Finds}
+use Rattle.cut.proofs.Lanes.{keeps, over-each, over-below}
+use Rattle.cut.proofs.Words.{each, each-append, bytes, length-bytes, bytes-bytes, word-bytes}
 use Rattle.cut.proofs.Zeros.{zero-bytes}
 
--- a mark stays within its byte, and every wanted byte has one
-pub record Marks (wanted : ℕ → Bool) (e : Lane) : Type 0 where
-  pub stay : Stays (top e)
-  pub unmarked : (b : ℕ) → b < 2 ^ 8 → on (top e) b ≡ 0 → wanted b ≡ false
-
--- the same as a test of a byte
+-- that a mask marks a set, as a test of a byte
 unfoldable pub marks : (ℕ → Bool) → Lane → ℕ → Bool
 unfolding stays on
 marks wanted e b = stays (top e) b && not (wanted b && eqb (on (top e) b) 0)
@@ -58,11 +54,6 @@ bytes-take (suc n) (b ∷ bs) h (suc k) = bytes-take n bs (λ j. h (suc j)) k
 bytes-drop : (n : ℕ) (bs : List ℕ) → Bytes bs → Bytes (drop n bs)
 bytes-drop n bs h k = rw (getD-drop n bs k 0) (h (n + k))
 
--- some bytes from a place on, a stride at most, none of which is wanted
-pub record Calm (wanted : ℕ → Bool) (d : List ℕ) (i n : ℕ) : Type 0 where
-  pub few : n ≤ stride
-  pub none : (k : ℕ) → k < n → wanted (getD d (i + k) 0) ≡ false
-
 -- two words without a mark have all their bytes before it
 pub first-of-none : (x y : ℕ) → all-unmarked x y ≡ true → first-mark x y ≡ stride
 unfolding all-unmarked first-mark
@@ -88,15 +79,14 @@ module _ (wanted : ℕ → Bool) (e : Lane) (m : Marks wanted e) where
     long i n h = length-take-le n (drop i d) (rw length-drop (omega arith))
 
     -- a word's marks by its bytes
-    marked : (i x : ℕ) → i + word-size ≤ length d → x ≡ over e word-size (word (part i)) → bitAnd x tops ≡ each (on (top e)) (part i)
+    marked : (i x : ℕ) → i + word-size ≤ length d → x ≡ marks-at e d i → bitAnd x tops ≡ each (on (top e)) (part i)
     unfolding over
     marked i x h q =
         ap (λ (n : ℕ). bitAnd n tops) q
         ∙ ap (λ (n : ℕ). over (top e) n (word (part i))) (sym (long i word-size h))
         ∙ over-each (top e) (m .stay) (part i) (bytes-take word-size (drop i d) (bytes-drop i d bytes))
 
-    module _ (i x y : ℕ) (within : i + stride ≤ length d)
-        (first : x ≡ over e word-size (word (part i))) (second : y ≡ over e word-size (word (part (i + word-size)))) where
+    module _ (i x y : ℕ) (within : i + stride ≤ length d) (first : x ≡ marks-at e d i) (second : y ≡ marks-at e d (i + word-size)) where
       sixteen : each (on (top e)) (take stride (drop i d)) ≡ bitAnd y tops * 2 ^ 64 + bitAnd x tops
       sixteen =
           let f = on (top e) in
@@ -107,8 +97,7 @@ module _ (wanted : ℕ → Bool) (e : Lane) (m : Marks wanted e) where
           (sym (marked (i + word-size) y (omega arith) second))
           (sym (marked i x (omega arith) first))
 
-      -- as the code meets it: the bytes before the first mark of two words
-      pub calm : (n : ℕ) → n ≡ first-mark x y → Calm wanted d i n
+      calm : (n : ℕ) → n ≡ first-mark x y → Calm wanted d i n
       unfolding first-mark
       calm n q =
           let bs : List ℕ = take stride (drop i d) in
@@ -122,14 +111,24 @@ module _ (wanted : ℕ → Bool) (e : Lane) (m : Marks wanted e) where
                 ∙ unwanted bs (bytes-take stride (drop i d) (bytes-drop i d bytes)) k (rw same at l);
           }
 
+-- the law, once over the set of wanted bytes: a mask that marks them finds the bytes before the first
+pub finds : (wanted : ℕ → Bool) (e : Lane) → Marks wanted e → Finds wanted e
+finds wanted e m d bytes i x y n within first second q = calm wanted e m d bytes i x y within first second n q
+
 -- the two uses, each computed over the 256 bytes: the thirteen, and quote and backslash
-pub ends-marked : Marks is-boundary may-end
+ends-marked : Marks is-boundary may-end
 unfolding marks all-below stays on value is-boundary
 ends-marked = tested is-boundary may-end refl
 
-pub closes-marked : Marks turns-quote may-close
+closes-marked : Marks turns-quote may-close
 unfolding marks all-below stays on value turns-quote
 closes-marked = tested turns-quote may-close refl
+
+pub finds-ends : Finds is-boundary may-end
+finds-ends = finds is-boundary may-end ends-marked
+
+pub finds-closes : Finds turns-quote may-close
+finds-closes = finds turns-quote may-close closes-marked
 
 -- a byte that is neither a quote nor a backslash
 pub no-turn : (b : ℕ) → turns-quote b ≡ false → (b ≡ quote → ⊥) × (b ≡ backslash → ⊥)

@@ -7,11 +7,11 @@ use Prim.Native.Nat.{ℕ, zero, suc, _+_, _-_, _≤_, _<_}
 use native.Mathlib.Omega.{arith}
 use lib.ListN.{length, getD, drop}
 use Rattle.data.specs.Bytes.{quote, backslash}
-use Rattle.cut.specs.Marks.{turns-quote, stride}
+use Rattle.cut.specs.Marks.{turns-quote, Calm}
 use Rattle.cut.specs.Quotes.{quoted-from}
 use Rattle.cut.specs.Runs.{stop-from}
 use Rattle.cut.specs.declared.Quoted.the-variants.{Closed}
-use Rattle.cut.proofs.Marks.{Calm, no-turn}
+use Rattle.cut.proofs.Marks.{no-turn}
 use Rattle.cut.proofs.Quotes.{quoted-closes, quoted-escapes, quoted-goes-on}
 use Rattle.cut.proofs.Runs.{stop-here, stop-later}
 

@@ -7,11 +7,7 @@ use native.Mathlib.Nat.{mod-lt, suc-mul, mul-assoc, mul-one}
 use native.Mathlib.Omega.{arith}
 use lib.ListN.{length, getD}
 use lib.Pow.{pow-add, pow-pos, shr-lt, split}
-use Rattle.cut.specs.Lanes.{word, spread}
-
--- every number of a list is a byte
-abbrev pub Bytes : List ℕ → Type 0
-Bytes bs = (k : ℕ) → getD bs k 0 < 2 ^ 8
+use Rattle.cut.specs.Lanes.{Bytes, word, spread}
 
 -- a function from bytes to bytes
 abbrev pub Keeps : (ℕ → ℕ) → Type 0
@@ -50,7 +46,8 @@ each-plus f g [] = refl
 each-plus f g (b ∷ bs) = let e = each-plus f g bs in omega arith
 
 -- and so are differences, where no byte goes below 0
-pub each-apart : (f g : ℕ → ℕ) (bs : List ℕ) → Bytes bs → ((b : ℕ) → b < 2 ^ 8 → g b ≤ f b) → each (λ b. f b - g b) bs + each g bs ≡ each f bs
+pub each-apart : (f g : ℕ → ℕ) (bs : List ℕ) → Bytes bs
+    → ((b : ℕ) → b < 2 ^ 8 → g b ≤ f b) → each (λ b. f b - g b) bs + each g bs ≡ each f bs
 unfolding each
 each-apart f g [] h le = refl
 each-apart f g (b ∷ bs) h le = let e = each-apart f g bs (λ k. h (suc k)) le in let l = le b (h 0) in omega arith

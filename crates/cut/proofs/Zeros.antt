@@ -11,7 +11,8 @@ use lib.Count.{trailingZeros, under, trailing-le}
 use lib.Dec.{eqb}
 use lib.ListN.{length, getD}
 use Rattle.data.proofs.Cases.{by-bool}
-use Rattle.cut.proofs.Words.{each, Bytes, Keeps}
+use Rattle.cut.specs.Lanes.{Bytes}
+use Rattle.cut.proofs.Words.{each, Keeps}
 
 -- one digit of a number whose lower part has a digit
 zeros-step : (j k a r : ℕ) → trailingZeros (suc j + k) (a * 2 ^ suc j + r) ≡ under (r % 2) (trailingZeros (j + k) (a * 2 ^ j + r / 2))

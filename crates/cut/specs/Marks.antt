@@ -1,11 +1,14 @@
 -- Two masks, each of which marks the bytes that a cut looks for, and a few others, by a byte's top bit; and the first mark of two words.
-use Prim.Native.Nat.{ℕ, _+_, _*_, _/_, _^_}
+use Prim.Native.Nat.{ℕ, _+_, _*_, _/_, _^_, _≤_, _<_}
+use mathlib.Core.Path.{_≡_}
 use mathlib.Core.Bool.{Bool, true, false}
+use mathlib.Core.List.{List}
 use lib.Bits.{bitAnd, bitOr}
 use lib.Count.{trailingZeros}
 use lib.Dec.{eqb}
+use lib.ListN.{length, getD, take, drop}
 use Rattle.data.specs.Bytes.{quote, backslash}
-use Rattle.cut.specs.Lanes.{Lane, it, all, both, either, differ, plus, minus}
+use Rattle.cut.specs.Lanes.{Bytes, word, Lane, it, all, both, either, differ, plus, minus, on, over, Stays}
 
 -- ---- the masks
 
@@ -52,3 +55,24 @@ all-unmarked x y = eqb (bitOr (bitAnd x tops) (bitAnd y tops)) 0
 -- how many bytes stand before the first mark of two words, the second above the first; all of them where there is none
 unfoldable pub first-mark : ℕ → ℕ → ℕ
 first-mark x y = trailingZeros 128 (bitAnd y tops * 2 ^ 64 + bitAnd x tops) / 8
+
+-- ---- what a mask has to do, and what it then finds, for any set of wanted bytes
+
+-- a mark stays within its byte, and every wanted byte has one
+pub record Marks (wanted : ℕ → Bool) (e : Lane) : Type 0 where
+  pub stay : Stays (top e)
+  pub unmarked : (b : ℕ) → b < 2 ^ 8 → on (top e) b ≡ 0 → wanted b ≡ false
+
+-- some bytes from a place on, a stride at most, none of which is wanted
+pub record Calm (wanted : ℕ → Bool) (d : List ℕ) (i n : ℕ) : Type 0 where
+  pub few : n ≤ stride
+  pub none : (k : ℕ) → k < n → wanted (getD d (i + k) 0) ≡ false
+
+-- the eight bytes from a place on, as one word, marked
+abbrev pub marks-at : Lane → List ℕ → ℕ → ℕ
+marks-at e d i = over e word-size (word (take word-size (drop i d)))
+
+-- none of the bytes before the first mark of a stride is wanted, wherever it stands
+abbrev pub Finds : (ℕ → Bool) → Lane → Type 0
+Finds wanted e = (d : List ℕ) → Bytes d → (i x y n : ℕ) → i + stride ≤ length d → x ≡ marks-at e d i → y ≡ marks-at e d (i + word-size)
+    → n ≡ first-mark x y → Calm wanted d i n

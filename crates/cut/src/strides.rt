@@ -177,7 +177,8 @@ pub fn parse_quote_scalar(d: &[u8]) -> Quoted
         if all_unmarked(x, y) {
             i += STRIDE;
         } else {
-            i += first_mark(x, y);
+            let n = first_mark(x, y);
+            i += n;
             let b = d[i];
             if b == b'"' {
                 return Quoted::Closed { length: i, escaped };

@@ -13,4 +13,5 @@ pub mod Mixed
 pub mod ReadingKinds
 pub mod Rising
 pub mod Room
+pub mod Strides
 pub mod Uniqueness

@@ -16,6 +16,7 @@ use Rattle.file.specs.Files.{Left, Read-opened, Reads-as}
 use Rattle.put.specs.Append.{Wrote, wrote}
 use Rattle.promises.specs.Unique.{One-result, One-left, One-line, One-part}
 use Rattle.data.proofs.character_class.Reads as character-class
+use Rattle.data.proofs.is_boundary.Reads as is-boundary
 use Rattle.operator.proofs.Operator.number.Reads as operator-number
 use Rattle.operator.proofs.Operator.is_equal.Reads as operator-is-equal
 use Rattle.operator.proofs.Operator.symbol.Reads as operator-symbol
@@ -45,7 +46,13 @@ use Rattle.cut.proofs.split_at_scalar.Reads as split-at-scalar
 use Rattle.cut.proofs.parse_quote_scalar.Reads as parse-quote-scalar
 use Rattle.cut.proofs.parse_variable.Reads as parse-variable
 use Rattle.cut.proofs.run_end.Reads as run-end
+use Rattle.cut.proofs.strides.split_at_scalar.Reads as fast-split-at-scalar
+use Rattle.cut.proofs.strides.parse_quote_scalar.Reads as fast-parse-quote-scalar
 use Rattle.cut.proofs.scalar_at.Reads as scalar-at
+use Rattle.cut_calls.proofs.cuts_plain_run.Reads as cuts-plain-run
+use Rattle.cut_calls.proofs.cuts_fast_run.Reads as cuts-fast-run
+use Rattle.cut_calls.proofs.cuts_plain_quote.Reads as cuts-plain-quote
+use Rattle.cut_calls.proofs.cuts_fast_quote.Reads as cuts-fast-quote
 use Rattle.tape.proofs.token.scalar_named.Reads as scalar-named
 use Rattle.tape.proofs.token.may_be_empty.Reads as may-be-empty
 use Rattle.tape.proofs.token.is_header.Reads as is-header
@@ -224,11 +231,13 @@ one-read tell bytes room x y p q = one-opened tell bytes room (open-file bytes) 
 
 pub record Data : Type 0 where
   pub character-class : One-result character-class.Post
+  pub is-boundary : One-result is-boundary.Post
 
 pub data-calls : Data
 data-calls =
     record {
       character-class = by-definition _ _;
+      is-boundary = by-definition _ _;
     }
 
 pub record Put : Type 0 where
@@ -342,6 +351,8 @@ pub record Cut : Type 0 where
   pub parse-variable : One-result parse-variable.Post
   pub run-end : One-result run-end.Post
   pub scalar-at : One-result scalar-at.Post
+  pub fast-split-at-scalar : One-result fast-split-at-scalar.Post
+  pub fast-parse-quote-scalar : One-result fast-parse-quote-scalar.Post
 
 pub cut-calls : Cut
 cut-calls =
@@ -352,6 +363,23 @@ cut-calls =
       parse-variable = by-definition _ _;
       run-end = by-definition _ _;
       scalar-at = by-definition _ _;
+      fast-split-at-scalar = by-definition _ _;
+      fast-parse-quote-scalar = by-definition _ _;
+    }
+
+pub record Cut-for-c : Type 0 where
+  pub cuts-plain-run : One-result cuts-plain-run.Post
+  pub cuts-fast-run : One-result cuts-fast-run.Post
+  pub cuts-plain-quote : One-result cuts-plain-quote.Post
+  pub cuts-fast-quote : One-result cuts-fast-quote.Post
+
+pub cut-for-c-calls : Cut-for-c
+cut-for-c-calls =
+    record {
+      cuts-plain-run = by-definition _ _;
+      cuts-fast-run = by-definition _ _;
+      cuts-plain-quote = by-definition _ _;
+      cuts-fast-quote = by-definition _ _;
     }
 
 pub record Tape : Type 0 where

@@ -9,4 +9,5 @@ pub mod Mixed
 pub mod Reached
 pub mod ReadingKinds
 pub mod Room
+pub mod Strides
 pub mod Unique

@@ -48,11 +48,13 @@ abbrev Byte : List ℕ → ℕ → ℕ → Type 0
 Byte d i w = (w ≡ getD d i 0) × (w < 256)
 
 eight-is : (d : List ℕ) (i : ℕ) → i + 8 ≤ length d → (w0 w1 w2 w3 w4 w5 w6 w7 : ℕ)
-    → Byte d i w0 → Byte d (i + 1) w1 → Byte d (i + 2) w2 → Byte d (i + 3) w3 → Byte d (i + 4) w4 → Byte d (i + 5) w5 → Byte d (i + 6) w6 → Byte d (i + 7) w7
+    → Byte d i w0 → Byte d (i + 1) w1 → Byte d (i + 2) w2 → Byte d (i + 3) w3
+    → Byte d (i + 4) w4 → Byte d (i + 5) w5 → Byte d (i + 6) w6 → Byte d (i + 7) w7
     → stacked w0 8 (w1 ∷ w2 ∷ w3 ∷ w4 ∷ w5 ∷ w6 ∷ w7 ∷ []) ≡ word (take 8 (drop i d))
 unfolding word All-bytes
 eight-is d i h w0 w1 w2 w3 w4 w5 w6 w7 p0 p1 p2 p3 p4 p5 p6 p7 =
-    let s = stacked-is (w1 ∷ w2 ∷ w3 ∷ w4 ∷ w5 ∷ w6 ∷ w7 ∷ []) w0 8 (p1 .1, (p2 .1, (p3 .1, (p4 .1, (p5 .1, (p6 .1, (p7 .1, tt))))))) (p0 .1) (omega arith) in
+    let bytes : All-bytes (w1 ∷ w2 ∷ w3 ∷ w4 ∷ w5 ∷ w6 ∷ w7 ∷ []) = (p1 .1, (p2 .1, (p3 .1, (p4 .1, (p5 .1, (p6 .1, (p7 .1, tt))))))) in
+    let s = stacked-is (w1 ∷ w2 ∷ w3 ∷ w4 ∷ w5 ∷ w6 ∷ w7 ∷ []) w0 8 bytes (p0 .1) (omega arith) in
     let t0 = word-here d 7 i (i + 1) (omega arith) (omega arith) in
     let t1 = word-here d 6 (i + 1) (i + 2) (omega arith) (omega arith) in
     let t2 = word-here d 5 (i + 2) (i + 3) (omega arith) (omega arith) in
@@ -63,106 +65,31 @@ eight-is d i h w0 w1 w2 w3 w4 w5 w6 w7 p0 p1 p2 p3 p4 p5 p6 p7 =
     let t7 = word-here d 0 (i + 7) (i + 8) (omega arith) (omega arith) in
     s ∙ omega arith
 
-shared-slice-read-wide : tie.Need-shared-slice-read-wide
-shared-slice-read-wide c = search needs
-
-wide-requires : tie.Need-wide-requires
-wide-requires c κs = search needs
-
-add-wide : tie.Need-add-wide
-add-wide c = search needs
-
-shared-slice-read-wide-2 : tie.Need-shared-slice-read-wide-2
-shared-slice-read-wide-2 c = search needs
-
-wide-requires-2 : tie.Need-wide-requires-2
-wide-requires-2 c κs = search needs
-
-add-wide-2 : tie.Need-add-wide-2
-add-wide-2 c = search needs
-
-shared-slice-read-wide-3 : tie.Need-shared-slice-read-wide-3
-shared-slice-read-wide-3 c = search needs
-
-wide-requires-3 : tie.Need-wide-requires-3
-wide-requires-3 c κs = search needs
-
-add-wide-3 : tie.Need-add-wide-3
-add-wide-3 c = search needs
-
-shared-slice-read-wide-4 : tie.Need-shared-slice-read-wide-4
-shared-slice-read-wide-4 c = search needs
-
-wide-requires-4 : tie.Need-wide-requires-4
-wide-requires-4 c κs = search needs
-
-add-wide-4 : tie.Need-add-wide-4
-add-wide-4 c = search needs
-
-shared-slice-read-wide-5 : tie.Need-shared-slice-read-wide-5
-shared-slice-read-wide-5 c = search needs
-
-wide-requires-5 : tie.Need-wide-requires-5
-wide-requires-5 c κs = search needs
-
-add-wide-5 : tie.Need-add-wide-5
-add-wide-5 c = search needs
-
-shared-slice-read-wide-6 : tie.Need-shared-slice-read-wide-6
-shared-slice-read-wide-6 c = search needs
-
-wide-requires-6 : tie.Need-wide-requires-6
-wide-requires-6 c κs = search needs
-
-add-wide-6 : tie.Need-add-wide-6
-add-wide-6 c = search needs
-
-shared-slice-read-wide-7 : tie.Need-shared-slice-read-wide-7
-shared-slice-read-wide-7 c = search needs
-
-wide-requires-7 : tie.Need-wide-requires-7
-wide-requires-7 c κs = search needs
-
-add-wide-7 : tie.Need-add-wide-7
-add-wide-7 c = search needs
-
-shared-slice-read-wide-8 : tie.Need-shared-slice-read-wide-8
-shared-slice-read-wide-8 c = search needs
-
-wide-requires-8 : tie.Need-wide-requires-8
-wide-requires-8 c κs = search needs
-
 returns : tie.Need-returns
 unfolding stacked
 returns c =
-    eight-is _ _ (c .before .before .before .before .before .before .before .before .before .before .before .before .before .before .before .before .before .pre) _ _ _ _ _ _ _ _
-    (c .before .before .before .before .before .before .before .before .before .before .before .before .before .before .wide .ensures) (c .before .before .before .before .before .before .before .before .before .before .before .before .wide2 .ensures) (c .before .before .before .before .before .before .before .before .before .before .wide3 .ensures) (c .before .before .before .before .before .before .before .before .wide4 .ensures) (c .before .before .before .before .before .before .wide5 .ensures) (c .before .before .before .before .wide6 .ensures) (c .before .before .wide7 .ensures) (c .wide8 .ensures)
+    let at-7 = c .before .before in
+    let at-6 = at-7 .before .before in
+    let at-5 = at-6 .before .before in
+    let at-4 = at-5 .before .before in
+    let at-3 = at-4 .before .before in
+    let at-2 = at-3 .before .before in
+    let at-1 = at-2 .before .before in
+    eight-is _ _ (at-1 .before .before .before .pre) _ _ _ _ _ _ _ _
+    (at-1 .wide .ensures) (at-2 .wide2 .ensures) (at-3 .wide3 .ensures) (at-4 .wide4 .ensures)
+    (at-5 .wide5 .ensures) (at-6 .wide6 .ensures) (at-7 .wide7 .ensures) (c .wide8 .ensures)
 
+-- each byte is read within the part, at a place that fits
 pub eight-spec : {M : Type 1} → statement M
 eight-spec =
     tie.close
     (tie.spec
-    shared-slice-read-wide
-    wide-requires
-    add-wide
-    shared-slice-read-wide-2
-    wide-requires-2
-    add-wide-2
-    shared-slice-read-wide-3
-    wide-requires-3
-    add-wide-3
-    shared-slice-read-wide-4
-    wide-requires-4
-    add-wide-4
-    shared-slice-read-wide-5
-    wide-requires-5
-    add-wide-5
-    shared-slice-read-wide-6
-    wide-requires-6
-    add-wide-6
-    shared-slice-read-wide-7
-    wide-requires-7
-    add-wide-7
-    shared-slice-read-wide-8
-    wide-requires-8
+    (λ c. search needs) (λ c κs. search needs)
+    (λ c. search needs) (λ c. search needs) (λ c κs. search needs)
+    (λ c. search needs) (λ c. search needs) (λ c κs. search needs)
+    (λ c. search needs) (λ c. search needs) (λ c κs. search needs)
+    (λ c. search needs) (λ c. search needs) (λ c κs. search needs)
+    (λ c. search needs) (λ c. search needs) (λ c κs. search needs)
+    (λ c. search needs) (λ c. search needs) (λ c κs. search needs)
+    (λ c. search needs) (λ c. search needs) (λ c κs. search needs)
     returns)

@@ -3,8 +3,7 @@
 -- Assumes nothing.
 use mathlib.Core.Path.{refl}
 use Rattle.data.proofs.Below.{all-below}
-use Rattle.cut.specs.Lanes.{it, all, both, differ, on, over, value, spread}
-use Rattle.cut.proofs.Lanes.{stays}
+use Rattle.cut.specs.Lanes.{it, all, both, differ, on, over, value, spread, stays}
 use Rattle.cut.proofs.Marks.{at-most, word-at-most}
 use Rattle.cut.proofs.strides.may_close.Statement.{statement}
 use Rattle.cut.proofs.strides.may_close.Tie as tie

@@ -9,9 +9,9 @@ use native.Mathlib.Omega.{arith}
 use denote.Ref.{now}
 use lib.ListN.{length, drop}
 use Rattle.cut.specs.Lanes.{over}
-use Rattle.cut.specs.Marks.{may-close, turns-quote, word-size, stride, all-unmarked, first-mark}
+use Rattle.cut.specs.Marks.{may-close, turns-quote, word-size, stride, all-unmarked, first-mark, Calm}
 use Rattle.cut.specs.Quotes.{quoted-run, quoted-from}
-use Rattle.cut.proofs.Marks.{Calm, calm, first-of-none, closes-marked}
+use Rattle.cut.proofs.Marks.{first-of-none, finds-closes}
 use Rattle.cut.proofs.Scans.{quote-passes, quote-closes, quote-escapes, quote-goes-on}
 use borrow.Author.Needs.{needs}
 use Rattle.cut.proofs.strides.parse_quote_scalar.Statement.{statement}
@@ -38,9 +38,8 @@ module _ (c : tie.After-may-close2 Inv-loop μ-loop) where
   within = omega (arith, in-loop .before .loop .inv .0, in-loop .loop-test .taken)
 
   unwanted : (n : ℕ) → n ≡ first-mark (c .before .before .may-close .result) (c .may-close2 .result) → Calm turns-quote part here n
-  unwanted =
-      calm turns-quote may-close closes-marked part (λ k. in-loop .before .before .before .shared-slice-known .given k .fits) here _ _
-      (omega (arith, within))
+  unwanted n =
+      finds-closes part (λ k. in-loop .before .before .before .shared-slice-known .given k .fits) here _ _ n (omega (arith, within))
       (c .before .before .may-close .ensures ∙ ap (over may-close word-size) (c .before .before .before .eight .ensures))
       (c .may-close2 .ensures ∙ ap (over may-close word-size) (c .before .eight2 .ensures))
 
@@ -118,19 +117,19 @@ loop-less-2 c = omega (arith, inside (c .before .before .before))
 
 loop-again-2 : tie.Need-loop-again-2 Inv-loop μ-loop
 loop-again-2 c =
-    let at-mark = c .before .before .before in
-    let at-loop = in-loop (at-mark .before .before .before) .before in
-    (at-loop .loop .inv .0, at-loop .loop .inv .1 ∙ quote-escapes _ _ _ _ (to-mark at-mark) (inside at-mark) (c .if3 .taken))
+    let at-backslash = c .before .before .before in
+    let at-loop = in-loop (at-backslash .before .before .before) .before in
+    (at-loop .loop .inv .0, at-loop .loop .inv .1 ∙ quote-escapes _ _ _ _ (to-mark at-backslash) (inside at-backslash) (c .if3 .taken))
 
 loop-less-3 : tie.Need-loop-less-3 Inv-loop μ-loop
 loop-less-3 c = omega (arith, inside (c .before .before .before))
 
 loop-again-3 : tie.Need-loop-again-3 Inv-loop μ-loop
 loop-again-3 c =
-    let at-mark = c .before .before .before in
-    let at-loop = in-loop (at-mark .before .before .before) .before in (
+    let at-other = c .before .before .before in
+    let at-loop = in-loop (at-other .before .before .before) .before in (
       at-loop .loop .inv .0,
-      at-loop .loop .inv .1 ∙ quote-goes-on _ _ _ _ (to-mark at-mark) (inside at-mark) (c .before .if2 .left) (c .if3 .left),
+      at-loop .loop .inv .1 ∙ quote-goes-on _ _ _ _ (to-mark at-other) (inside at-other) (c .before .if2 .left) (c .if3 .left),
     )
 
 quote-tail-requires : tie.Need-quote-tail-requires Inv-loop μ-loop

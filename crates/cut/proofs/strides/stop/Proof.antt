@@ -9,8 +9,8 @@ use denote.Ref.{now}
 use lib.ListN.{length}
 use Rattle.data.specs.Classes.{is-boundary}
 use Rattle.cut.specs.Lanes.{over}
-use Rattle.cut.specs.Marks.{may-end, word-size}
-use Rattle.cut.proofs.Marks.{Calm, calm, ends-marked}
+use Rattle.cut.specs.Marks.{may-end, word-size, Calm}
+use Rattle.cut.proofs.Marks.{finds-ends}
 use Rattle.cut.proofs.Scans.{run-stops}
 use borrow.Author.Needs.{needs}
 use Rattle.cut.proofs.strides.stop.Statement.{statement}
@@ -25,11 +25,10 @@ module _ (c : tie.After-first-mark) where
   to-mark =
       let second = c .before in
       let first = second .before .before in
-      calm is-boundary may-end ends-marked _ (λ k. at-test .before .shared-slice-known .given k .fits) 0 _ _
-      (omega (arith, at-test .if1 .taken))
+      finds-ends _ (λ k. at-test .before .shared-slice-known .given k .fits) 0 _ _ _ (omega (arith, at-test .if1 .taken))
       (first .may-end .ensures ∙ ap (over may-end word-size) (first .before .eight .ensures))
       (second .may-end2 .ensures ∙ ap (over may-end word-size) (second .before .eight2 .ensures))
-      _ (c .first-mark .ensures)
+      (c .first-mark .ensures)
 
   inside : c .first-mark .result < length (now (at-test .before .before .args .d))
   inside = omega (arith, to-mark .few, at-test .if1 .taken)

@@ -10,9 +10,9 @@ use denote.Ref.{now}
 use lib.ListN.{length, drop}
 use Rattle.data.specs.Classes.{is-boundary}
 use Rattle.cut.specs.Lanes.{over}
-use Rattle.cut.specs.Marks.{may-end, word-size, stride, all-unmarked, first-mark}
+use Rattle.cut.specs.Marks.{may-end, word-size, stride, all-unmarked, first-mark, Calm}
 use Rattle.cut.specs.Runs.{stop-from}
-use Rattle.cut.proofs.Marks.{Calm, calm, first-of-none, ends-marked}
+use Rattle.cut.proofs.Marks.{first-of-none, finds-ends}
 use Rattle.cut.proofs.Scans.{run-passes, run-stops, run-goes-on}
 use borrow.Author.Needs.{needs}
 use Rattle.cut.proofs.strides.stop_far.Statement.{statement}
@@ -40,9 +40,8 @@ module _ (c : tie.After-may-end2 Inv-loop μ-loop) where
   within = omega (arith, in-loop .before .loop .inv .0, in-loop .loop-test .taken)
 
   unwanted : (n : ℕ) → n ≡ first-mark (c .before .before .may-end .result) (c .may-end2 .result) → Calm is-boundary part here n
-  unwanted =
-      calm is-boundary may-end ends-marked part (λ k. in-loop .before .before .before .shared-slice-known .given k .fits) here _ _
-      (omega (arith, within))
+  unwanted n =
+      finds-ends part (λ k. in-loop .before .before .before .shared-slice-known .given k .fits) here _ _ n (omega (arith, within))
       (c .before .before .may-end .ensures ∙ ap (over may-end word-size) (c .before .before .before .eight .ensures))
       (c .may-end2 .ensures ∙ ap (over may-end word-size) (c .before .eight2 .ensures))
 
