@@ -1,5 +1,6 @@
 -- An unquoted run goes to the next boundary byte or the end and has at least one byte, boundary or not.
--- Each definition stands twice: by a table of classes that is lent, as the code meets it, and by the thirteen bytes, as a reader does.
+-- Each definition stands twice: by a table of classes that is lent, as the plain cut meets it, and by the thirteen bytes, as the cut by strides
+-- and a reader do.
 use Prim.Native.Nat.{ℕ, _+_}
 use mathlib.Core.Bool.{Bool, true, false, not}
 use mathlib.Core.List.{List, [], _∷_}

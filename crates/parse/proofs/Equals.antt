@@ -25,7 +25,8 @@ use Rattle.machine.specs.declared.Turn.{Turn}
 use Rattle.machine.specs.declared.Turn.the-variants.{Next}
 use Rattle.machine.specs.Machine.{byte-at, to}
 use Rattle.parse.specs.After.{After, after, next}
-use Rattle.parse.specs.KeyValueSeparator.{separator-turn, separator-then, is-separator, at-equals, past-equals}
+use Rattle.parse.specs.Equals.{is-separator, at-equals, past-equals}
+use Rattle.parse.specs.KeyValueSeparator.{separator-turn, separator-then}
 use Rattle.parse.specs.Parse.{state-turn, turn, run}
 use Rattle.parse.proofs.Falls.{left, turn-falls}
 use Rattle.parse.proofs.Runs.{run-turn, run-enough}

@@ -11,7 +11,7 @@ use Rattle.parse.specs.Parse.{text-limit}
 abbrev pub Here : List ℕ → Machine → Type 0
 Here text m = (length text ≤ text-limit) × (m .at < length text)
 
--- a text within the limit, and the table by which it is cut
+-- a text within the limit, and the table by which the runs of a parameter are cut
 abbrev pub Lent : List ℕ → List ℕ → Type 0
 Lent text table = (length text ≤ text-limit) × (table ≡ classes)
 

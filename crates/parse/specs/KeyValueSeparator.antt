@@ -1,17 +1,16 @@
 -- KeyValueSeparator. `<=` `<` `>=` `>` `!=` `?=` `==` add an operator; `=` adds none; then ObjectValue. `{`: ObjectValue, not consumed.
 -- Else MixedContainer goes in before the key, mixed on, ArrayValue, not consumed.
 use Prim.Native.Nat.{ℕ, _+_}
-use mathlib.Core.Bool.{Bool, true, false, not, _&&_}
+use mathlib.Core.Bool.{true, false}
 use mathlib.Core.List.{List}
 use lib.Dec.{eqb}
-use Rattle.data.specs.Bytes.{brace-open, equals}
+use Rattle.data.specs.Bytes.{brace-open}
 use Rattle.operator.specs.declared.Operator.{Operator}
 use Rattle.operator.specs.declared.Sighted.the-variants.{Sign, Nothing}
 use Rattle.operator.specs.Operators.{number-of, is-equal, sighted}
 use Rattle.tape.specs.Token.{operator-of}
 use Rattle.tape.specs.Tape.{Tape, lay-mixed}
-use Rattle.machine.specs.declared.State.{State}
-use Rattle.machine.specs.declared.State.the-variants.{Key, KeyValueSeparator, ObjectValue, ParseOpen, ArrayValue}
+use Rattle.machine.specs.declared.State.the-variants.{ObjectValue}
 use Rattle.machine.specs.declared.Machine.{Machine}
 use Rattle.machine.specs.Machine.{byte-at, to, mixed-on}
 use Rattle.parse.specs.After.{After, next, or-full, lay-then}
@@ -38,21 +37,3 @@ separator-turn text t m =
         | false ↦ mix-then t m (λ t′ m′. next m′ t′)
       ]
     ]
-
--- ---- the usual `=`, for speed alone: its turn is the same by `separator-turn`
-
--- whether a state is KeyValueSeparator
-abbrev pub is-separator : State → Bool
-is-separator Key = false
-is-separator KeyValueSeparator = true
-is-separator ObjectValue = false
-is-separator ParseOpen = false
-is-separator ArrayValue = false
-
--- whether `=`, and no second one behind it, stands at the place of a machine in KeyValueSeparator
-unfoldable pub at-equals : List ℕ → Machine → Bool
-at-equals text m = is-separator (m .state) && (eqb (byte-at text (m .at)) equals && not (eqb (byte-at text (m .at + 1)) equals))
-
--- the machine past it, or as it is
-unfoldable pub past-equals : List ℕ → Machine → Machine
-past-equals text m = elim (at-equals text m) [ true ↦ to m (m .at + 1) ObjectValue (m .count) | false ↦ m ]

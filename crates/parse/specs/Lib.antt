@@ -4,6 +4,7 @@ pub mod Containers
 pub mod Parameter
 pub mod Key
 pub mod KeyValueSeparator
+pub mod Equals
 pub mod ObjectValue
 pub mod ParseOpen
 pub mod Step

@@ -15,7 +15,8 @@ ghost use mathlib.Core.Path.{_≡_};
 ghost use Prim.Native.Nat.{_≤_, _<_};
 ghost use Rattle.tape.specs.Tape.{view};
 ghost use Rattle.parse.specs.After.{after, next};
-ghost use Rattle.parse.specs.KeyValueSeparator.{mix-then, separator-then, separator-turn, is-separator, past-equals};
+ghost use Rattle.parse.specs.KeyValueSeparator.{mix-then, separator-then, separator-turn};
+ghost use Rattle.parse.specs.Equals.{is-separator, past-equals};
 ghost use Rattle.parse.specs.Parse.{text-limit};
 ghost use Rattle.parse.specs.Here.{Here};
 
