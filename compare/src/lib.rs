@@ -1,5 +1,6 @@
 //! The real Rust beside our programs, to the byte: see README.md.
 
+pub mod cuts;
 pub mod date;
 pub mod date_edges;
 pub mod date_faults;

@@ -1,13 +1,22 @@
 // Worked cuts: each line of the input has a letter that names a cut, a place and a text, both in hexadecimal, and is written out again with
 // the answer. b skips blanks, r ends a run and c cuts a scalar, each at the place; s, q and v measure the run, the quoted run and the
-// variable at the head of the text.
+// variable at the head of the text, S and Q the runs once more, by strides. U and D make texts of every length up to 40 and write the run,
+// or the quoted run, at the head of each by strides, and `differs` behind it where the plain cut has another: their line's text is the
+// byte that the texts are full of, the one that they end with, and those that are laid at every place in turn.
 use cut::Cut;
 use cut::Quoted;
 use cut::Skipped;
 use libc::STDIN_FILENO;
 use libc::STDOUT_FILENO;
+ghost use mathlib.Core.Path.{_≡_};
 ghost use Prim.Native.Nat.{_≤_};
 ghost use lib.ListN.{length};
+
+// How many bytes a text has room for.
+const ROOM: usize = 64;
+
+// The length of the longest texts that are made.
+const LONGEST: usize = 40;
 
 // A number that was read, and the place after it.
 struct Spelt {
@@ -98,8 +107,8 @@ fn say_escaped(escaped: bool) {
 }
 
 // Where a quoted run closes.
-fn say_quoted(text: &[u8]) {
-    match cut::parse_quote_scalar(text) {
+fn say_quoted(run: Quoted) {
+    match run {
         Quoted::Closed { length, escaped } => {
             say(b" closed");
             say_number(length);
@@ -110,8 +119,8 @@ fn say_quoted(text: &[u8]) {
 }
 
 // The scalar at a place.
-fn say_scalar(text: &[u8], place: usize, classes: &[u8; data::BYTE_COUNT]) {
-    match cut::scalar_at(text, place, classes) {
+fn say_scalar(text: &[u8], place: usize) {
+    match cut::scalar_at(text, place) {
         Cut::Unquoted { start, end, rest } => {
             say(b" unquoted");
             say_view(start, end, rest);
@@ -130,15 +139,132 @@ fn say_scalar(text: &[u8], place: usize, classes: &[u8; data::BYTE_COUNT]) {
     }
 }
 
+// What stands behind an answer by strides.
+fn say_alike(alike: bool) {
+    if !alike {
+        say(b" differs");
+    }
+}
+
+// The run at the head of a text by strides, held against the plain cut.
+fn say_both_runs(text: &[u8], classes: &[u8; data::BYTE_COUNT]) {
+    let length = cut::strides::split_at_scalar(text);
+    say_number(length);
+    say_alike(length == cut::split_at_scalar(text, classes));
+}
+
+// Whether a quoted run closes behind so many bytes, with an escape or without.
+fn closes(run: Quoted, wanted: usize, with_escape: bool) -> bool {
+    match run {
+        Quoted::Closed { length, escaped } => (length == wanted) & (escaped == with_escape),
+        Quoted::Unclosed => false,
+    }
+}
+
+// Whether nothing closes a quoted run.
+fn is_open(run: Quoted) -> bool {
+    match run {
+        Quoted::Closed { length, escaped } => false,
+        Quoted::Unclosed => true,
+    }
+}
+
+// The quoted run at the head of a text by strides, held against the plain cut: its length, with an e where it has an escape, or a dash.
+fn say_both_quoted(text: &[u8]) {
+    let plain = cut::parse_quote_scalar(text);
+    match cut::strides::parse_quote_scalar(text) {
+        Quoted::Closed { length, escaped } => {
+            say_number(length);
+            if escaped {
+                say(b"e");
+            }
+            say_alike(closes(plain, length, escaped));
+        }
+        Quoted::Unclosed => {
+            say(b" -");
+            say_alike(is_open(plain));
+        }
+    }
+}
+
+// Puts bytes into the room from a place on, as far as it goes.
+fn lay(room: &mut [u8], at: usize, part: &[u8])
+    ensures { λ _. ⌜ length (now (room .exit)) ≡ length (now (room .entry)) ⌝ }
+{
+    let mut i = 0;
+    let mut place = at;
+    while i < part.len() {
+        if room.len() <= place {
+            return;
+        }
+        room[place] = part[i];
+        place += 1;
+        i += 1;
+    }
+}
+
+// The place of the last of so many bytes. Of none it is past the room, so that nothing is laid there.
+fn last_place(n: usize) -> usize {
+    if n == 0 { ROOM } else { n - 1 }
+}
+
+// The answers that a letter asks for.
+fn say_both(name: u8, text: &[u8], classes: &[u8; data::BYTE_COUNT]) {
+    if name == b'U' {
+        say_both_runs(text, classes);
+    } else {
+        say_both_quoted(text);
+    }
+}
+
+// The text of so many bytes with the shape's own laid at a place. Past the end they are laid too, where no cut may see them.
+fn one_place(name: u8, shape: &[u8], n: usize, at: usize, classes: &[u8; data::BYTE_COUNT])
+    requires { ⌜ n ≤ 40 ⌝ }
+{
+    if shape.len() < 2 {
+        return;
+    }
+    let mut room = [shape[0]; ROOM];
+    lay(&mut room, last_place(n), &shape[1..2]);
+    lay(&mut room, at, &shape[2..]);
+    say_both(name, &room[..n], classes);
+}
+
+// The texts of so many bytes: a place for each byte, and the end for the text without.
+fn places(name: u8, shape: &[u8], n: usize, classes: &[u8; data::BYTE_COUNT])
+    requires { ⌜ n ≤ 40 ⌝ }
+{
+    let mut at = 0;
+    while at <= n {
+        one_place(name, shape, n, at, classes);
+        at += 1;
+    }
+}
+
+// The texts of every length, with a line for each.
+fn sweep(name: u8, shape: &[u8], classes: &[u8; data::BYTE_COUNT]) {
+    let mut n = 0;
+    while n <= LONGEST {
+        say(b"\nof");
+        say_number(n);
+        say(b":");
+        places(name, shape, n, classes);
+        n += 1;
+    }
+}
+
 // The answer of the cut that a letter names.
 fn answer(name: u8, place: usize, text: &[u8], classes: &[u8; data::BYTE_COUNT]) {
     match name {
         b'b' => say_blanks(text, place),
-        b'r' => say_number(cut::run_end(text, place, classes)),
-        b'c' => say_scalar(text, place, classes),
+        b'r' => say_number(cut::run_end(text, place)),
+        b'c' => say_scalar(text, place),
         b's' => say_number(cut::split_at_scalar(text, classes)),
-        b'q' => say_quoted(text),
+        b'S' => say_number(cut::strides::split_at_scalar(text)),
+        b'q' => say_quoted(cut::parse_quote_scalar(text)),
+        b'Q' => say_quoted(cut::strides::parse_quote_scalar(text)),
         b'v' => say_number(cut::parse_variable(text)),
+        b'U' | b'D' => sweep(name, text, classes),
         _ => say(b" no such cut"),
     }
 }
@@ -149,7 +275,7 @@ fn line_answer(line: &[u8], classes: &[u8; data::BYTE_COUNT]) {
         return;
     }
     let place = number(line, 2);
-    let mut room = [0u8; 64];
+    let mut room = [0u8; ROOM];
     let next = place.next;
     if next < line.len() {
         let n = bytes(&line[next + 1..], &mut room);

@@ -10,7 +10,7 @@ use borrow.Author.Tests.{ltb-true, ltb-false, eqb-true, eqb-false, ne-eqb}
 use lib.Dec.{eqb, ltb}
 use lib.IntN.{pos}
 use lib.ListN.{length, drop, length-drop}
-use Rattle.data.proofs.Cases.{by-bool}
+use Rattle.data.proofs.Cases.{by-bool, both}
 use Rattle.data.specs.Bytes.{plus, minus, point, digit-zero}
 use Rattle.data.specs.Reasons.{first-of}
 use Rattle.scalar.specs.Digits.{is-digit, digits-alone, digit-first, digit-run, value, digits-in, most-u64}
@@ -28,7 +28,7 @@ use Rattle.date.specs.declared.calendar.DateRead.{DateRead}
 use Rattle.date.specs.declared.calendar.DaysRead.the-variants as Days
 use Rattle.date.proofs.Days.{days-in-range, days-out, date-in-range, date-past, day-within, date-back, date-within, day-back}
 use Rattle.date.proofs.Months.{table-length, table-days, before-later, before-year}
-use Rattle.date.proofs.Ranges.{both, ranged-is, is-ranged, ranged-in}
+use Rattle.date.proofs.Ranges.{ranged-is, is-ranged, ranged-in}
 use Rattle.date.proofs.Readings.{reads-day, reads-hour, by-date, is-read}
 use Rattle.date.proofs.Shapes.{parts-some, parts-point, parts-other, digit-no-point, part-digits, many-parts}
 use Rattle.report.specs.Digits.{decimal}
