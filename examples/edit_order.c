@@ -215,7 +215,7 @@ static bool edited(struct sheet *to, const struct sheet *from, const struct edit
 static bool parse(struct sheet *save) {
     uint32_t bom;
     size_t place;
-    save->word_count = TACKACORN_WORDS_FOR(save->length); /* enough for any text; a word a byte is for most */
+    save->word_count = TACKACORN_WORDS_FOR(save->length); /* enough for any text; a word a byte is for most, half for many */
     save->words = malloc(save->word_count * sizeof *save->words);
     if (save->words == NULL) {
         refuse("no memory for the tape");

@@ -38,7 +38,7 @@ int main(void) {
     size_t length, place;
     uint32_t count, bom;
     uint8_t *text = read_all(&length);
-    const size_t words = TACKACORN_WORDS_FOR(length); /* enough for any text; a word a byte is for most */
+    const size_t words = TACKACORN_WORDS_FOR(length); /* enough for any text; a word a byte is for most, half for many */
     uint32_t *tape = malloc(words * sizeof *tape);
     if (text == NULL || tape == NULL) {
         fputs("no memory, or standard input cannot be read\n", stderr);

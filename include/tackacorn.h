@@ -73,8 +73,8 @@ extern "C" {
 /* The version of this header, as words and as a number that rises: 10000 * first + 100 * second + third.
  * The first part rises where a program that was built with an older header would read a tape wrongly, and
  * with it the name of the shared library; the second where something is added; the third else. */
-#define TACKACORN_VERSION "2.4.0"
-#define TACKACORN_VERSION_NUMBER 20400
+#define TACKACORN_VERSION "2.4.1"
+#define TACKACORN_VERSION_NUMBER 20401
 
 /* The most bytes that a text may have. */
 #define TACKACORN_TEXT_LIMIT 16777215
@@ -202,7 +202,8 @@ const char *tackacorn_refusal_text(uint32_t number);
  *
  * Offsets count from the first byte of the text, the BOM included. The tape has room for tape_length / 3
  * tokens. TACKACORN_WORDS_FOR(text_length) words are enough for any text (24 bytes for each byte of text);
- * a word for each byte is enough for most saves (5 bytes with the text), and FULL says when it was not. */
+ * half a word for each byte is enough for many saves (3 bytes with the text) and a word for most (5), and
+ * FULL says when it was not. */
 uint32_t tackacorn_parse(const uint8_t *text, size_t text_length, uint32_t *tape, size_t tape_length,
                          uint32_t *count, uint32_t *bom, size_t *place);
 

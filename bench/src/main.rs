@@ -1,11 +1,13 @@
-//! bench [BYTES] [SEED]: our calls and the Rust's on one save, in MB/s, the way back beside our parse, and sheet
-//! files beside a plain copy of their bytes.
+//! bench [BYTES] [SEED]: our calls and the Rust's on one save, in MB/s, the parse onto tapes of three sizes; the way
+//! back beside our parse, and sheet files beside a plain copy of their bytes.
+//! bench cuts: each cut alone, the plain one beside the fast one, in nanoseconds a cut.
 //!
 //! Each pair is run in turns, and the best round of each counts. Both sides write into memory that they
 //! have written before, so that no round pays for fresh pages: the Rust empties its `Vec` of tokens and
 //! keeps what it holds, ours is lent the same words again with the old tokens in them, and clears, as a
 //! part of its work, all words that the new tokens leave.
 
+mod cuts;
 mod ours;
 mod save;
 mod theirs;
@@ -15,12 +17,20 @@ use jomini::TextTape;
 use std::hint::black_box;
 use std::time::{Duration, Instant};
 
-/// The best of several rounds of some pieces of work, in turns.
-fn in_turns<const N: usize>(mut works: [&mut dyn FnMut(); N]) -> [Duration; N] {
+/// The best of several rounds of some pieces of work, in turns, for a second and a half at the least.
+fn in_turns<const N: usize>(works: [&mut dyn FnMut(); N]) -> [Duration; N] {
+    in_turns_for(Duration::from_millis(1500), works)
+}
+
+/// The same for a time at the least.
+fn in_turns_for<const N: usize>(
+    least: Duration,
+    mut works: [&mut dyn FnMut(); N],
+) -> [Duration; N] {
     let mut best = [Duration::MAX; N];
     let began = Instant::now();
     let mut rounds = 0;
-    while rounds < 7 || began.elapsed() < Duration::from_millis(1500) {
+    while rounds < 7 || began.elapsed() < least {
         for (work, best) in works.iter_mut().zip(&mut best) {
             let start = Instant::now();
             work();
@@ -166,54 +176,43 @@ fn kinds(scalars: &[&[u8]], bytes: usize) {
     show("  kind (the Rust: its readings)", bytes, times);
 }
 
-fn main() {
-    let mut args = std::env::args().skip(1).map(|a| a.parse().expect("a number"));
-    let size: u64 = args.next().unwrap_or(1_000_000);
-    let seed: u64 = args.next().unwrap_or(1);
-    let text = &save::save(size as usize, seed, true)[..];
-    let parsed = compare::oracle::parse(text);
-    assert_eq!(parsed.refusal, None, "the Rust refuses the save");
-    let tokens = parsed.words;
+/// Our parse beside the Rust's, with half a word of tape for each byte, with a whole one, and with room for any text.
+fn parses(text: &[u8], tokens: &[u32]) {
     let count = tokens.len() / WORDS;
-    println!("save: {} bytes, seed {seed}, {count} tokens", text.len());
-    println!(
-        "each parse: the Rust's Vec is emptied and keeps its memory; our tape holds old tokens, and"
-    );
-    println!(
-        "the words behind the new ones are cleared within the time; no other buffer is cleared"
-    );
-    println!("{:<34} {:>9} {:>9} {:>7}", "MB/s", "ours", "the Rust", "ratio");
-
     let mut tape = TextTape::new();
-    let mut small = vec![1u32; text.len()];
-    assert_eq!(ours::parse(text, &mut small), Ok(count));
-    assert!(small[..tokens.len()] == tokens, "the tapes differ");
-    assert!(small[tokens.len()..].iter().all(|&word| word == 0), "a word is left");
-    let mut parse = |what, words: &mut [u32]| {
+    for (what, room) in [
+        ("parse, half a word for each byte", text.len() / 2),
+        ("parse, a word for each byte", text.len()),
+        ("parse, room for 2n + 1 tokens", room_for(text.len())),
+    ] {
+        let words = &mut vec![1u32; room][..];
+        assert_eq!(ours::parse(text, words), Ok(count));
+        assert!(words[..tokens.len()] == *tokens, "the tapes differ");
+        assert!(words[tokens.len()..].iter().all(|&word| word == 0), "a word is left");
         let times = race(
             || assert_eq!(ours::parse(black_box(text), words), Ok(count)),
             || assert_eq!(theirs::parse(black_box(text), &mut tape), Some(count)),
         );
         show(what, text.len(), times);
-    };
-    parse("parse, a word for each byte", &mut small);
-    let mut large = vec![1u32; room_for(text.len())];
-    parse("parse, room for 2n + 1 tokens", &mut large);
-    drop(large);
+    }
+}
 
-    let words = &small.clone()[..];
+/// The check of a tape with a word for each byte, beside the parse onto it.
+fn check(text: &[u8]) {
+    let mut tape = vec![1u32; text.len()];
+    let count = ours::parse(text, &mut tape).expect("the save parses");
+    let words = &tape.clone()[..];
     let times = race(
         || assert!(ours::check(text.len(), black_box(words), count)),
-        || assert_eq!(ours::parse(black_box(text), &mut small), Ok(count)),
+        || assert_eq!(ours::parse(black_box(text), &mut tape), Ok(count)),
     );
     show("check (beside it: our parse)", text.len(), times);
     let check = times.0.as_secs_f64();
     println!("  a check takes {:.3} ms, {:.2} ns a token", 1e3 * check, 1e9 * check / count as f64);
-    drop(small);
-    way_back(text.len(), seed);
-    on_file(text.len(), &tokens);
+}
 
-    let scalars = &scalars(text, &tokens)[..];
+/// The readings of every scalar, and its kind.
+fn readings(scalars: &[&[u8]]) {
     let bytes = scalars.iter().map(|scalar| scalar.len()).sum();
     println!("readings of {} scalars, {bytes} bytes", scalars.len());
     let all = [
@@ -226,4 +225,35 @@ fn main() {
     show("  all four", 4 * bytes, sum);
     reading!(scalars, bytes, to_i64_part);
     kinds(scalars, bytes);
+}
+
+/// All that is measured on a save of a size by a seed.
+fn on_a_save(size: usize, seed: u64) {
+    let text = &save::save(size, seed, true)[..];
+    let parsed = compare::oracle::parse(text);
+    assert_eq!(parsed.refusal, None, "the Rust refuses the save");
+    let tokens = &parsed.words[..];
+    println!("save: {} bytes, seed {seed}, {} tokens", text.len(), tokens.len() / WORDS);
+    println!(
+        "each parse: the Rust's Vec is emptied and keeps its memory; our tape holds old tokens, and"
+    );
+    println!(
+        "the words behind the new ones are cleared within the time; no other buffer is cleared"
+    );
+    println!("{:<34} {:>9} {:>9} {:>7}", "MB/s", "ours", "the Rust", "ratio");
+    parses(text, tokens);
+    check(text);
+    way_back(text.len(), seed);
+    on_file(text.len(), tokens);
+    readings(&scalars(text, tokens));
+}
+
+fn main() {
+    let args: Vec<String> = std::env::args().skip(1).collect();
+    if args == ["cuts"] {
+        cuts::show();
+        return;
+    }
+    let number = |place: usize| args.get(place).map(|a| a.parse().expect("a number"));
+    on_a_save(number(0).unwrap_or(1_000_000) as usize, number(1).unwrap_or(1));
 }

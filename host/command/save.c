@@ -39,14 +39,20 @@ static enum status parse_onto(struct save *save, size_t words) {
     return save->refusal == TACKACORN_OK ? STATUS_WELL : STATUS_REFUSED;
 }
 
-/* Parses a text. A word for each byte is room enough for most saves; where it is not, there is room for any. */
+/* Parses a text. Half a word for each byte is room enough for many saves, a word for most, and the last for any. The
+ * token more is for the smallest texts. */
 static enum status parse(struct save *save) {
-    enum status status = parse_onto(save, save->length + TACKACORN_WORDS_PER_TOKEN);
-    if (status == STATUS_REFUSED && save->refusal == TACKACORN_FULL) {
-        if (save->length > (SIZE_MAX / TACKACORN_WORDS_PER_TOKEN - 1) / 2) {
-            return complain(save->name, "no memory for the tape");
+    const size_t rooms[] = {
+        save->length / 2 + TACKACORN_WORDS_PER_TOKEN,
+        save->length + TACKACORN_WORDS_PER_TOKEN,
+        TACKACORN_WORDS_FOR(save->length),
+    };
+    enum status status = STATUS_REFUSED;
+    for (size_t i = 0; i < sizeof rooms / sizeof *rooms; i++) {
+        status = parse_onto(save, rooms[i]);
+        if (status != STATUS_REFUSED || save->refusal != TACKACORN_FULL) {
+            break;
         }
-        status = parse_onto(save, TACKACORN_WORDS_FOR(save->length));
     }
     return status;
 }
