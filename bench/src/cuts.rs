@@ -67,7 +67,7 @@ impl Runs {
     }
 }
 
-/// A line for each length: the three ways to cut, plain and fast.
+/// A line for each length: the four ways to cut, plain and fast.
 fn lines(what: &str, end: u8, plain: impl Fn(&[u8]) -> usize, fast: impl Fn(&[u8]) -> usize) {
     for length in LENGTHS {
         let mut rng = Rng::new(length as u64);
@@ -80,6 +80,7 @@ fn lines(what: &str, end: u8, plain: impl Fn(&[u8]) -> usize, fast: impl Fn(&[u8
             alike.race(|| alike.apart(&plain), || alike.apart(&fast)),
             drawn.race(|| drawn.apart(&plain), || drawn.apart(&fast)),
             alike.race(|| alike.in_a_row(&plain), || alike.in_a_row(&fast)),
+            drawn.race(|| drawn.in_a_row(&plain), || drawn.in_a_row(&fast)),
         ];
         print!("{:<16}", format!("{what}, {length}"));
         for [plain, fast] in ways {
@@ -96,17 +97,17 @@ fn head() {
     );
     println!("  apart: all runs are of the length, and each cut knows its start beforehand");
     println!(
-        "  drawn: the same, but that each run's length is drawn from 1 to twice the length less 1"
+        "  drawn: each run's length is drawn from 1 to twice the length less 1, as a save has it"
     );
     println!(
-        "  in a row: all runs are of the length, and each cut starts by the answer of the one before"
+        "  in a row: each cut starts by the answer of the one before, with runs all alike and drawn"
     );
     print!("{:<16}", "");
-    for way in ["apart", "drawn", "in a row"] {
+    for way in ["apart", "apart, drawn", "in a row", "in a row, drawn"] {
         print!(" {way:>25}");
     }
     print!("\n{:<16}", "run, its bytes");
-    for _ in 0..3 {
+    for _ in 0..4 {
         print!(" {:>9} {:>8} {:>6}", "plain", "fast", "times");
     }
     println!();

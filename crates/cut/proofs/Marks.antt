@@ -16,7 +16,7 @@ use Rattle.data.proofs.Below.{all-below, below}
 use Rattle.data.proofs.Cases as cases
 use Rattle.data.specs.Bytes.{quote, backslash}
 use Rattle.data.specs.Classes.{is-boundary, byte-count}
-use Rattle.cut.specs.Lanes.{Bytes, Lane, word, spread, value, on, over, stays, Stays}
+use Rattle.cut.specs.Lanes.{Bytes, Lane, word, spread, value, on, over, stays}
 use Rattle.cut.specs.Marks.{may-end, may-close, top, turns-quote, word-size, stride, tops, all-unmarked, first-mark}
 use Rattle.cut.specs.Marks.{Marks, Calm, marks-at, Finds}
 use Rattle.cut.proofs.Lanes.{keeps, over-each, over-below}
@@ -114,6 +114,26 @@ module _ (wanted : ℕ → Bool) (e : Lane) (m : Marks wanted e) where
 -- the law, once over the set of wanted bytes: a mask that marks them finds the bytes before the first
 pub finds : (wanted : ℕ → Bool) (e : Lane) → Marks wanted e → Finds wanted e
 finds wanted e m d bytes i x y n within first second q = calm wanted e m d bytes i x y within first second n q
+
+-- a stride as the code looks at it, with a byte more behind it: without a mark it is calm, and else what stands before the first mark is, and the
+-- marked byte stands in the part
+pub record Looked (wanted : ℕ → Bool) (d : List ℕ) (i x y : ℕ) : Type 0 where
+  pub within : i + stride < length d
+  pub whole : all-unmarked x y ≡ true → Calm wanted d i stride
+  pub marked : (n : ℕ) → n ≡ first-mark x y → Calm wanted d i n × (i + n < length d)
+
+pub looked : (wanted : ℕ → Bool) (e : Lane) → Finds wanted e → (d : List ℕ) → Bytes d → (i last : ℕ) → last ≡ length d - stride → i < last
+    → (w v x y : ℕ) → w ≡ word (take word-size (drop i d)) → x ≡ over e word-size w
+    → v ≡ word (take word-size (drop (i + word-size) d)) → y ≡ over e word-size v → Looked wanted d i x y
+looked wanted e find d bytes i last reach here w v x y first marked-first second marked-second =
+    let within : i + stride < length d = omega arith in
+    let calm : (n : ℕ) → n ≡ first-mark x y → Calm wanted d i n =
+    λ n. find d bytes i x y n (omega arith) (marked-first ∙ ap (over e word-size) first) (marked-second ∙ ap (over e word-size) second) in
+    record {
+      within = within;
+      whole = λ u. calm stride (sym (first-of-none x y u));
+      marked = λ n q. (calm n q, omega (arith, calm n q .few));
+    }
 
 -- the two uses, each computed over the 256 bytes: the thirteen, and quote and backslash
 ends-marked : Marks is-boundary may-end

@@ -3,7 +3,6 @@
 // tested before it counts. The last bytes are looked at one by one, so that nothing is read past the part.
 use crate::Quoted;
 ghost use mathlib.Core.Path.{_≡_};
-ghost use mathlib.Core.Bool.{Bool};
 ghost use Prim.Native.Nat.{_+_, _-_, _≤_, _<_};
 ghost use lib.ListN.{length, take, drop};
 ghost use Rattle.data.specs.Classes.{is-boundary};

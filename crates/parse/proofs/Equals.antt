@@ -1,15 +1,15 @@
 -- The usual `=` taken with the turn before it: what its own turn would do, so that a run is the same.
 -- Assumes nothing.
 use mathlib.Core.Path.{_≡_, refl, sym, _∙_, ap}
-use mathlib.Core.Bool.{Bool, true, false, not, false≢true, _&&_}
+use mathlib.Core.Bool.{true, false, not, false≢true, _&&_}
 use mathlib.Core.List.{List}
 use Prim.Native.Nat.{ℕ, suc, _+_, _≤_, _<_}
 use native.Mathlib.Omega.{arith}
 use borrow.Author.Tests.{eqb-true, eq-eqb, ne-eqb, not-true}
 use lib.Dec.{eqb}
-use lib.ListN.{length, getD, List·getD-eq-default}
+use lib.ListN.{length, List·getD-eq-default}
 use Rattle.data.proofs.Cases.{by-bool, both}
-use Rattle.data.specs.Bytes.{equals, hash}
+use Rattle.data.specs.Bytes.{equals}
 use Rattle.cut.specs.Blanks.{is-blank, skip-ws}
 use Rattle.cut.specs.declared.Skipped.the-variants.{At}
 use Rattle.cut.proofs.Blanks.{skip-here}
@@ -24,7 +24,7 @@ use Rattle.machine.specs.declared.Machine.{Machine}
 use Rattle.machine.specs.declared.Turn.{Turn}
 use Rattle.machine.specs.declared.Turn.the-variants.{Next}
 use Rattle.machine.specs.Machine.{byte-at, to}
-use Rattle.parse.specs.After.{After, after, next}
+use Rattle.parse.specs.After.{after, next}
 use Rattle.parse.specs.Equals.{is-separator, at-equals, past-equals}
 use Rattle.parse.specs.KeyValueSeparator.{separator-turn, separator-then}
 use Rattle.parse.specs.Parse.{state-turn, turn, run}

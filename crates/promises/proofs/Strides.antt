@@ -3,11 +3,11 @@
 use mathlib.Core.Path.{_≡_, refl, sym, _∙_, ap, fun-ext}
 use mathlib.Core.Bool.{Bool, true, false}
 use mathlib.Core.List.{List, [], _∷_}
-use Prim.Native.Nat.{ℕ, _+_}
+use Prim.Native.Nat.{ℕ}
 use native.Mathlib.Omega.{arith}
 use Rattle.data.proofs.Cases.{by-bool}
-use Rattle.data.specs.Classes.{is-boundary, classes}
-use Rattle.cut.specs.Marks.{stride, first-mark}
+use Rattle.data.specs.Classes.{is-boundary}
+use Rattle.cut.specs.Marks.{stride}
 use Rattle.cut.specs.Quotes.{quoted-run}
 use Rattle.cut.specs.Runs.{stop-from, run-of, run-end-of, classed, run-by, unquoted-run, run-end-by, run-end}
 use Rattle.cut.specs.Scalars.{cut-of, scalar-cut}

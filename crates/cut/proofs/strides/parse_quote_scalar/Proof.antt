@@ -1,17 +1,14 @@
 -- `cut::strides::parse_quote_scalar` meets its contract: the invariant says what is left, that the run of the whole part is the run from `i`
 -- on, with the flag as it stands; a stride's calm bytes are passed by the law of marks.
 -- Assumes nothing.
-use mathlib.Core.Path.{_≡_, refl, sym, _∙_, ap}
-use mathlib.Core.Bool.{true}
-use mathlib.Core.List.{List}
-use Prim.Native.Nat.{ℕ, _+_, _-_, _<_}
+use mathlib.Core.Path.{_≡_, refl, sym, _∙_}
+use Prim.Native.Nat.{_+_, _-_, _<_}
 use native.Mathlib.Omega.{arith}
 use denote.Ref.{now}
 use lib.ListN.{length, drop}
-use Rattle.cut.specs.Lanes.{over}
-use Rattle.cut.specs.Marks.{may-close, turns-quote, word-size, stride, all-unmarked, first-mark, Calm}
+use Rattle.cut.specs.Marks.{may-close, turns-quote, stride, Calm}
 use Rattle.cut.specs.Quotes.{quoted-run, quoted-from}
-use Rattle.cut.proofs.Marks.{first-of-none, finds-closes}
+use Rattle.cut.proofs.Marks.{Looked, looked, finds-closes}
 use Rattle.cut.proofs.Scans.{quote-passes, quote-closes, quote-escapes, quote-goes-on}
 use borrow.Author.Needs.{needs}
 use Rattle.cut.proofs.strides.parse_quote_scalar.Statement.{statement}
@@ -23,36 +20,23 @@ Inv-loop d i₀ escaped₀ last i escaped = (last ≡ length d - stride) × (quo
 abbrev μ-loop : tie.MeasureT-loop
 μ-loop d i₀ escaped₀ last i escaped = length d - i
 
--- the two words of a stride, their marks, and the bytes that these leave
-module _ (c : tie.After-may-close2 Inv-loop μ-loop) where
-  abbrev in-loop : tie.In-loop Inv-loop μ-loop
-  in-loop = c .before .before .before .before
+-- the stride that was looked at
+stride-at : (c : tie.After-may-close2 Inv-loop μ-loop)
+    → let at-loop = c .before .before .before .before .before in
+    Looked turns-quote (now (at-loop .before .before .before .args .d)) (at-loop .loop .i) (c .before .before .may-close .result) (c .may-close2 .result)
+stride-at c =
+    let in-loop = c .before .before .before .before in
+    let at-loop = in-loop .before in
+    looked turns-quote may-close finds-closes _ (λ k. at-loop .before .before .shared-slice-known .given k .fits) _ _
+    (at-loop .loop .inv .0) (in-loop .loop-test .taken) _ _ _ _
+    (c .before .before .before .eight .ensures) (c .before .before .may-close .ensures) (c .before .eight2 .ensures) (c .may-close2 .ensures)
 
-  abbrev part : List ℕ
-  part = now (in-loop .before .before .before .before .args .d)
-
-  abbrev here : ℕ
-  here = in-loop .before .loop .i
-
-  within : here + stride < length part
-  within = omega (arith, in-loop .before .loop .inv .0, in-loop .loop-test .taken)
-
-  unwanted : (n : ℕ) → n ≡ first-mark (c .before .before .may-close .result) (c .may-close2 .result) → Calm turns-quote part here n
-  unwanted n =
-      finds-closes part (λ k. in-loop .before .before .before .shared-slice-known .given k .fits) here _ _ n (omega (arith, within))
-      (c .before .before .may-close .ensures ∙ ap (over may-close word-size) (c .before .before .before .eight .ensures))
-      (c .may-close2 .ensures ∙ ap (over may-close word-size) (c .before .eight2 .ensures))
-
-  all-unwanted : all-unmarked (c .before .before .may-close .result) (c .may-close2 .result) ≡ true → Calm turns-quote part here stride
-  all-unwanted u = unwanted stride (sym (first-of-none _ _ u))
-
--- the bytes before the first mark, and the marked one itself, which stands in the part
-module _ (c : tie.After-first-mark Inv-loop μ-loop) where
-  to-mark : Calm turns-quote (part (c .before .before .before)) (here (c .before .before .before)) (c .first-mark .result)
-  to-mark = unwanted (c .before .before .before) _ (c .first-mark .ensures)
-
-  inside : here (c .before .before .before) + c .first-mark .result < length (part (c .before .before .before))
-  inside = omega (arith, to-mark .few, within (c .before .before .before))
+-- its first marked byte
+marked : (c : tie.After-first-mark Inv-loop μ-loop)
+    → let at-loop = c .before .before .before .before .before .before .before .before in
+    let d = now (at-loop .before .before .before .args .d) in
+    Calm turns-quote d (at-loop .loop .i) (c .first-mark .result) × (at-loop .loop .i + c .first-mark .result < length d)
+marked c = stride-at (c .before .before .before) .marked _ (c .first-mark .ensures)
 
 strides-requires : tie.Need-strides-requires Inv-loop μ-loop
 strides-requires c κs = search needs
@@ -80,56 +64,59 @@ all-unmarked-requires : tie.Need-all-unmarked-requires Inv-loop μ-loop
 all-unmarked-requires c κs = search needs
 
 add-i : tie.Need-add-i Inv-loop μ-loop
-add-i c = omega (arith, within (c .before .before))
+add-i c = omega (arith, stride-at (c .before .before) .within)
 
 loop-less : tie.Need-loop-less Inv-loop μ-loop
-loop-less c = omega (arith, within (c .before .before))
+loop-less c = omega (arith, stride-at (c .before .before) .within)
 
 loop-again : tie.Need-loop-again Inv-loop μ-loop
 loop-again c =
-    let looked = c .before .before in
-    let at-loop = in-loop looked .before in
-    let calm = all-unwanted looked (sym (c .before .all-unmarked .ensures) ∙ c .if1 .taken) in
-    (at-loop .loop .inv .0, at-loop .loop .inv .1 ∙ quote-passes _ _ _ _ calm (omega (arith, within looked)))
+    let seen = stride-at (c .before .before) in
+    let at-loop = c .before .before .before .before .before .before .before in (
+      at-loop .loop .inv .0,
+      at-loop .loop .inv .1
+          ∙ quote-passes _ _ _ _ (seen .whole (sym (c .before .all-unmarked .ensures) ∙ c .if1 .taken)) (omega (arith, seen .within)),
+    )
 
 first-mark-requires : tie.Need-first-mark-requires Inv-loop μ-loop
 first-mark-requires c κs = search needs
 
 add-i-2 : tie.Need-add-i-2 Inv-loop μ-loop
-add-i-2 c = omega (arith, inside c)
+add-i-2 c = omega (arith, marked c .1)
 
 shared-slice-read-b : tie.Need-shared-slice-read-b Inv-loop μ-loop
-shared-slice-read-b c = inside (c .before)
+shared-slice-read-b c = marked (c .before) .1
 
 returns : tie.Need-returns Inv-loop μ-loop
 returns c =
     let at-mark = c .before .before in
-    sym (in-loop (at-mark .before .before .before) .before .loop .inv .1 ∙ quote-closes _ _ _ _ (to-mark at-mark) (inside at-mark) (c .if2 .taken))
+    let at-loop = at-mark .before .before .before .before .before .before .before .before in
+    sym (at-loop .loop .inv .1 ∙ quote-closes _ _ _ _ (marked at-mark .0) (marked at-mark .1) (c .if2 .taken))
 
 add-i-3 : tie.Need-add-i-3 Inv-loop μ-loop
-add-i-3 c = omega (arith, inside (c .before .before))
+add-i-3 c = omega (arith, marked (c .before .before) .1)
 
 add-i-4 : tie.Need-add-i-4 Inv-loop μ-loop
-add-i-4 c = omega (arith, inside (c .before .before .before))
+add-i-4 c = omega (arith, marked (c .before .before .before) .1)
 
 loop-less-2 : tie.Need-loop-less-2 Inv-loop μ-loop
-loop-less-2 c = omega (arith, inside (c .before .before .before))
+loop-less-2 c = omega (arith, marked (c .before .before .before) .1)
 
 loop-again-2 : tie.Need-loop-again-2 Inv-loop μ-loop
 loop-again-2 c =
     let at-backslash = c .before .before .before in
-    let at-loop = in-loop (at-backslash .before .before .before) .before in
-    (at-loop .loop .inv .0, at-loop .loop .inv .1 ∙ quote-escapes _ _ _ _ (to-mark at-backslash) (inside at-backslash) (c .if3 .taken))
+    let at-loop = at-backslash .before .before .before .before .before .before .before .before in
+    (at-loop .loop .inv .0, at-loop .loop .inv .1 ∙ quote-escapes _ _ _ _ (marked at-backslash .0) (marked at-backslash .1) (c .if3 .taken))
 
 loop-less-3 : tie.Need-loop-less-3 Inv-loop μ-loop
-loop-less-3 c = omega (arith, inside (c .before .before .before))
+loop-less-3 c = omega (arith, marked (c .before .before .before) .1)
 
 loop-again-3 : tie.Need-loop-again-3 Inv-loop μ-loop
 loop-again-3 c =
     let at-other = c .before .before .before in
-    let at-loop = in-loop (at-other .before .before .before) .before in (
+    let at-loop = at-other .before .before .before .before .before .before .before .before in (
       at-loop .loop .inv .0,
-      at-loop .loop .inv .1 ∙ quote-goes-on _ _ _ _ (to-mark at-other) (inside at-other) (c .before .if2 .left) (c .if3 .left),
+      at-loop .loop .inv .1 ∙ quote-goes-on _ _ _ _ (marked at-other .0) (marked at-other .1) (c .before .if2 .left) (c .if3 .left),
     )
 
 quote-tail-requires : tie.Need-quote-tail-requires Inv-loop μ-loop

@@ -1,18 +1,15 @@
 -- `cut::strides::stop_far` meets its contract: the invariant says what is left, that the scan of the whole part ends where the scan from `i`
 -- on does; a stride's calm bytes are passed by the law of marks.
 -- Assumes nothing.
-use mathlib.Core.Path.{_≡_, refl, sym, _∙_, ap}
-use mathlib.Core.Bool.{true}
-use mathlib.Core.List.{List}
-use Prim.Native.Nat.{ℕ, _+_, _-_, _≤_, _<_}
+use mathlib.Core.Path.{_≡_, refl, sym, _∙_}
+use Prim.Native.Nat.{_+_, _-_, _≤_, _<_}
 use native.Mathlib.Omega.{arith}
 use denote.Ref.{now}
 use lib.ListN.{length, drop}
 use Rattle.data.specs.Classes.{is-boundary}
-use Rattle.cut.specs.Lanes.{over}
-use Rattle.cut.specs.Marks.{may-end, word-size, stride, all-unmarked, first-mark, Calm}
+use Rattle.cut.specs.Marks.{may-end, stride, Calm}
 use Rattle.cut.specs.Runs.{stop-from}
-use Rattle.cut.proofs.Marks.{first-of-none, finds-ends}
+use Rattle.cut.proofs.Marks.{Looked, looked, finds-ends}
 use Rattle.cut.proofs.Scans.{run-passes, run-stops, run-goes-on}
 use borrow.Author.Needs.{needs}
 use Rattle.cut.proofs.strides.stop_far.Statement.{statement}
@@ -25,36 +22,23 @@ Inv-loop d i₀ last i =
 abbrev μ-loop : tie.MeasureT-loop
 μ-loop d i₀ last i = length d - i
 
--- the two words of a stride, their marks, and the bytes that these leave
-module _ (c : tie.After-may-end2 Inv-loop μ-loop) where
-  abbrev in-loop : tie.In-loop Inv-loop μ-loop
-  in-loop = c .before .before .before .before
+-- the stride that was looked at
+stride-at : (c : tie.After-may-end2 Inv-loop μ-loop)
+    → let at-loop = c .before .before .before .before .before in
+    Looked is-boundary (now (at-loop .before .before .before .args .d)) (at-loop .loop .i) (c .before .before .may-end .result) (c .may-end2 .result)
+stride-at c =
+    let in-loop = c .before .before .before .before in
+    let at-loop = in-loop .before in
+    looked is-boundary may-end finds-ends _ (λ k. at-loop .before .before .shared-slice-known .given k .fits) _ _
+    (at-loop .loop .inv .0) (in-loop .loop-test .taken) _ _ _ _
+    (c .before .before .before .eight .ensures) (c .before .before .may-end .ensures) (c .before .eight2 .ensures) (c .may-end2 .ensures)
 
-  abbrev part : List ℕ
-  part = now (in-loop .before .before .before .before .args .d)
-
-  abbrev here : ℕ
-  here = in-loop .before .loop .i
-
-  within : here + stride < length part
-  within = omega (arith, in-loop .before .loop .inv .0, in-loop .loop-test .taken)
-
-  unwanted : (n : ℕ) → n ≡ first-mark (c .before .before .may-end .result) (c .may-end2 .result) → Calm is-boundary part here n
-  unwanted n =
-      finds-ends part (λ k. in-loop .before .before .before .shared-slice-known .given k .fits) here _ _ n (omega (arith, within))
-      (c .before .before .may-end .ensures ∙ ap (over may-end word-size) (c .before .before .before .eight .ensures))
-      (c .may-end2 .ensures ∙ ap (over may-end word-size) (c .before .eight2 .ensures))
-
-  all-unwanted : all-unmarked (c .before .before .may-end .result) (c .may-end2 .result) ≡ true → Calm is-boundary part here stride
-  all-unwanted u = unwanted stride (sym (first-of-none _ _ u))
-
--- the bytes before the first mark, and the marked one itself, which stands in the part
-module _ (c : tie.After-first-mark Inv-loop μ-loop) where
-  to-mark : Calm is-boundary (part (c .before .before .before)) (here (c .before .before .before)) (c .first-mark .result)
-  to-mark = unwanted (c .before .before .before) _ (c .first-mark .ensures)
-
-  inside : here (c .before .before .before) + c .first-mark .result < length (part (c .before .before .before))
-  inside = omega (arith, to-mark .few, within (c .before .before .before))
+-- its first marked byte
+marked : (c : tie.After-first-mark Inv-loop μ-loop)
+    → let at-loop = c .before .before .before .before .before .before .before .before in
+    let d = now (at-loop .before .before .before .args .d) in
+    Calm is-boundary d (at-loop .loop .i) (c .first-mark .result) × (at-loop .loop .i + c .first-mark .result < length d)
+marked c = stride-at (c .before .before .before) .marked _ (c .first-mark .ensures)
 
 strides-requires : tie.Need-strides-requires Inv-loop μ-loop
 strides-requires c κs = search needs
@@ -81,29 +65,29 @@ all-unmarked-requires : tie.Need-all-unmarked-requires Inv-loop μ-loop
 all-unmarked-requires c κs = search needs
 
 add-i : tie.Need-add-i Inv-loop μ-loop
-add-i c = omega (arith, within (c .before .before))
+add-i c = omega (arith, stride-at (c .before .before) .within)
 
 loop-less : tie.Need-loop-less Inv-loop μ-loop
-loop-less c = omega (arith, within (c .before .before))
+loop-less c = omega (arith, stride-at (c .before .before) .within)
 
 loop-again : tie.Need-loop-again Inv-loop μ-loop
 loop-again c =
-    let looked = c .before .before in
-    let at-loop = in-loop looked .before in
-    let calm = all-unwanted looked (sym (c .before .all-unmarked .ensures) ∙ c .if1 .taken) in (
+    let seen = stride-at (c .before .before) in
+    let at-loop = c .before .before .before .before .before .before .before in (
       at-loop .loop .inv .0,
-      omega (arith, within looked),
-      at-loop .loop .inv .2 ∙ run-passes is-boundary _ _ _ calm (omega (arith, within looked)),
+      omega (arith, seen .within),
+      at-loop .loop .inv .2
+          ∙ run-passes is-boundary _ _ _ (seen .whole (sym (c .before .all-unmarked .ensures) ∙ c .if1 .taken)) (omega (arith, seen .within)),
     )
 
 first-mark-requires : tie.Need-first-mark-requires Inv-loop μ-loop
 first-mark-requires c κs = search needs
 
 add-i-2 : tie.Need-add-i-2 Inv-loop μ-loop
-add-i-2 c = omega (arith, inside c)
+add-i-2 c = omega (arith, marked c .1)
 
 shared-slice-read-is-boundary : tie.Need-shared-slice-read-is-boundary Inv-loop μ-loop
-shared-slice-read-is-boundary c = inside (c .before)
+shared-slice-read-is-boundary c = marked (c .before) .1
 
 is-boundary-requires : tie.Need-is-boundary-requires Inv-loop μ-loop
 is-boundary-requires c κs = search needs
@@ -111,26 +95,25 @@ is-boundary-requires c κs = search needs
 returns : tie.Need-returns Inv-loop μ-loop
 returns c =
     let at-mark = c .before .before .before in
-    let looked = at-mark .before .before .before in
+    let at-loop = at-mark .before .before .before .before .before .before .before .before in
     sym
-    (in-loop looked .before .loop .inv .2
-    ∙ run-stops is-boundary _ _ _ (to-mark at-mark) (inside at-mark) (sym (c .before .is-boundary .ensures) ∙ c .if2 .taken))
+    (at-loop .loop .inv .2
+    ∙ run-stops is-boundary _ _ _ (marked at-mark .0) (marked at-mark .1) (sym (c .before .is-boundary .ensures) ∙ c .if2 .taken))
 
 add-i-3 : tie.Need-add-i-3 Inv-loop μ-loop
-add-i-3 c = omega (arith, inside (c .before .before .before))
+add-i-3 c = omega (arith, marked (c .before .before .before) .1)
 
 loop-less-2 : tie.Need-loop-less-2 Inv-loop μ-loop
-loop-less-2 c = omega (arith, inside (c .before .before .before))
+loop-less-2 c = omega (arith, marked (c .before .before .before) .1)
 
 loop-again-2 : tie.Need-loop-again-2 Inv-loop μ-loop
 loop-again-2 c =
     let at-mark = c .before .before .before in
-    let looked = at-mark .before .before .before in
-    let at-loop = in-loop looked .before in (
+    let at-loop = at-mark .before .before .before .before .before .before .before .before in (
       at-loop .loop .inv .0,
-      omega (arith, inside at-mark),
+      omega (arith, marked at-mark .1),
       at-loop .loop .inv .2
-          ∙ run-goes-on is-boundary _ _ _ (to-mark at-mark) (inside at-mark) (sym (c .before .is-boundary .ensures) ∙ c .if2 .left),
+          ∙ run-goes-on is-boundary _ _ _ (marked at-mark .0) (marked at-mark .1) (sym (c .before .is-boundary .ensures) ∙ c .if2 .left),
     )
 
 stop-tail-requires : tie.Need-stop-tail-requires Inv-loop μ-loop
