@@ -95,7 +95,8 @@ impl Sweep {
 /// Bytes of ASCII that a look at some of their bits may take for a boundary byte.
 const NEAR: [u8; 10] = [0, 0x0b, 0x0c, 0x1b, b'!', b'"', b'\\', b'^', b'|', b'~'];
 
-/// Others that stand for none: the like over 0x7f, its first and last byte, and some of ASCII.
+/// Other bytes that end no run: some over 0x7f that are like a boundary byte or a quote but for that bit, the first and
+/// the last of these, and some of ASCII.
 const FAR: [u8; 12] = [0x80, 0xa2, 0xa3, 0xbd, 0xdb, 0xdc, 0xfb, 0xff, b'$', b'?', b'Z', 0x7f];
 
 /// Every boundary byte at every place; `=` among bytes that are none, and at the end behind them; bytes

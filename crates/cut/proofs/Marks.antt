@@ -67,7 +67,7 @@ first-of-none x y e =
 
 module _ (wanted : ℕ → Bool) (e : Lane) (m : Marks wanted e) where
   -- the law: none of the bytes before the first mark is wanted
-  pub unwanted : (bs : List ℕ) → Bytes bs → (k : ℕ) → k < trailingZeros (length bs * 8) (each (on (top e)) bs) / 8 → wanted (getD bs k 0) ≡ false
+  unwanted : (bs : List ℕ) → Bytes bs → (k : ℕ) → k < trailingZeros (length bs * 8) (each (on (top e)) bs) / 8 → wanted (getD bs k 0) ≡ false
   unwanted bs h k l = m .unmarked (getD bs k 0) (h k) (zero-bytes (on (top e)) (keeps (top e) (m .stay)) bs h k l)
 
   module _ (d : List ℕ) (bytes : Bytes d) where

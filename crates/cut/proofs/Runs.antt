@@ -201,10 +201,6 @@ unfolding classed
 classed-classes = fun-ext (λ b. ap not (entry-zero b) ∙ Bool·not-not (is-boundary b))
 
 -- so what is cut by it is cut by the thirteen bytes
-pub run-by-classes : (bytes : List ℕ) → run-by classes bytes ≡ unquoted-run bytes
-unfolding run-by unquoted-run
-run-by-classes bytes = ap (λ (s : ℕ → Bool). run-of s bytes) classed-classes
-
 pub run-end-by-classes : (text : List ℕ) (at : ℕ) → run-end-by classes text at ≡ run-end text at
 unfolding run-end-by run-end
 run-end-by-classes text at = ap (λ (s : ℕ → Bool). run-end-of s text at) classed-classes

@@ -48,7 +48,7 @@ zeros-below (suc j) k a r h n =
     (λ f. under-some (r % 2) _ (eqb-false (r % 2) 0 f) ∙ sym (under-some (r % 2) _ (eqb-false (r % 2) 0 f)))
 
 -- and its lowest set digit is one of its own
-pub zeros-within : (j r : ℕ) → r < 2 ^ j → (r ≡ 0 → ⊥) → trailingZeros j r < j
+zeros-within : (j r : ℕ) → r < 2 ^ j → (r ≡ 0 → ⊥) → trailingZeros j r < j
 unfolding trailingZeros
 zeros-within zero r h n = absurd (n (omega arith))
 zeros-within (suc j) r h n =

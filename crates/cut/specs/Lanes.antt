@@ -17,7 +17,7 @@ unfoldable pub word : List ℕ → ℕ
 word [] = 0
 word (b ∷ bs) = word bs * 2 ^ 8 + b
 
--- the word of n times one byte
+-- the word of n bytes that are all the same
 unfoldable pub spread : ℕ → ℕ → ℕ
 spread zero c = 0
 spread (suc n) c = spread n c * 2 ^ 8 + c
@@ -28,7 +28,7 @@ pub data Lane : Type 0 where
   all : ℕ → Lane
   both either differ plus minus : Lane → Lane → Lane
 
--- by how a constant is read
+-- what it comes to, by how a constant is read
 unfoldable pub value : (ℕ → ℕ) → Lane → ℕ → ℕ
 value const it x = x
 value const (all c) x = const c

@@ -12,15 +12,15 @@ use Rattle.cut.specs.Lanes.{Bytes, word, Lane, it, all, both, either, di
 
 -- ---- the masks
 
--- what may end an unquoted run: up to `#`, and by the low five bits `;` `<` `=` `>` `[` `]` `{` `}`. A byte from 128 on is marked as the
--- one 128 less
+-- what may end an unquoted run: up to `#`, and by the low five bits `;` `<` `=` `>` `[` `]` `{` `}`, and with them `\` `^` `|` `~`. A byte from
+-- 128 on is marked as the one 128 less
 abbrev pub may-end : Lane
 may-end =
     either
     (minus (all 0xa3) (both it (all 0x7f)))
     (differ (plus (both it (all 0x1f)) (all 0x65)) (plus (both it (all 0x1f)) (all 0x61)))
 
--- what may close a quoted run, or skip a byte of it: a quote and a backslash
+-- what may close a quoted run, or skip a byte of it: a quote and a backslash, and the two bytes 128 more
 abbrev pub may-close : Lane
 may-close =
     either

@@ -41,7 +41,8 @@ fn eight(d: &[u8], i: usize) -> u64
         | (wide(d[i + 7]) << 56)
 }
 
-// Marks the bytes of a word that may end an unquoted run: those up to `#`, and by their low five bits `;` `<` `=` `>` `[` `]` `{` `}`.
+// Marks the bytes of a word that may end an unquoted run: those up to `#`, and by their low five bits `;` `<` `=` `>` `[` `]` `{` `}`, with
+// which go `\` `^` `|` `~`.
 fn may_end(x: u64) -> u64
     ensures { λ r. ⌜ r ≡ over may-end word-size x ⌝ }
 {
@@ -79,7 +80,7 @@ fn first_mark(x: u64, y: u64) -> usize
     skip + ((u64::trailing_zeros(word & TOPS) >> 3) as usize)
 }
 
-// The places of so many bytes from which a stride and one byte more can be read.
+// How many places of so many bytes there are from which a stride and one byte more can be read.
 fn strides(n: usize) -> usize
     ensures { λ r. ⌜ r ≡ n - stride ⌝ }
 {

@@ -164,7 +164,7 @@ fn closes(run: Quoted, wanted: usize, with_escape: bool) -> bool {
 // Whether nothing closes a quoted run.
 fn is_open(run: Quoted) -> bool {
     match run {
-        Quoted::Closed { length, escaped } => false,
+        Quoted::Closed { .. } => false,
         Quoted::Unclosed => true,
     }
 }
