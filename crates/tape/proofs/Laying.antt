@@ -1,7 +1,7 @@
 -- What the calls on the words leave, seen as a tape: the equation on the words says the equation on the tokens.
 -- Assumes nothing.
 use mathlib.Core.Path.{_≡_, refl, sym, _∙_, ap}
-use mathlib.Core.Bool.{true, false}
+use mathlib.Core.Bool.{Bool, true, false, false≢true}
 use mathlib.Core.List.{List, _++_, append-nil}
 use Prim.Native.Nat.{ℕ, zero, suc, _+_, _-_, _^_, _≤_, _<_}
 use native.Mathlib.Omega.{arith}
@@ -144,7 +144,7 @@ insert-first ws n m {r} {us} z e f =
     let exact : written r us ≡ insert-words ws n = rw z (rw e at f) in
     (exact, ap seen-of exact ∙ insert-seen ws n)
 
-pub insert-full : (ws : List ℕ) (n : ℕ) → (n ≡ 0 → ⊥) → ltb n (room-of ws) ≡ false
+insert-full : (ws : List ℕ) (n : ℕ) → (n ≡ 0 → ⊥) → ltb n (room-of ws) ≡ false
     → (written Full ws ≡ insert-words ws n) × (full ≡ lay-mixed (view ws n) n)
 unfolding insert-words
 insert-full ws zero some e = absurd (some refl)
@@ -152,7 +152,7 @@ insert-full ws (suc n) some e =
     let exact : written Full ws ≡ insert-words ws (suc n) = rw (insert-words, e) in
     (exact, ap seen-of exact ∙ insert-seen ws (suc n))
 
-pub insert-laid : (ws : List ℕ) (n : ℕ) (m last : Token) {us vs : List ℕ} → (n ≡ 0 → ⊥) → ltb n (room-of ws) ≡ true
+insert-laid : (ws : List ℕ) (n : ℕ) (m last : Token) {us vs : List ℕ} → (n ≡ 0 → ⊥) → ltb n (room-of ws) ≡ true
     → last ≡ token-in ws n (n - 1) → us ≡ put-words ws n last → m ≡ mixed-container-token → vs ≡ put-words us (n - 1) m
     → (written (Laid (n + 1)) vs ≡ insert-words ws n) × (laid (n + 1) (view vs (n + 1)) ≡ lay-mixed (view ws n) n)
 unfolding insert-words
@@ -161,3 +161,45 @@ insert-laid ws (suc n) m last {us} {vs} some e l f g h =
     let before : suc n - 1 ≡ n = omega arith in
     let exact : written (Laid (suc n + 1)) vs ≡ insert-words ws (suc n) = rw (insert-words, e, h, before, g, f, l, before) in
     (exact, ap seen-of exact ∙ insert-seen ws (suc n))
+
+-- ---- what an answer of a push tells of it
+abbrev laid-count : Written → ℕ
+laid-count (written (Laid k) ws) = k
+laid-count (written Full ws) = 0
+
+abbrev left-words : Written → List ℕ
+left-words (written r ws) = ws
+
+abbrev is-laid : Written → Bool
+is-laid (written (Laid k) ws) = true
+is-laid (written Full ws) = false
+
+module _ (ws : List ℕ) (n : ℕ) (t : Token) {r : Pushed} {us : List ℕ} (pushed : written r us ≡ push-words ws n t) where
+  push-was-laid : (k : ℕ) → r ≡ Laid k → (ltb n (room-of ws) ≡ true) × (k ≡ n + 1) × (us ≡ put-words ws n t)
+  unfolding push-words
+  push-was-laid k e =
+      let same : written (Laid k) us ≡ push-words ws n t = rw e at pushed in
+      by-bool (ltb n (room-of ws))
+      (λ h. let f = rw (push-words, h) at same in (h, ap laid-count f, ap left-words f))
+      (λ h. let f = rw (push-words, h) at same in absurd (false≢true (sym (ap is-laid f))))
+
+  push-was-full : r ≡ Full → (ltb n (room-of ws) ≡ false) × (us ≡ ws)
+  unfolding push-words
+  push-was-full e =
+      let same : written Full us ≡ push-words ws n t = rw e at pushed in
+      by-bool (ltb n (room-of ws))
+      (λ h. let f = rw (push-words, h) at same in absurd (false≢true (ap is-laid f)))
+      (λ h. let f = rw (push-words, h) at same in (h, ap left-words f))
+
+module _ (ws : List ℕ) (n : ℕ) (last : Token) {r : Pushed} {us : List ℕ} (some : n ≡ 0 → ⊥) (l : last ≡ token-in ws n (n - 1))
+    (pushed : written r us ≡ push-words ws n last) where
+  pub insert-pushed : (k : ℕ) (m : Token) {vs : List ℕ} → r ≡ Laid k → m ≡ mixed-container-token → vs ≡ put-words us (n - 1) m
+      → (written (Laid k) vs ≡ insert-words ws n) × (laid k (view vs k) ≡ lay-mixed (view ws n) n)
+  insert-pushed k m e g h =
+      let was = push-was-laid ws n last pushed k e in
+      rw (was .1) (insert-laid ws n m last some (was .0) l (was .2) g h)
+
+  pub insert-none : r ≡ Full → (written Full us ≡ insert-words ws n) × (full ≡ lay-mixed (view ws n) n)
+  insert-none e =
+      let was = push-was-full ws n last pushed e in
+      rw (was .1) (insert-full ws n some (was .0))

@@ -5,8 +5,8 @@ use crate::token;
 use crate::token::Token;
 ghost use mathlib.Core.Path.{_≡_};
 ghost use lib.ListN.{length, getD, set, replicate};
-ghost use lib.Dec.{leb, ltb};
-ghost use Rattle.tape.specs.Words.{words-for, a-word, capacity, room-of, tokens-in, token-in};
+ghost use lib.Dec.{leb};
+ghost use Rattle.tape.specs.Words.{words-for, a-word, capacity, tokens-in, token-in};
 ghost use Rattle.tape.specs.Words.{put-words, put-in, written, push-words, insert-words, cleared};
 ghost use Rattle.tape.specs.Tape.{view, replace, lay, lay-mixed, after-push};
 
@@ -121,23 +121,17 @@ pub fn relink(tape: &mut [u32], i: u32, link: u32) -> u32
     0
 }
 
-// Whether a token fits after count others.
-fn has_room(tape: &[u32], count: u32) -> bool
-    ensures { λ r. ⌜ r ≡ ltb count (room-of (now (tape .entry))) ⌝ }
-{
-    let at = (count as usize) * WORDS_PER_TOKEN;
-    if count == u32::MAX {
-        return false;
-    }
-    at + LAST_WORD < tape.len()
-}
-
-// Lays a token down after count others.
+// Lays a token down after count others, where a word can number one more and its words are there. Each test leaves at once, which the parser's
+// loop is faster by than by both as one.
 pub fn push(tape: &mut [u32], count: u32, t: Token) -> Pushed
     ensures exact { λ r. ⌜ written r (now (tape .exit)) ≡ push-words (now (tape .entry)) count t ⌝ }
     ensures seen { λ r. ⌜ after-push r (now (tape .exit)) ≡ lay (view (now (tape .entry)) count) count t ⌝ }
 {
-    if !has_room(tape, count) {
+    if count == u32::MAX {
+        return Pushed::Full;
+    }
+    let at = (count as usize) * WORDS_PER_TOKEN;
+    if tape.len() <= at + LAST_WORD {
         return Pushed::Full;
     }
     put_words(tape, count, t);
@@ -153,12 +147,13 @@ pub fn insert_mixed(tape: &mut [u32], count: u32) -> Pushed
         return push(tape, 0, token::mixed_container());
     }
     let last = token(tape, count, count - 1);
-    if !has_room(tape, count) {
-        return Pushed::Full;
+    match push(tape, count, last) {
+        Pushed::Laid(laid) => {
+            put_words(tape, count - 1, token::mixed_container());
+            Pushed::Laid(laid)
+        }
+        Pushed::Full => Pushed::Full,
     }
-    put_words(tape, count, last);
-    put_words(tape, count - 1, token::mixed_container());
-    Pushed::Laid(count + 1)
 }
 
 // Zeroes every word.

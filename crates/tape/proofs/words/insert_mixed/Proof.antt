@@ -1,9 +1,7 @@
--- `tape::words::insert_mixed` meets its contract: by the tests for a last token and for room, one law for each answer.
+-- `tape::words::insert_mixed` meets its contract: by the test for a last token and by what its push answers, one law for each answer.
 -- Assumes nothing.
 use borrow.Author.Needs.{needs}
-use mathlib.Core.Path.{sym, _∙_}
-use borrow.Author.Tests.{not-true, not-false}
-use Rattle.tape.proofs.Laying.{insert-first, insert-full, insert-laid, one-more}
+use Rattle.tape.proofs.Laying.{insert-first, insert-none, insert-pushed}
 use Rattle.tape.proofs.words.insert_mixed.Statement.{statement}
 use Rattle.tape.proofs.words.insert_mixed.Tie as tie
 
@@ -28,17 +26,11 @@ sub-token c = search needs
 token-requires : tie.Need-token-requires
 token-requires c κs = search needs
 
-has-room-requires : tie.Need-has-room-requires
-has-room-requires c κs = search needs
+push-requires-2 : tie.Need-push-requires-2
+push-requires-2 c κs = search needs
 
-same-length-2 : tie.Need-same-length-2
-same-length-2 c = search needs
-
-returns-2 : tie.Need-returns-2
-returns-2 c = insert-full _ _ (c .before .before .before .before .before .if1 .left) (sym (c .before .has-room .ensures) ∙ not-true _ (c .if2 .taken))
-
-put-words-requires : tie.Need-put-words-requires
-put-words-requires c κs = search needs
+enum-known-laid : tie.Need-enum-known-laid
+enum-known-laid c = search needs
 
 sub-put-words : tie.Need-sub-put-words
 sub-put-words c = search needs
@@ -46,31 +38,33 @@ sub-put-words c = search needs
 mixed-container-requires-2 : tie.Need-mixed-container-requires-2
 mixed-container-requires-2 c κs = search needs
 
-put-words-requires-2 : tie.Need-put-words-requires-2
-put-words-requires-2 c κs = search needs
+put-words-requires : tie.Need-put-words-requires
+put-words-requires c κs = search needs
 
-add-t10 : tie.Need-add-t10
-add-t10 c =
-    let asked = c .before .before .before .before .before .before .before .before .before in
-    record { fits = one-more _ _ (sym (asked .before .has-room .ensures) ∙ not-false _ (asked .if2 .left)) }
+enum-told : tie.Need-enum-told
+enum-told c = search needs
+
+same-length-2 : tie.Need-same-length-2
+same-length-2 c = search needs
+
+returns-2 : tie.Need-returns-2
+returns-2 c =
+    let put = c .before .before in
+    let made = put .before in
+    let told = made .before .before .before in
+    let pushed = told .before .before .before .before in
+    let last = pushed .before .before in
+    insert-pushed _ _ _ (last .before .before .if1 .left) (last .token .ensures) (pushed .push2 .ensures .0) _ _
+    (told .laid .given .1) (made .mixed-container2 .ensures) (put .put-words .ensures)
 
 same-length-3 : tie.Need-same-length-3
 same-length-3 c = search needs
 
 returns-3 : tie.Need-returns-3
 returns-3 c =
-    let second = c .before .before in
-    let made = second .before in
-    let first = made .before .before .before .before in
-    let asked = first .before .before in
-    let last = asked .before .before .before in
-    insert-laid _ _ _ _
-    (last .before .before .if1 .left)
-    (sym (asked .before .has-room .ensures) ∙ not-false _ (asked .if2 .left))
-    (last .token .ensures)
-    (first .put-words .ensures)
-    (made .mixed-container2 .ensures)
-    (second .put-words2 .ensures)
+    let pushed = c .before .before .before .before in
+    let last = pushed .before .before in
+    insert-none _ _ _ (last .before .before .if1 .left) (last .token .ensures) (pushed .push2 .ensures .0) (c .enum-told .given .1)
 
 pub insert-mixed-spec : {M : Type 1} → statement M
 insert-mixed-spec =
@@ -82,13 +76,13 @@ insert-mixed-spec =
     returns
     sub-token
     token-requires
-    has-room-requires
-    same-length-2
-    returns-2
-    put-words-requires
+    push-requires-2
+    enum-known-laid
     sub-put-words
     mixed-container-requires-2
-    put-words-requires-2
-    add-t10
+    put-words-requires
+    enum-told
+    same-length-2
+    returns-2
     same-length-3
     returns-3)
