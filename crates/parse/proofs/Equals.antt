@@ -5,7 +5,7 @@ use mathlib.Core.Bool.{true, false, not, false≢true, _&&_}
 use mathlib.Core.List.{List}
 use Prim.Native.Nat.{ℕ, suc, _+_, _≤_, _<_}
 use native.Mathlib.Omega.{arith}
-use borrow.Author.Tests.{eqb-true, eq-eqb, ne-eqb, not-true}
+use borrow.Author.Tests.{eqb-true, not-true}
 use lib.Dec.{eqb}
 use lib.ListN.{length, List·getD-eq-default}
 use Rattle.data.proofs.Cases.{by-bool, both}
@@ -53,8 +53,7 @@ skip-equals : (text : List ℕ) (at : ℕ) → byte-at text at ≡ equals → sk
 unfolding is-blank
 skip-equals text at e = skip-here text at (equals-within text at e) (ap is-blank e) (λ h. absurd (omega (arith, sym e ∙ h)))
 
--- a turn there goes past it and lays down nothing
-module _ (text : List ℕ) (t : Tape) (m : Machine) (there : at-equals text m ≡ true) where
+module _ (text : List ℕ) (m : Machine) (there : at-equals text m ≡ true) where
   parts : (is-separator (m .state) ≡ true) × ((eqb (byte-at text (m .at)) equals && not (eqb (byte-at text (m .at + 1)) equals)) ≡ true)
   unfolding at-equals
   parts = both _ _ there
@@ -65,9 +64,13 @@ module _ (text : List ℕ) (t : Tape) (m : Machine) (there : at-equals text m �
   second : eqb (byte-at text (m .at + 1)) equals ≡ false
   second = not-true _ (both (eqb (byte-at text (m .at)) equals) _ (parts .1) .1)
 
-  equals-turn : turn text t m ≡ next (to m (m .at + 1) ObjectValue (m .count)) t
+  pub equals-next : m .at < length text
+  equals-next = equals-within text (m .at) first
+
+  -- a turn there goes past it and lays down nothing
+  equals-turn : (t : Tape) → turn text t m ≡ next (to m (m .at + 1) ObjectValue (m .count)) t
   unfolding turn state-turn separator-turn separator-then
-  equals-turn =
+  equals-turn t =
       rw (
         turn,
         skip-equals text (m .at) first,
@@ -78,8 +81,8 @@ module _ (text : List ℕ) (t : Tape) (m : Machine) (there : at-equals text m �
         separator-then,
       )
 
-  falls : left text (m .at + 1) ObjectValue < left text (m .at) (m .state)
-  falls = rw equals-turn at (turn-falls text t m)
+  falls : Tape → left text (m .at + 1) ObjectValue < left text (m .at) (m .state)
+  falls t = rw (equals-turn t) at (turn-falls text t m)
 
 -- so the run is the same from the machine past it, which has as many tokens, and fewer turns are left, or as many
 module _ (text : List ℕ) (m : Machine) where
@@ -90,7 +93,7 @@ module _ (text : List ℕ) (m : Machine) where
   past-fewer : (t : Tape) → left text (past-equals text m .at) (past-equals text m .state) ≤ left text (m .at) (m .state)
   unfolding past-equals
   past-fewer t =
-      by-bool (at-equals text m) (λ e. rw (past-equals, e) (omega (arith, falls text t m e))) (λ e. rw (past-equals, e) (omega arith))
+      by-bool (at-equals text m) (λ e. rw (past-equals, e) (omega (arith, falls text m e t))) (λ e. rw (past-equals, e) (omega arith))
 
   past-runs : (t : Tape)
       → run text (suc (left text (m .at) (m .state))) (next m t)
@@ -99,8 +102,8 @@ module _ (text : List ℕ) (m : Machine) where
   past-runs t =
       by-bool (at-equals text m)
       (λ e. rw (past-equals, e) (run-turn text (left text (m .at) (m .state)) m t
-      ∙ ap (run text (left text (m .at) (m .state))) (equals-turn text t m e)
-      ∙ run-enough text _ _ _ t (falls text t m e) (omega arith)))
+      ∙ ap (run text (left text (m .at) (m .state))) (equals-turn text m e t)
+      ∙ run-enough text _ _ _ t (falls text m e t) (omega arith)))
       (λ e. rw (past-equals, e))
 
 -- a turn and the `=` behind it, as the loop meets them: fewer turns are left, and the run goes on from there
@@ -125,26 +128,12 @@ module _ (text : List ℕ) (t : Tape) (m m′ r : Machine) (tape : List ℕ) (x 
       ∙ ap (λ (k : ℕ). run text (suc (left text (p .at) (p .state))) (next p (view tape k))) (sym (past-count text m′))
       ∙ ap (λ (q : Machine). run text (suc (left text (q .at) (q .state))) (next q (view tape (q .count)))) (sym past)
 
-module _ (text : List ℕ) (m : Machine) where
-  -- by the tests one after the other, as the code makes them
-  pub past-other : is-separator (m .state) ≡ false → past-equals text m ≡ m
-  unfolding past-equals at-equals
-  past-other e = rw (past-equals, at-equals, e)
+-- by whether it is next, at the place and in the state that the code then has
+module _ (text : List ℕ) (m : Machine) (at : ℕ) (s : State) where
+  pub past-there : at-equals text m ≡ true → at ≡ m .at + 1 → s ≡ ObjectValue → to m at s (m .count) ≡ past-equals text m
+  unfolding past-equals
+  past-there e p q = rw (past-equals, e, p, q)
 
-  module _ (due : is-separator (m .state) ≡ true) where
-    pub past-none : (byte-at text (m .at) ≡ equals → ⊥) → past-equals text m ≡ m
-    unfolding past-equals at-equals
-    past-none n = rw (past-equals, at-equals, due, ne-eqb (byte-at text (m .at)) equals n)
-
-    pub past-doubled : byte-at text (m .at + 1) ≡ equals → past-equals text m ≡ m
-    unfolding past-equals at-equals
-    past-doubled d =
-        by-bool (eqb (byte-at text (m .at)) equals)
-        (λ e. rw (past-equals, at-equals, due, e, eq-eqb (byte-at text (m .at + 1)) equals d))
-        (λ e. rw (past-equals, at-equals, due, e))
-
-    pub past-alone : byte-at text (m .at) ≡ equals → (byte-at text (m .at + 1) ≡ equals → ⊥)
-        → past-equals text m ≡ to m (m .at + 1) ObjectValue (m .count)
-    unfolding past-equals at-equals
-    past-alone e n =
-        rw (past-equals, at-equals, due, eq-eqb (byte-at text (m .at)) equals e, ne-eqb (byte-at text (m .at + 1)) equals n)
+  pub past-elsewhere : at-equals text m ≡ false → at ≡ m .at → s ≡ m .state → to m at s (m .count) ≡ past-equals text m
+  unfolding past-equals
+  past-elsewhere e p q = rw (past-equals, e, p, q)

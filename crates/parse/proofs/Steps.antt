@@ -1,23 +1,31 @@
--- The scalar that is due, taken apart: what stands there, room for its token, and what is left past it.
+-- What a step leaves due, taken apart. The scalar: what stands there, room for its token, and what is left past it; the operator of a mixed
+-- container; the parameter.
 -- Assumes nothing.
-use mathlib.Core.Path.{_≡_, refl}
-use mathlib.Core.Bool.{false}
+use mathlib.Core.Path.{_≡_, refl, sym, _∙_, ap}
+use mathlib.Core.Bool.{Bool, true, false}
 use mathlib.Core.List.{List}
-use Prim.Native.Nat.{ℕ}
+use Prim.Native.Nat.{ℕ, _+_, _-_}
+use lib.Dec.{eqb}
+use Rattle.data.proofs.Cases.{by-bool}
+use Rattle.data.specs.Bytes.{exclamation, bracket-open}
 use Rattle.cut.specs.declared.Cut.{Cut}
 use Rattle.cut.specs.declared.Cut.the-variants as Cuts
 use Rattle.cut.specs.Scalars.{scalar-cut}
-use Rattle.tape.specs.Tape.{Tape, Laying, laid, full, lay}
+use Rattle.tape.specs.declared.token.ContainerKind.the-variants.{Object}
+use Rattle.tape.specs.Token.{opener-of}
+use Rattle.tape.specs.Tape.{Tape, Laying, laid, full, lay, replace}
 use Rattle.machine.specs.declared.State.{State}
 use Rattle.machine.specs.declared.State.the-variants.{Key, KeyValueSeparator, ObjectValue, ParseOpen, ArrayValue}
 use Rattle.machine.specs.declared.Machine.{Machine}
-use Rattle.machine.specs.declared.Refusal.the-variants.{Eof}
+use Rattle.machine.specs.declared.Refusal.the-variants.{Eof, MixedParameter}
 use Rattle.parse.specs.declared.scalars.Scalar.{Scalar}
 use Rattle.parse.specs.declared.scalars.Scalar.the-variants as Found
-use Rattle.machine.specs.Machine.{to, is-parse-open}
+use Rattle.machine.specs.Machine.{byte-at, to, within, mixed-on, is-parse-open}
 use Rattle.parse.specs.After.{After, next, refused, and-then, or-full, lay-then}
 use Rattle.parse.specs.Scalars.{scalar-found, cut-then, scalar-then}
-use Rattle.parse.specs.ParseOpen.{flag-parent, open-as, open-scalar}
+use Rattle.parse.specs.ParseOpen.{flag-parent, open-as, open-parameter, open-scalar}
+use Rattle.parse.specs.ArrayValue.{operator-then, unmixed-operator, array-operator}
+use Rattle.parse.specs.Parameter.{name-kind, name-start, parameter-name, parameter}
 use Rattle.parse.specs.Step.{entry, entered}
 
 module _ (text : List ℕ) (m : Machine) where
@@ -59,3 +67,32 @@ module _ (text : List ℕ) (m : Machine) where
   entry-taken ObjectValue t = plain-taken (scalar-cut text (m .at)) ObjectValue t refl
   entry-taken ParseOpen t = open-taken (scalar-cut text (m .at)) t
   entry-taken ArrayValue t = plain-taken (scalar-cut text (m .at)) ArrayValue t refl
+
+module _ (text : List ℕ) (t : Tape) (m : Machine) where
+  -- an operator of a container that is mixed already: mixed goes on again, and nothing changes
+  pub operator-mixed : m .mixed ≡ true → operator-then text t (mixed-on m (m .count)) ≡ array-operator text t m
+  unfolding array-operator operator-then lay-then
+  operator-mixed e =
+      ap (λ (b : Bool). operator-then text t (record { at = m .at; state = ArrayValue; parent = m .parent; mixed = b; count = m .count })) (sym e)
+      ∙ sym (ap (λ (b : Bool). elim b [ true ↦ operator-then text t m | false ↦ unmixed-operator text t m ]) e)
+
+  pub operator-unmixed : m .mixed ≡ false → array-operator text t m ≡ unmixed-operator text t m
+  unfolding array-operator
+  operator-unmixed e = ap (λ (b : Bool). elim b [ true ↦ operator-then text t m | false ↦ unmixed-operator text t m ]) e
+
+  -- a parameter that opens a container which is not mixed
+  abbrev opened : After
+  opened = parameter text (replace t (m .count - 1) (opener-of Object (m .parent) false)) (within m (m .count - 1))
+
+  pub parameter-opens : m .mixed ≡ false → open-parameter text t m ≡ opened
+  unfolding open-parameter
+  parameter-opens e = ap (λ (b : Bool). elim b [ true ↦ refused (MixedParameter (m .at)) | false ↦ opened ]) e
+
+  -- a parameter by its name's kind and place, as one call reads both
+  pub parameter-read : byte-at text (m .at + 1) ≡ bracket-open → parameter text t m
+      ≡ parameter-name text (name-kind (eqb (byte-at text (m .at + 2)) exclamation)) (name-start (m .at) (eqb (byte-at text (m .at + 2)) exclamation)) t m
+  unfolding parameter name-kind name-start
+  parameter-read e =
+      by-bool (eqb (byte-at text (m .at + 2)) exclamation)
+      (λ b. rw (parameter, e, b))
+      (λ b. rw (parameter, e, b))

@@ -1,7 +1,7 @@
 -- Parameter: `[[` or `[[!`, end is Eof; a run as name; then `]` or 10; token; blanks; a run; blanks.
 -- If `]` comes: the run is Unquoted, Key. Else an Object opens, the run is its first key, KeyValueSeparator.
 use Prim.Native.Nat.{ℕ, _+_, _-_}
-use mathlib.Core.Bool.{true, false}
+use mathlib.Core.Bool.{Bool, true, false}
 use mathlib.Core.List.{List}
 use lib.Dec.{eqb, ltb}
 use lib.ListN.{length}
@@ -60,6 +60,13 @@ parameter-name text kind start t m =
       | true ↦ parameter-named text kind start (run-end text start) t m
       | false ↦ refused Eof
     ]
+
+-- the kind of a name and its place behind `[[`, by whether `!` comes first
+unfoldable pub name-kind : Bool → ScalarKind
+name-kind undefined = elim undefined [ true ↦ UndefinedParameter | false ↦ Parameter ]
+
+unfoldable pub name-start : ℕ → Bool → ℕ
+name-start at undefined = elim undefined [ true ↦ at + 3 | false ↦ at + 2 ]
 
 -- `[[` or `[[!`; 9: `[` not followed by `[`, at it
 unfoldable pub parameter : List ℕ → Tape → Machine → After

@@ -12,7 +12,6 @@ use machine::byte_at;
 use machine::bytes::ValueByte;
 use machine::bytes::value_byte;
 use machine::less;
-use machine::mixed_on;
 use machine::parents::container_at;
 use machine::parents::nothing_open;
 use machine::parents::own_kind;
@@ -48,7 +47,7 @@ fn array_close(tape: &mut [u32], m: Machine) -> Turn
 }
 
 // An operator among the values of a mixed container.
-fn operator_then(text: &[u8], tape: &mut [u32], m: Machine) -> Turn
+pub(crate) fn operator_then(text: &[u8], tape: &mut [u32], m: Machine) -> Turn
     requires { ⌜ Here (now text) m ⌝ }
     ensures { λ r. ⌜ after r (now (tape .exit)) ≡ operator-then (now (text .entry)) (view (now (tape .entry)) (m .count)) m ⌝ }
 {
@@ -78,39 +77,40 @@ fn after_end(text: &[u8], m: Machine) -> Turn
     Turn::Refused(Refusal::NothingPrecedes(before(m.at)))
 }
 
-// An operator byte in a container that is not mixed: the last token decides.
-fn unmixed_operator(text: &[u8], tape: &mut [u32], m: Machine) -> Turn
-    requires { ⌜ Here (now text) m ⌝ }
-    ensures { λ r. ⌜ after r (now (tape .exit)) ≡ unmixed-operator (now (text .entry)) (view (now (tape .entry)) (m .count)) m ⌝ }
+// An operator byte that makes the container mixed: the operator itself is due.
+fn mixed_operator(tape: &mut [u32], m: Machine) -> Step
+    ensures { λ r. ⌜ ((text : List ℕ) → stepped text r (now (tape .exit)) m ≡ mix-then (view (now (tape .entry)) (m .count)) m (operator-then text)) ⌝ }
 {
-    let last = words::token(tape, m.count, less(m.count, 1));
-    match last.standing() {
-        Standing::Unquoted => mixed_operator(text, tape, m),
-        Standing::OtherScalar => mixed_operator(text, tape, m),
-        Standing::End => after_end(text, m),
-        Standing::Nothing => Turn::Refused(Refusal::NothingPrecedes(before(m.at))),
+    match words::insert_mixed(tape, m.count) {
+        Pushed::Laid(count) => Step::Operator(count),
+        Pushed::Full => Step::Turned(Turn::Refused(Refusal::Full)),
     }
 }
 
-// An operator byte that makes the container mixed.
-fn mixed_operator(text: &[u8], tape: &mut [u32], m: Machine) -> Turn
+// An operator byte in a container that is not mixed: the last token decides.
+fn unmixed_operator(text: &[u8], tape: &mut [u32], m: Machine) -> Step
     requires { ⌜ Here (now text) m ⌝ }
-    ensures { λ r. ⌜ after r (now (tape .exit)) ≡ mix-then (view (now (tape .entry)) (m .count)) m (operator-then (now (text .entry))) ⌝ }
+    ensures { λ r. ⌜ stepped (now (text .entry)) r (now (tape .exit)) m
+        ≡ unmixed-operator (now (text .entry)) (view (now (tape .entry)) (m .count)) m ⌝ }
 {
-    match words::insert_mixed(tape, m.count) {
-        Pushed::Laid(count) => operator_then(text, tape, mixed_on(m, count)),
-        Pushed::Full => Turn::Refused(Refusal::Full),
+    let last = words::token(tape, m.count, less(m.count, 1));
+    match last.standing() {
+        Standing::Unquoted => mixed_operator(tape, m),
+        Standing::OtherScalar => mixed_operator(tape, m),
+        Standing::End => Step::Turned(after_end(text, m)),
+        Standing::Nothing => Step::Turned(Turn::Refused(Refusal::NothingPrecedes(before(m.at)))),
     }
 }
 
 // `<` `>` `!` `=` in ArrayValue.
-fn array_operator(text: &[u8], tape: &mut [u32], m: Machine) -> Turn
+fn array_operator(text: &[u8], tape: &mut [u32], m: Machine) -> Step
     requires { ⌜ Here (now text) m ⌝ }
-    ensures { λ r. ⌜ after r (now (tape .exit)) ≡ array-operator (now (text .entry)) (view (now (tape .entry)) (m .count)) m ⌝ }
+    ensures { λ r. ⌜ stepped (now (text .entry)) r (now (tape .exit)) m
+        ≡ array-operator (now (text .entry)) (view (now (tape .entry)) (m .count)) m ⌝ }
 {
     let mixed = m.mixed;
     if mixed {
-        return operator_then(text, tape, m);
+        return Step::Operator(m.count);
     }
     unmixed_operator(text, tape, m)
 }
@@ -124,7 +124,7 @@ pub(crate) fn array_value_turn(text: &[u8], tape: &mut [u32], m: Machine) -> Ste
     match value_byte(byte_at(text, m.at)) {
         ValueByte::Brace => Step::Turned(open_then(tape, m)),
         ValueByte::Closer => Step::Turned(array_close(tape, m)),
-        ValueByte::Sign => Step::Turned(array_operator(text, tape, m)),
+        ValueByte::Sign => array_operator(text, tape, m),
         ValueByte::Other => Step::Scalar(State::ArrayValue),
     }
 }

@@ -1,7 +1,6 @@
 // A turn in Key.
 use crate::containers::close;
 use crate::laying::lay;
-use crate::parameter::parameter;
 use crate::step::Step;
 use cut::Skipped;
 use machine::Machine;
@@ -26,7 +25,7 @@ ghost use Rattle.parse.specs.After.{after};
 ghost use Rattle.parse.specs.Key.{key-close, open-header, key-header, key-brace, key-turn};
 ghost use Rattle.parse.specs.Step.{stepped};
 ghost use Rattle.parse.specs.Parse.{text-limit};
-ghost use Rattle.parse.specs.Here.{Here, LentHere};
+ghost use Rattle.parse.specs.Here.{Here};
 
 // `}` or `]`: closes the container that is open, or is skipped, since some game files have one too many.
 fn key_close(tape: &mut [u32], m: Machine) -> Turn
@@ -84,19 +83,14 @@ fn key_brace(text: &[u8], tape: &mut [u32], m: Machine) -> Turn
 }
 
 // A turn in Key, at a byte that is no blank.
-pub(crate) fn key_turn(
-    text: &[u8],
-    table: &[u8; data::BYTE_COUNT],
-    tape: &mut [u32],
-    m: Machine,
-) -> Step
-    requires { ⌜ LentHere (now text) (now table) m ⌝ }
+pub(crate) fn key_turn(text: &[u8], tape: &mut [u32], m: Machine) -> Step
+    requires { ⌜ Here (now text) m ⌝ }
     ensures { λ r. ⌜ stepped (now (text .entry)) r (now (tape .exit)) m ≡ key-turn (now (text .entry)) (view (now (tape .entry)) (m .count)) m ⌝ }
 {
     match key_byte(byte_at(text, m.at)) {
         KeyByte::Closer => Step::Turned(key_close(tape, m)),
         KeyByte::Brace => Step::Turned(key_brace(text, tape, m)),
-        KeyByte::Bracket => Step::Turned(parameter(text, table, tape, m)),
+        KeyByte::Bracket => Step::Parameter(m.parent),
         KeyByte::Other => Step::Scalar(State::KeyValueSeparator),
     }
 }

@@ -9,6 +9,7 @@ use machine::State;
 use machine::Turn;
 use machine::finish::finish;
 use machine::finish::refuse;
+use machine::mixed_on;
 use machine::start::has_bom;
 use machine::start::start;
 ghost use mathlib.Core.Path.{_≡_};
@@ -19,7 +20,7 @@ ghost use Rattle.parse.specs.After.{after, next};
 ghost use Rattle.parse.specs.Step.{stepped};
 ghost use Rattle.machine.specs.Finish.{outcome};
 ghost use Rattle.parse.specs.Parse.{text-limit, state-turn, turn, run, ending, enough, parse-of};
-ghost use Rattle.parse.specs.Here.{Lent, LentHere};
+ghost use Rattle.parse.specs.Here.{Here, Lent, LentHere};
 
 mod array_value;
 mod containers;
@@ -36,16 +37,16 @@ mod step;
 pub const TEXT_LIMIT: usize = 16777215;
 
 // What the machine's state makes of a byte that is no blank.
-fn state_step(text: &[u8], table: &[u8; data::BYTE_COUNT], tape: &mut [u32], m: Machine) -> Step
-    requires { ⌜ LentHere (now text) (now table) m ⌝ }
+fn state_step(text: &[u8], tape: &mut [u32], m: Machine) -> Step
+    requires { ⌜ Here (now text) m ⌝ }
     ensures { λ r. ⌜ stepped (now (text .entry)) r (now (tape .exit)) m ≡ state-turn (now (text .entry)) (view (now (tape .entry)) (m .count)) m ⌝ }
 {
     let state = m.state;
     match state {
-        State::Key => key::key_turn(text, table, tape, m),
+        State::Key => key::key_turn(text, tape, m),
         State::KeyValueSeparator => Step::Turned(separator::separator_turn(text, tape, m)),
         State::ObjectValue => object_value::object_value_turn(text, tape, m),
-        State::ParseOpen => parse_open::parse_open_turn(text, table, tape, m),
+        State::ParseOpen => parse_open::parse_open_turn(text, tape, m),
         State::ArrayValue => array_value::array_value_turn(text, tape, m),
     }
 }
@@ -55,9 +56,11 @@ fn state_turn(text: &[u8], table: &[u8; data::BYTE_COUNT], tape: &mut [u32], m: 
     requires { ⌜ LentHere (now text) (now table) m ⌝ }
     ensures { λ r. ⌜ after r (now (tape .exit)) ≡ state-turn (now (text .entry)) (view (now (tape .entry)) (m .count)) m ⌝ }
 {
-    match state_step(text, table, tape, m) {
+    match state_step(text, tape, m) {
         Step::Turned(turned) => turned,
         Step::Scalar(state) => step::entry(text, tape, m, state),
+        Step::Operator(count) => array_value::operator_then(text, tape, mixed_on(m, count)),
+        Step::Parameter(parent) => parameter::parameter(text, table, tape, m.within(parent)),
     }
 }
 

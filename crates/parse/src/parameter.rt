@@ -19,7 +19,8 @@ ghost use Rattle.data.specs.Classes.{classes};
 ghost use Rattle.cut.specs.Runs.{run-end};
 ghost use Rattle.tape.specs.Tape.{view};
 ghost use Rattle.parse.specs.After.{after};
-ghost use Rattle.parse.specs.Parameter.{parameter-object, value-or-object, parameter-value, parameter-named, parameter-name, parameter};
+ghost use Rattle.parse.specs.Parameter.{parameter-object, value-or-object, parameter-value, parameter-named, parameter-name};
+ghost use Rattle.parse.specs.Parameter.{name-kind, name-start, parameter};
 ghost use Rattle.parse.specs.Parse.{text-limit};
 ghost use Rattle.parse.specs.Here.{Lent, LentHere};
 
@@ -136,6 +137,27 @@ fn parameter_name(
     parameter_named(text, table, tape, m, kind, start, end)
 }
 
+// The kind of a name, by whether `!` stands before it.
+fn name_kind(undefined: bool) -> ScalarKind
+    ensures { λ r. ⌜ r ≡ name-kind undefined ⌝ }
+{
+    if undefined {
+        return ScalarKind::UndefinedParameter;
+    }
+    ScalarKind::Parameter
+}
+
+// The place of a name behind `[[` or `[[!`.
+fn name_start(at: usize, undefined: bool) -> usize
+    requires { ⌜ at < text-limit ⌝ }
+    ensures { λ r. ⌜ r ≡ name-start at undefined ⌝ }
+{
+    if undefined {
+        return at + 3;
+    }
+    at + 2
+}
+
 // `[[` or `[[!` at the machine's place, with what follows it.
 pub(crate) fn parameter(
     text: &[u8],
@@ -150,8 +172,13 @@ pub(crate) fn parameter(
     if byte_at(text, at + 1) != b'[' {
         return Turn::Refused(Refusal::NoParameter(at));
     }
-    if byte_at(text, at + 2) == b'!' {
-        return parameter_name(text, table, tape, m, ScalarKind::UndefinedParameter, at + 3);
-    }
-    parameter_name(text, table, tape, m, ScalarKind::Parameter, at + 2)
+    let undefined = byte_at(text, at + 2) == b'!';
+    parameter_name(
+        text,
+        table,
+        tape,
+        m,
+        name_kind(undefined),
+        name_start(at, undefined),
+    )
 }

@@ -1,6 +1,5 @@
 // A turn in ParseOpen: what the first entry says that a container is.
 use crate::containers::close_at;
-use crate::parameter::parameter;
 use crate::step::Step;
 use cut::Skipped;
 use machine::Machine;
@@ -20,13 +19,14 @@ use tape::token::ContainerKind;
 use tape::words;
 use tape::words::Pushed;
 ghost use mathlib.Core.Path.{_≡_};
-ghost use Prim.Native.Nat.{_<_};
+ghost use Prim.Native.Nat.{ℕ, _<_};
+ghost use mathlib.Core.List.{List};
 ghost use Rattle.tape.specs.Tape.{view};
 ghost use Rattle.parse.specs.After.{after};
 ghost use Rattle.parse.specs.ParseOpen.{settle, open-empty, open-parameter, open-brace, flag-parent, open-as, parse-open-turn};
 ghost use Rattle.parse.specs.Step.{stepped};
 ghost use Rattle.parse.specs.Parse.{text-limit};
-ghost use Rattle.parse.specs.Here.{Here, LentHere};
+ghost use Rattle.parse.specs.Here.{Here};
 
 // Gives the opener that stands `back` tokens before the count its kind, and goes on inside it with mixed off.
 fn settle(
@@ -62,14 +62,13 @@ fn open_empty(tape: &mut [u32], m: Machine) -> Turn
     }
 }
 
-// `[`: the container is an Object that begins with a parameter.
-fn open_parameter(text: &[u8], table: &[u8; data::BYTE_COUNT], tape: &mut [u32], m: Machine) -> Turn
-    requires { ⌜ LentHere (now text) (now table) m ⌝ }
-    ensures { λ r. ⌜ after r (now (tape .exit)) ≡ open-parameter (now (text .entry)) (view (now (tape .entry)) (m .count)) m ⌝ }
+// `[`: the container is an Object that begins with a parameter, which is due.
+fn open_parameter(tape: &mut [u32], m: Machine) -> Step
+    ensures { λ r. ⌜ ((text : List ℕ) → stepped text r (now (tape .exit)) m ≡ open-parameter text (view (now (tape .entry)) (m .count)) m) ⌝ }
 {
     let mixed = m.mixed;
     if mixed {
-        return Turn::Refused(Refusal::MixedParameter(m.at));
+        return Step::Turned(Turn::Refused(Refusal::MixedParameter(m.at)));
     }
     let opener = less(m.count, 1);
     words::put(
@@ -78,7 +77,7 @@ fn open_parameter(text: &[u8], table: &[u8; data::BYTE_COUNT], tape: &mut [u32],
         opener,
         token::opener(ContainerKind::Object, m.parent, false),
     );
-    parameter(text, table, tape, m.within(opener))
+    Step::Parameter(opener)
 }
 
 // `{`: an empty pair of braces is dropped, else the container is an Array whose first entry is a container.
@@ -135,18 +134,13 @@ pub(crate) fn open_as(text: &[u8], tape: &mut [u32], m: Machine) -> Turn
 }
 
 // A turn in ParseOpen, at a byte that is no blank.
-pub(crate) fn parse_open_turn(
-    text: &[u8],
-    table: &[u8; data::BYTE_COUNT],
-    tape: &mut [u32],
-    m: Machine,
-) -> Step
-    requires { ⌜ LentHere (now text) (now table) m ⌝ }
+pub(crate) fn parse_open_turn(text: &[u8], tape: &mut [u32], m: Machine) -> Step
+    requires { ⌜ Here (now text) m ⌝ }
     ensures { λ r. ⌜ stepped (now (text .entry)) r (now (tape .exit)) m ≡ parse-open-turn (now (text .entry)) (view (now (tape .entry)) (m .count)) m ⌝ }
 {
     match open_byte(byte_at(text, m.at)) {
         OpenByte::Closer => Step::Turned(open_empty(tape, m)),
-        OpenByte::Bracket => Step::Turned(open_parameter(text, table, tape, m)),
+        OpenByte::Bracket => open_parameter(tape, m),
         OpenByte::Brace => Step::Turned(open_brace(text, tape, m)),
         OpenByte::Other => Step::Scalar(State::ParseOpen),
     }

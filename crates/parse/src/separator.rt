@@ -16,7 +16,7 @@ ghost use Prim.Native.Nat.{_≤_, _<_};
 ghost use Rattle.tape.specs.Tape.{view};
 ghost use Rattle.parse.specs.After.{after, next};
 ghost use Rattle.parse.specs.KeyValueSeparator.{mix-then, separator-then, separator-turn};
-ghost use Rattle.parse.specs.Equals.{is-separator, past-equals};
+ghost use Rattle.parse.specs.Equals.{is-separator, at-equals, past-equals};
 ghost use Rattle.parse.specs.Parse.{text-limit};
 ghost use Rattle.parse.specs.Here.{Here};
 
@@ -79,20 +79,30 @@ fn is_separator(state: State) -> bool
     }
 }
 
-// The machine past the `=` that most keys have right behind them, which adds no token: a turn of its own would find the same.
-pub(crate) fn past_equals(text: &[u8], m: Machine) -> Machine
-    ensures { λ r. ⌜ r ≡ past-equals (now (text .entry)) m ⌝ }
+// Whether the `=` that most keys have right behind them, and no second one, is next.
+fn at_equals(text: &[u8], m: Machine) -> bool
+    ensures { λ r. ⌜ r ≡ at-equals (now (text .entry)) m ⌝ }
 {
     let state = m.state;
     if !is_separator(state) {
-        return m;
+        return false;
     }
     let at = m.at;
     if byte_at(text, at) != b'=' {
-        return m;
+        return false;
     }
-    if byte_at(text, at + 1) == b'=' {
-        return m;
+    byte_at(text, at + 1) != b'='
+}
+
+// The machine past that `=`, which adds no token: a turn of its own would find the same. Else the machine as it is, made anew field by field.
+pub(crate) fn past_equals(text: &[u8], m: Machine) -> Machine
+    ensures { λ r. ⌜ r ≡ past-equals (now (text .entry)) m ⌝ }
+{
+    let mut at = m.at;
+    let mut state = m.state;
+    if at_equals(text, m) {
+        at += 1;
+        state = State::ObjectValue;
     }
-    m.to(at + 1, State::ObjectValue, m.count)
+    m.to(at, state, m.count)
 }

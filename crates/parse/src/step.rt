@@ -1,5 +1,5 @@
-// A step of any state, and the scalar that it leaves due: the states answer that a scalar is due and which state follows,
-// and one place cuts it, so that the cut is compiled into the loop.
+// A step of any state, and the scalar that it leaves due. What more than one state leads to, a scalar, an operator among values, a parameter,
+// is left due by the state and taken at one place, so that it is compiled into the loop, and the machine passes from turn to turn in registers.
 use crate::parse_open::flag_parent;
 use crate::parse_open::open_as;
 use crate::scalars::Scalar;
@@ -19,19 +19,23 @@ ghost use Rattle.parse.specs.After.{after};
 ghost use Rattle.parse.specs.Step.{entered, entry};
 ghost use Rattle.parse.specs.Parse.{text-limit};
 
-// What a state makes of a byte: a whole turn, or that a scalar is due and the state after it.
+// What a state makes of a byte: a whole turn; or that a scalar is due, and the state after it; that an operator of a mixed container is due, and
+// how many tokens stand on the tape; or that a parameter is due, and inside which opener.
 pub enum Step {
     Turned(Turn),
     Scalar(State),
+    Operator(u32),
+    Parameter(u32),
 }
 
-// After a scalar: in ParseOpen it is the container's first entry, and the byte behind it decides.
+// After a scalar: in ParseOpen it is the container's first entry, and the byte behind it decides. Else the machine goes on as it is, made anew
+// field by field, since a copy of the whole would go through memory.
 fn entered(text: &[u8], tape: &mut [u32], m: Machine) -> Turn
     ensures { λ r. ⌜ after r (now (tape .exit)) ≡ entered (now (text .entry)) (view (now (tape .entry)) (m .count)) m ⌝ }
 {
     let state = m.state;
     if !is_parse_open(state) {
-        return Turn::Next(m);
+        return Turn::Next(m.to(m.at, state, m.count));
     }
     flag_parent(tape, m);
     open_as(text, tape, m)

@@ -11,15 +11,6 @@ insert-mixed-requires c κs = search needs
 enum-known-count : tie.Need-enum-known-count
 enum-known-count c = search needs
 
-mixed-on-requires : tie.Need-mixed-on-requires
-mixed-on-requires c κs = search needs
-
-operator-then-requires : tie.Need-operator-then-requires
-operator-then-requires c κs =
-    let at-count = c .before .before .before in
-    let at-start = at-count .before .before .before .before .before .before .before .before in
-    (at-start .pre .0, rw (c .mixed-on .ensures) (at-start .pre .1))
-
 enum-told : tie.Need-enum-told
 enum-told c = search needs
 
@@ -28,19 +19,16 @@ same-length c = search needs
 
 returns : tie.Need-returns
 unfolding mix-then
-returns c =
-    let at-call = c .before .before in
-    let at-machine = at-call .before in
-    let at-count = at-machine .before .before .before in
-    let at-insert = at-count .before .before .before .before in
-    rw (mix-then, ← (at-insert .insert-mixed .ensures .1), at-count .count .given .1, at-call .operator-then .ensures, at-machine .mixed-on .ensures)
+returns c text =
+    let at-count = c .before in
+    rw (mix-then, ← (at-count .before .before .before .before .insert-mixed .ensures .1), at-count .count .given .1)
 
 same-length-2 : tie.Need-same-length-2
 same-length-2 c = search needs
 
 returns-2 : tie.Need-returns-2
 unfolding mix-then
-returns-2 c = rw (mix-then, ← (c .before .before .before .before .insert-mixed .ensures .1), c .enum-told .given .1)
+returns-2 c text = rw (mix-then, ← (c .before .before .before .before .insert-mixed .ensures .1), c .enum-told .given .1)
 
 pub mixed-operator-spec : {M : Type 1} → statement M
 mixed-operator-spec =
@@ -48,8 +36,6 @@ mixed-operator-spec =
     (tie.spec
     insert-mixed-requires
     enum-known-count
-    mixed-on-requires
-    operator-then-requires
     enum-told
     same-length
     returns

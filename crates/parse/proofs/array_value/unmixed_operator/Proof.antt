@@ -57,7 +57,7 @@ returns c =
       ← (at-token .token .ensures),
       ← (at-standing .standing .ensures),
       at-enum-told .enum-told .given .1,
-    ) (at-mixed-operator .mixed-operator .ensures)
+    ) (at-mixed-operator .mixed-operator .ensures _)
 
 same-length-2 : tie.Need-same-length-2
 same-length-2 c = search needs
@@ -76,7 +76,7 @@ returns-2 c =
       ← (at-token .token .ensures),
       ← (at-standing .standing .ensures),
       at-enum-told2 .enum-told2 .given .1,
-    ) (at-mixed-operator2 .mixed-operator2 .ensures)
+    ) (at-mixed-operator2 .mixed-operator2 .ensures _)
 
 same-length-3 : tie.Need-same-length-3
 same-length-3 c = search needs

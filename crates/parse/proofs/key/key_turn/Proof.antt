@@ -27,9 +27,6 @@ key-brace-requires c κs = search needs
 enum-told-3 : tie.Need-enum-told-3
 enum-told-3 c = search needs
 
-parameter-requires : tie.Need-parameter-requires
-parameter-requires c κs = search needs
-
 enum-told-4 : tie.Need-enum-told-4
 enum-told-4 c = search needs
 
@@ -67,22 +64,9 @@ returns-2 c =
       at-enum-told2 .enum-told2 .given .1,
     ) (at-key-brace .key-brace .ensures)
 
-same-length-3 : tie.Need-same-length-3
-same-length-3 c = search needs
-
 returns-3 : tie.Need-returns-3
 unfolding key-turn
-returns-3 c =
-    let at-parameter = c .before .before in
-    let at-enum-told3 = at-parameter .before .before in
-    let at-key-byte = at-enum-told3 .before .before in
-    let at-byte-at = at-key-byte .before in
-    rw (
-      key-turn,
-      ← (at-byte-at .byte-at .ensures),
-      ← (at-key-byte .key-byte .ensures),
-      at-enum-told3 .enum-told3 .given .1,
-    ) (at-parameter .parameter .ensures)
+returns-3 c = rw (key-turn, ← (c .before .before .before .byte-at .ensures), ← (c .before .before .key-byte .ensures), c .enum-told3 .given .1)
 
 returns-4 : tie.Need-returns-4
 unfolding key-turn entry
@@ -99,12 +83,10 @@ key-turn-spec =
     enum-told-2
     key-brace-requires
     enum-told-3
-    parameter-requires
     enum-told-4
     same-length
     returns
     same-length-2
     returns-2
-    same-length-3
     returns-3
     returns-4)

@@ -1,8 +1,12 @@
 -- `parse::parameter::parameter` meets its contract: its tests are those of `parameter`.
 -- Assumes nothing.
+use mathlib.Core.Path.{sym, _∙_}
 use borrow.Author.Needs.{needs}
-use borrow.Author.Tests.{eq-eqb, ne-eqb}
+use borrow.Author.Tests.{ne-eqb}
+use denote.Ref.{now}
+use Rattle.tape.specs.Tape.{view}
 use Rattle.parse.specs.Parameter.{parameter}
+use Rattle.parse.proofs.Steps.{parameter-read}
 use Rattle.parse.proofs.parameter.parameter.Statement.{statement}
 use Rattle.parse.proofs.parameter.parameter.Tie as tie
 
@@ -22,8 +26,11 @@ add-byte-at-2 c = search needs
 byte-at-requires-2 : tie.Need-byte-at-requires-2
 byte-at-requires-2 c κs = search needs
 
-add-parameter-name : tie.Need-add-parameter-name
-add-parameter-name c = search needs
+name-kind-requires : tie.Need-name-kind-requires
+name-kind-requires c κs = search needs
+
+name-start-requires : tie.Need-name-start-requires
+name-start-requires c κs = search needs
 
 parameter-name-requires : tie.Need-parameter-name-requires
 parameter-name-requires c κs = search needs
@@ -32,45 +39,20 @@ same-length : tie.Need-same-length
 same-length c = search needs
 
 returns-2 : tie.Need-returns-2
-unfolding parameter
 returns-2 c =
-    let at-parameter-name = c .before .before in
-    let at-if2 = at-parameter-name .before .before in
-    let at-byte-at2 = at-if2 .before in
-    let at-if1 = at-byte-at2 .before in
-    let at-byte-at = at-if1 .before in
+    let at-name = c .before .before in
+    let at-start = at-name .before in
+    let at-kind = at-start .before in
+    let at-second = at-kind .before .before in
+    let at-first = at-second .before .before in
+    let a = at-first .before .before .before .args in
     rw (
-      parameter,
-      ← (at-byte-at .byte-at .ensures),
-      eq-eqb _ _ (at-if1 .if1 .left),
-      ← (at-byte-at2 .byte-at2 .ensures),
-      eq-eqb _ _ (at-if2 .if2 .taken),
-    ) (at-parameter-name .parameter-name .ensures)
-
-add-parameter-name-2 : tie.Need-add-parameter-name-2
-add-parameter-name-2 c = search needs
-
-parameter-name-requires-2 : tie.Need-parameter-name-requires-2
-parameter-name-requires-2 c κs = search needs
-
-same-length-2 : tie.Need-same-length-2
-same-length-2 c = search needs
-
-returns-3 : tie.Need-returns-3
-unfolding parameter
-returns-3 c =
-    let at-parameter-name2 = c .before .before in
-    let at-if2 = at-parameter-name2 .before .before in
-    let at-byte-at2 = at-if2 .before in
-    let at-if1 = at-byte-at2 .before in
-    let at-byte-at = at-if1 .before in
-    rw (
-      parameter,
-      ← (at-byte-at .byte-at .ensures),
-      eq-eqb _ _ (at-if1 .if1 .left),
-      ← (at-byte-at2 .byte-at2 .ensures),
-      ne-eqb _ _ (at-if2 .if2 .left),
-    ) (at-parameter-name2 .parameter-name2 .ensures)
+      parameter-read (now (a .text)) (view (now (a .tape)) (a .m .count)) (a .m) (sym (at-first .byte-at .ensures) ∙ at-second .before .if1 .left),
+      at-name .parameter-name .ensures,
+      at-kind .name-kind .ensures,
+      at-start .name-start .ensures,
+      at-second .byte-at2 .ensures,
+    )
 
 pub parameter-spec : {M : Type 1} → statement M
 parameter-spec =
@@ -81,11 +63,8 @@ parameter-spec =
     returns
     add-byte-at-2
     byte-at-requires-2
-    add-parameter-name
+    name-kind-requires
+    name-start-requires
     parameter-name-requires
     same-length
-    returns-2
-    add-parameter-name-2
-    parameter-name-requires-2
-    same-length-2
-    returns-3)
+    returns-2)

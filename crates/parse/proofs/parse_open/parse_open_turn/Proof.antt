@@ -65,7 +65,7 @@ returns-2 c =
       ← (at-byte-at .byte-at .ensures),
       ← (at-open-byte .open-byte .ensures),
       at-enum-told2 .enum-told2 .given .1,
-    ) (at-open-parameter .open-parameter .ensures)
+    ) (at-open-parameter .open-parameter .ensures _)
 
 same-length-3 : tie.Need-same-length-3
 same-length-3 c = search needs

@@ -9,9 +9,14 @@ use Rattle.parse.proofs.step.entered.Tie as tie
 is-parse-open-requires : tie.Need-is-parse-open-requires
 is-parse-open-requires c κs = search needs
 
+to-requires : tie.Need-to-requires
+to-requires c κs = search needs
+
 returns : tie.Need-returns
 unfolding entered
-returns c = rw (entered, ← (c .before .is-parse-open .ensures), not-true (c .before .is-parse-open .result) (c .if1 .taken))
+returns c =
+    let at-state = c .before .before in
+    rw (entered, ← (at-state .is-parse-open .ensures), not-true (at-state .is-parse-open .result) (c .before .if1 .taken), c .to .ensures)
 
 flag-parent-requires : tie.Need-flag-parent-requires
 flag-parent-requires c κs = search needs
@@ -42,6 +47,7 @@ entered-spec =
     tie.close
     (tie.spec
     is-parse-open-requires
+    to-requires
     returns
     flag-parent-requires
     open-as-requires
