@@ -17,11 +17,11 @@ use Rattle.data.proofs.Cases as cases
 use Rattle.data.specs.Bytes.{quote, backslash}
 use Rattle.data.specs.Classes.{is-boundary, byte-count}
 use Rattle.cut.specs.Lanes.{Bytes, Lane, word, spread, value, on, over, stays}
-use Rattle.cut.specs.Marks.{may-end, may-close, top, turns-quote, word-size, stride, tops, all-unmarked, first-mark}
-use Rattle.cut.specs.Marks.{Marks, Calm, marks-at, Finds}
+use Rattle.cut.specs.Marks.{may-end, may-close, top, turns-quote, word-size, stride, tops, all-unmarked}
+use Rattle.cut.specs.Marks.{word-mark, first-mark, Marks, Calm, marks-at, Finds}
 use Rattle.cut.proofs.Lanes.{keeps, over-each, over-below}
 use Rattle.cut.proofs.Words.{each, each-append, bytes, length-bytes, bytes-bytes, word-bytes}
-use Rattle.cut.proofs.Zeros.{zero-bytes}
+use Rattle.cut.proofs.Zeros.{zero-bytes, zeros-above, zeros-below}
 
 -- that a mask marks a set, as a test of a byte
 unfoldable pub marks : (ℕ → Bool) → Lane → ℕ → Bool
@@ -53,6 +53,21 @@ bytes-take (suc n) (b ∷ bs) h (suc k) = bytes-take n bs (λ j. h (suc j)) k
 
 bytes-drop : (n : ℕ) (bs : List ℕ) → Bytes bs → Bytes (drop n bs)
 bytes-drop n bs h k = rw (getD-drop n bs k 0) (h (n + k))
+
+-- no more than the eight bytes of a word stand before its first mark
+pub mark-few : (x : ℕ) → word-mark x ≤ word-size
+unfolding word-mark
+mark-few x = omega (arith, trailing-le 64 (bitAnd x tops))
+
+-- the first mark of two words is the first word's, where that has one, and else the second's
+pub mark-first : (x y : ℕ) → (bitAnd x tops ≡ 0 → ⊥) → word-mark x ≡ first-mark x y
+unfolding word-mark first-mark
+mark-first x y some =
+    ap (λ (n : ℕ). n / 8) (sym (zeros-below 64 64 (bitAnd y tops) (bitAnd x tops) (omega (arith, and-le-r x tops)) some))
+
+pub mark-second : (x y : ℕ) → bitAnd x tops ≡ 0 → word-size + word-mark y ≡ first-mark x y
+unfolding word-mark first-mark
+mark-second x y none = rw (first-mark, none) (omega (arith, zeros-above 64 64 (bitAnd y tops)))
 
 -- two words without a mark have all their bytes before it
 pub first-of-none : (x y : ℕ) → all-unmarked x y ≡ true → first-mark x y ≡ stride
@@ -133,6 +148,28 @@ looked wanted e find d bytes i last reach here w v x y first marked-first second
       within = within;
       whole = λ u. calm stride (sym (first-of-none x y u));
       marked = λ n q. (calm n q, omega (arith, calm n q .few));
+    }
+
+-- fewer bytes of calm ones are calm
+calm-less : (wanted : ℕ → Bool) (d : List ℕ) (i m n : ℕ) → m ≤ n → Calm wanted d i n → Calm wanted d i m
+calm-less wanted d i m n le c = record { few = omega (arith, c .few); none = λ k l. c .none k (omega arith) }
+
+-- a word as the code looks at it by itself, where there is a stride: without a mark it is calm, and else what stands before its first mark is, and
+-- the marked byte stands in the part
+pub record Peeked (wanted : ℕ → Bool) (d : List ℕ) (i x : ℕ) : Type 0 where
+  pub whole : bitAnd x tops ≡ 0 → Calm wanted d i word-size
+  pub marked : (bitAnd x tops ≡ 0 → ⊥) → (n : ℕ) → n ≡ word-mark x → Calm wanted d i n × (i + n < length d)
+
+-- it is the first of two words, whose second is not computed
+pub peeked : (wanted : ℕ → Bool) (e : Lane) → Finds wanted e → (d : List ℕ) → Bytes d → (i : ℕ) → i + stride ≤ length d
+    → (w x : ℕ) → w ≡ word (take word-size (drop i d)) → x ≡ over e word-size w → Peeked wanted d i x
+peeked wanted e find d bytes i within w x first marked-first =
+    let y : ℕ = marks-at e d (i + word-size) in
+    let calm : (n : ℕ) → n ≡ first-mark x y → Calm wanted d i n =
+    λ n. find d bytes i x y n within (marked-first ∙ ap (over e word-size) first) refl in
+    record {
+      whole = λ none. calm-less wanted d i word-size (first-mark x y) (omega (arith, mark-second x y none)) (calm (first-mark x y) refl);
+      marked = λ some n q. (calm n (q ∙ mark-first x y some), omega (arith, mark-few x));
     }
 
 -- the two uses, each computed over the 256 bytes: the thirteen, and quote and backslash

@@ -1,19 +1,21 @@
 -- Reading a quoted run, a byte at a time, where it ends, and whether a backslash took part in it.
 -- Assumes nothing.
 use mathlib.Core.Path.{_≡_, refl, sym, _∙_, ap}
-use mathlib.Core.Bool.{Bool, true, false, _||_, false≢true}
+use mathlib.Core.Bool.{Bool, true, false, not, _||_, false≢true}
 use mathlib.Core.List.{List, [], _∷_}
 use mathlib.Core.Logic.{_⊎_, inl, inr, _↔_}
 use Prim.Native.Nat.{ℕ, zero, suc, _+_, _≤_, _<_}
 use native.Mathlib.Omega.{arith}
-use borrow.Author.Tests.{eq-eqb, ne-eqb, eqb-true, eqb-false, ltb-true, ltb-false}
+use borrow.Author.Tests.{not-true, eq-eqb, ne-eqb, eqb-true, eqb-false, ltb-true, ltb-false}
 use lib.Dec.{eqb, ltb}
 use lib.ListN.{length, getD, drop, drop-of-length-le}
-use Rattle.data.proofs.Cases.{by-bool}
+use Rattle.data.proofs.Cases.{by-bool, both}
 use Rattle.data.specs.Bytes.{quote, backslash}
-use Rattle.cut.specs.Quotes.{quoted-from, skipped-from, quoted-run, Backslash, Tells}
+use Rattle.cut.specs.Marks.{turns-quote}
+use Rattle.cut.specs.Quotes.{quoted-from, skipped-from, quoted-run, closes-soon, Backslash, Tells}
 use Rattle.cut.specs.declared.Quoted.{Quoted}
 use Rattle.cut.specs.declared.Quoted.the-variants.{Closed, Unclosed}
+use Rattle.cut.proofs.Marks.{no-turn}
 use Rattle.cut.proofs.Places.{drop-here, by-place}
 
 -- the byte that a backslash skips, or the end where there is none
@@ -181,3 +183,36 @@ unfolding quoted-run
 quoted-moved bytes at e =
     ap (λ (k : ℕ). quoted-from bytes k e) {x = at} {y = at + 0} (omega arith)
     ∙ ap (quoted-from bytes (at + 0)) (sym (or-false e)) ∙ moves bytes at e .0 0 false
+
+-- ---- a run of one byte
+
+-- not of fewer than two bytes, nor before a second that is no quote
+pub soon-short : (d : List ℕ) → length d < 2 → closes-soon d ≡ false
+unfolding closes-soon
+soon-short [] h = refl
+soon-short (b ∷ []) h = refl
+soon-short (b ∷ next ∷ bs) h = absurd (omega arith)
+
+pub soon-other : (d : List ℕ) → (getD d 1 0 ≡ quote → ⊥) → closes-soon d ≡ false
+unfolding closes-soon
+soon-other [] n = refl
+soon-other (b ∷ []) n = refl
+soon-other (b ∷ next ∷ bs) n = rw (ne-eqb next quote n)
+
+-- before a quote the first byte decides
+pub soon-quote : (d : List ℕ) → 1 < length d → getD d 1 0 ≡ quote → closes-soon d ≡ not (turns-quote (getD d 0 0))
+unfolding closes-soon
+soon-quote [] h q = absurd (omega arith)
+soon-quote (b ∷ []) h q = absurd (omega arith)
+soon-quote (b ∷ next ∷ bs) h q = rw (eq-eqb next quote q)
+
+-- then the run is closed at its second byte
+pub soon-run : (d : List ℕ) → closes-soon d ≡ true → quoted-run d ≡ Closed 1 false
+unfolding closes-soon quoted-run
+soon-run [] e = absurd (false≢true e)
+soon-run (b ∷ []) e = absurd (false≢true e)
+soon-run (b ∷ next ∷ bs) e =
+    let p = both (eqb next quote) (not (turns-quote b)) e in
+    let n = no-turn b (not-true (turns-quote b) (p .1)) in
+    quoted-goes-on (b ∷ next ∷ bs) 0 false (omega arith) (n .0) (n .1)
+    ∙ quoted-closes (b ∷ next ∷ bs) 1 false (omega arith) (eqb-true next quote (p .0))

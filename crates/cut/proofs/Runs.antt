@@ -106,6 +106,25 @@ run-stop stops [] n e some = absurd (some (sym e))
 run-stop stops (b ∷ bs) n e some =
     by-bool (stops b) (λ t. absurd (some (sym (rw (stop-from, t) at e)))) (λ f. rw (run-of, f) (rw (stop-from, f) at e))
 
+-- one that stops at once stops at the head, which is a run of its own
+pub run-at-once : (stops : ℕ → Bool) (bytes : List ℕ) → 0 < length bytes → stop-from stops bytes 0 ≡ 0 → run-of stops bytes ≡ 1
+run-at-once stops bytes h e =
+    by-bool (stops (getD bytes 0 0))
+    (λ t. run-head stops bytes h t)
+    (λ f. absurd (omega (arith, stop-later stops bytes 0 h f, scanned stops bytes 1 .from)))
+
+-- one that goes on from a later place passes some
+pub run-later : (stops : ℕ → Bool) (bytes : List ℕ) (from : ℕ) → 0 < from → stop-from stops bytes 0 ≡ stop-from stops (drop from bytes) from
+    → run-of stops bytes ≡ stop-from stops (drop from bytes) from
+run-later stops bytes from h e = run-stop stops bytes _ e (λ z. omega (arith, scanned stops bytes from .from))
+
+-- and before a second byte that stops it the run is the head, whatever that is
+pub run-second : (stops : ℕ → Bool) (bytes : List ℕ) → 1 < length bytes → stops (getD bytes 1 0) ≡ true → run-of stops bytes ≡ 1
+run-second stops bytes h e =
+    by-bool (stops (getD bytes 0 0))
+    (λ t. run-head stops bytes (omega arith) t)
+    (λ f. run-scan stops bytes (omega arith) f ∙ stop-here stops bytes 1 h e)
+
 -- an unquoted run from a place to an end: at least one byte; a byte that stops it is a run of its own, and after any other there is none that
 -- stops it, and one that does unless the text ends
 pub record Run (stops : ℕ → Bool) (text : List ℕ) (at end : ℕ) : Type 0 where

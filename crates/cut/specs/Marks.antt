@@ -1,4 +1,4 @@
--- Two masks, each of which marks the bytes that a cut looks for, and a few others, by a byte's top bit; and the first mark of two words.
+-- Two masks, each of which marks the bytes that a cut looks for, and a few others, by a byte's top bit; and the first mark of one word and of two.
 use Prim.Native.Nat.{ℕ, _+_, _*_, _/_, _^_, _≤_, _<_}
 use mathlib.Core.Path.{_≡_}
 use mathlib.Core.Bool.{Bool, true, false}
@@ -12,13 +12,13 @@ use Rattle.cut.specs.Lanes.{Bytes, word, Lane, it, all, both, either, di
 
 -- ---- the masks
 
--- what may end an unquoted run: up to `#`, and by the low five bits `;` `<` `=` `>` `[` `]` `{` `}`, and with them `\` `^` `|` `~`. A byte from
--- 128 on is marked as the one 128 less
+-- what may end an unquoted run: up to `#`, and by the low five bits `;` `<` `=` `>` `[` `]` `{` `}`, and with them `\` `^` `|` `~`. One more than
+-- these has 0x1c to 0x1f in its low five bits, and one more than `_` has none there. A byte from 128 on is marked as the one 128 less
 abbrev pub may-end : Lane
 may-end =
     either
-    (minus (all 0xa3) (both it (all 0x7f)))
-    (differ (plus (both it (all 0x1f)) (all 0x65)) (plus (both it (all 0x1f)) (all 0x61)))
+    (plus (differ (both it (all 0x7f)) (all 0x7f)) (all 0x24))
+    (plus (both (plus (both it (all 0x7f)) (all 0x01)) (all 0x1f)) (all 0x64))
 
 -- what may close a quoted run, or skip a byte of it: a quote and a backslash, and the two bytes 128 more
 abbrev pub may-close : Lane
@@ -35,7 +35,7 @@ top e = both e (all 0x80)
 unfoldable pub turns-quote : ℕ → Bool
 turns-quote b = elim (eqb b quote) [ true ↦ true | false ↦ eqb b backslash ]
 
--- ---- two words
+-- ---- one word, and two
 
 -- how many bytes a word has, and the two of a step
 abbrev pub word-size : ℕ
@@ -51,6 +51,10 @@ tops = 0x8080_8080_8080_8080
 -- whether two words have no mark
 unfoldable pub all-unmarked : ℕ → ℕ → Bool
 all-unmarked x y = eqb (bitOr (bitAnd x tops) (bitAnd y tops)) 0
+
+-- how many bytes stand before the first mark of a word; all eight where there is none
+unfoldable pub word-mark : ℕ → ℕ
+word-mark x = trailingZeros 64 (bitAnd x tops) / 8
 
 -- how many bytes stand before the first mark of two words, the second above the first; all of them where there is none
 unfoldable pub first-mark : ℕ → ℕ → ℕ

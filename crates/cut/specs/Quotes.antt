@@ -2,12 +2,13 @@
 -- The quoted cut also says whether a backslash took part in it: whether one stands in its view, whatever follows that.
 use Prim.Native.Nat.{ℕ, _+_, _≤_, _<_}
 use mathlib.Core.Path.{_≡_}
-use mathlib.Core.Bool.{Bool, true, false}
+use mathlib.Core.Bool.{Bool, true, false, not, _&&_}
 use mathlib.Core.List.{List, [], _∷_}
 use mathlib.Core.Logic.{_↔_}
 use lib.Dec.{eqb}
 use lib.ListN.{getD}
 use Rattle.data.specs.Bytes.{quote, backslash}
+use Rattle.cut.specs.Marks.{turns-quote}
 use Rattle.cut.specs.declared.Quoted.{Quoted}
 use Rattle.cut.specs.declared.Quoted.the-variants.{Closed, Unclosed}
 
@@ -28,6 +29,12 @@ unfoldable mutual
 -- how many of the bytes after an opening quote stand before the one that closes it, and whether a backslash took part
 unfoldable pub quoted-run : List ℕ → Quoted
 quoted-run bytes = quoted-from bytes 0 false
+
+-- whether the first of the bytes after an opening quote is all of its run: the second is a quote, and the first neither a quote nor a backslash
+unfoldable pub closes-soon : List ℕ → Bool
+closes-soon [] = false
+closes-soon (b ∷ []) = false
+closes-soon (b ∷ next ∷ bs) = eqb next quote && not (turns-quote b)
 
 -- ---- what the flag says of a view
 -- a backslash stands among the bytes from one place to before another

@@ -140,7 +140,7 @@ pub fn run_end(text: &[u8], at: usize) -> usize
     ensures { λ r. ⌜ r ≡ run-end (now (text .entry)) at ⌝ }
 {
     if at < text.len() {
-        at + strides::split_at_scalar(&text[at..])
+        at + strides::split_unguessed(&text[at..])
     } else {
         at
     }
@@ -151,7 +151,7 @@ fn quoted_at(text: &[u8], start: usize) -> Cut
     requires { ⌜ start ≤ length (now text) ⌝ }
     ensures { λ r. ⌜ r ≡ quoted start (quoted-run (drop start (now (text .entry)))) ⌝ }
 {
-    match strides::parse_quote_scalar(&text[start..]) {
+    match strides::quote_unguessed(&text[start..]) {
         Quoted::Closed { length, escaped } => {
             let end = start + length;
             let rest = end + 1;

@@ -1,14 +1,17 @@
 // The second pair of cuts: what the plain pair answers, by a look at eight bytes in one u64, as the Rust's routine for quotes has it where
 // there is no SSE2, and at two such words a step. A mask marks every byte that a cut looks for, and a few others: the marked byte itself is
 // tested before it counts. The last bytes are looked at one by one, so that nothing is read past the part.
+// The pair begins with what is quick where runs are alike: a run of one byte, and an unquoted one of less than a word. Which of these comes
+// next cannot be guessed in a save, so the scalars of a text are cut by what stands below the pair (`split_unguessed`, `quote_unguessed`),
+// which begins with a stride.
 use crate::Quoted;
 ghost use mathlib.Core.Path.{_≡_};
 ghost use Prim.Native.Nat.{_+_, _-_, _≤_, _<_};
 ghost use lib.ListN.{length, take, drop};
 ghost use Rattle.data.specs.Classes.{is-boundary};
 ghost use Rattle.cut.specs.Lanes.{word, over};
-ghost use Rattle.cut.specs.Marks.{may-end, may-close, word-size, stride, all-unmarked, first-mark};
-ghost use Rattle.cut.specs.Quotes.{quoted-from, quoted-run};
+ghost use Rattle.cut.specs.Marks.{may-end, may-close, word-size, stride, all-unmarked, word-mark, first-mark};
+ghost use Rattle.cut.specs.Quotes.{quoted-from, quoted-run, closes-soon};
 ghost use Rattle.cut.specs.Runs.{stop-from, unquoted-run};
 
 // How many bytes a word has, and a step of two words.
@@ -46,9 +49,9 @@ fn eight(d: &[u8], i: usize) -> u64
 fn may_end(x: u64) -> u64
     ensures { λ r. ⌜ r ≡ over may-end word-size x ⌝ }
 {
-    let low = x & 0x1f1f_1f1f_1f1f_1f1f;
-    let small = 0xa3a3_a3a3_a3a3_a3a3 - (x & 0x7f7f_7f7f_7f7f_7f7f);
-    let signs = (low + 0x6565_6565_6565_6565) ^ (low + 0x6161_6161_6161_6161);
+    let z = x & 0x7f7f_7f7f_7f7f_7f7f;
+    let small = (z ^ 0x7f7f_7f7f_7f7f_7f7f) + 0x2424_2424_2424_2424;
+    let signs = ((z + 0x0101_0101_0101_0101) & 0x1f1f_1f1f_1f1f_1f1f) + 0x6464_6464_6464_6464;
     small | signs
 }
 
@@ -67,6 +70,13 @@ fn all_unmarked(x: u64, y: u64) -> bool
     ((x & TOPS) | (y & TOPS)) == 0
 }
 
+// How many bytes stand before the first mark of a word; all eight where there is none.
+fn word_mark(x: u64) -> usize
+    ensures { λ r. ⌜ r ≡ word-mark x ⌝ }
+{
+    (u64::trailing_zeros(x & TOPS) >> 3) as usize
+}
+
 // How many bytes stand before the first mark of two words; all sixteen where there is none.
 fn first_mark(x: u64, y: u64) -> usize
     ensures { λ r. ⌜ r ≡ first-mark x y ⌝ }
@@ -77,7 +87,7 @@ fn first_mark(x: u64, y: u64) -> usize
         word = y;
         skip = WORD;
     }
-    skip + ((u64::trailing_zeros(word & TOPS) >> 3) as usize)
+    skip + word_mark(word)
 }
 
 // How many places of so many bytes there are from which a stride and one byte more can be read.
@@ -101,11 +111,11 @@ fn stop_tail(d: &[u8], at: usize) -> usize
     i
 }
 
-// The first boundary byte of a part, or its end. A stride without a mark is passed whole.
-fn stop_far(d: &[u8]) -> usize
-    ensures { λ r. ⌜ r ≡ stop-from is-boundary (now (d .entry)) 0 ⌝ }
+// The same. A stride without a mark is passed whole.
+fn stop_far(d: &[u8], at: usize) -> usize
+    ensures { λ r. ⌜ r ≡ stop-from is-boundary (drop at (now (d .entry))) at ⌝ }
 {
-    let mut i = 0;
+    let mut i = at;
     let last = strides(d.len());
     while i < last {
         let x = may_end(eight(d, i));
@@ -123,7 +133,8 @@ fn stop_far(d: &[u8]) -> usize
     stop_tail(d, i)
 }
 
-// The same. Most runs end within the first stride, which is therefore looked at by itself, with no branch before its first mark.
+// The first boundary byte of a part, or its end. Most runs end within the first stride, which is therefore looked at by itself, with no
+// branch before its first mark.
 fn stop(d: &[u8]) -> usize
     ensures { λ r. ⌜ r ≡ stop-from is-boundary (now (d .entry)) 0 ⌝ }
 {
@@ -133,18 +144,59 @@ fn stop(d: &[u8]) -> usize
             return n;
         }
     }
-    stop_far(d)
+    stop_far(d, 0)
 }
 
-// How long the unquoted run at the head of a part is, by the thirteen boundary bytes. One at the head is a run of its own.
-pub fn split_at_scalar(d: &[u8]) -> usize
+// How long the run at the head of a part is that stops at a place: one byte where that is the head.
+fn run_to(d: &[u8], n: usize) -> usize
+    requires { ⌜ n ≡ stop-from is-boundary (now d) 0 ⌝ }
     ensures { λ r. ⌜ r ≡ unquoted-run (now (d .entry)) ⌝ }
 {
-    let n = stop(d);
     if n != 0 {
         return n;
     }
     if d.len() == 0 { 0 } else { 1 }
+}
+
+// How long the unquoted run at the head of a part is, by the thirteen boundary bytes, for runs of all lengths one after the other.
+pub(crate) fn split_unguessed(d: &[u8]) -> usize
+    ensures { λ r. ⌜ r ≡ unquoted-run (now (d .entry)) ⌝ }
+{
+    run_to(d, stop(d))
+}
+
+// The same of a part that has more than a word and a stride, whose first word is looked at by itself.
+fn split_word(d: &[u8]) -> usize
+    requires { ⌜ word-size + stride < length (now d) ⌝ }
+    ensures { λ r. ⌜ r ≡ unquoted-run (now (d .entry)) ⌝ }
+{
+    let x = may_end(eight(d, 0));
+    let mut from = WORD;
+    if (x & TOPS) != 0 {
+        let n = word_mark(x);
+        if data::is_boundary(d[n]) {
+            return if n == 0 { 1 } else { n };
+        }
+        from = n + 1;
+    }
+    stop_far(d, from)
+}
+
+// How long the unquoted run at the head of a part is, by the thirteen boundary bytes. One at the head is a run of its own, and so is a byte
+// before one: what usually ends a run, all but the brackets, stands before `@`.
+pub fn split_at_scalar(d: &[u8]) -> usize
+    ensures { λ r. ⌜ r ≡ unquoted-run (now (d .entry)) ⌝ }
+{
+    if d.len() <= WORD + STRIDE {
+        return run_to(d, stop_tail(d, 0));
+    }
+    let second = d[1];
+    if second < b'@' {
+        if data::is_boundary(second) {
+            return 1;
+        }
+    }
+    split_word(d)
 }
 
 // The quoted run from a place on, with a backslash before it or none, by the plain cut of what is left. A backslash may have skipped past
@@ -164,8 +216,9 @@ fn quote_tail(d: &[u8], at: usize, before: bool) -> Quoted
     }
 }
 
-// How long the quoted run after an opening quote is, and whether a backslash takes part in it. A stride without a mark is passed whole.
-pub fn parse_quote_scalar(d: &[u8]) -> Quoted
+// How long the quoted run after an opening quote is, and whether a backslash takes part in it, for runs of all lengths one after the other.
+// A stride without a mark is passed whole.
+pub(crate) fn quote_unguessed(d: &[u8]) -> Quoted
     ensures { λ r. ⌜ r ≡ quoted-run (now (d .entry)) ⌝ }
 {
     let mut i = 0;
@@ -191,4 +244,31 @@ pub fn parse_quote_scalar(d: &[u8]) -> Quoted
         }
     }
     quote_tail(d, i, escaped)
+}
+
+// Whether a quoted run has one byte, which is no backslash.
+fn closes_soon(d: &[u8]) -> bool
+    ensures { λ r. ⌜ r ≡ closes-soon (now (d .entry)) ⌝ }
+{
+    if d.len() < 2 {
+        return false;
+    }
+    if d[1] != b'"' {
+        return false;
+    }
+    let first = d[0];
+    (first != b'"') & (first != b'\\')
+}
+
+// How long the quoted run after an opening quote is, and whether a backslash takes part in it.
+pub fn parse_quote_scalar(d: &[u8]) -> Quoted
+    ensures { λ r. ⌜ r ≡ quoted-run (now (d .entry)) ⌝ }
+{
+    if closes_soon(d) {
+        return Quoted::Closed {
+            length: 1,
+            escaped: false,
+        };
+    }
+    quote_unguessed(d)
 }

@@ -1,8 +1,8 @@
--- `cut::strides::stop_far` meets its contract: the invariant says what is left, that the scan of the whole part ends where the scan from `i`
--- on does; a stride's calm bytes are passed by the law of marks.
+-- `cut::strides::stop_far` meets its contract: the invariant says what is left, that the scan from the place on ends where the scan from
+-- `i` on does; a stride's calm bytes are passed by the law of marks.
 -- Assumes nothing.
 use mathlib.Core.Path.{_≡_, refl, sym, _∙_}
-use Prim.Native.Nat.{_+_, _-_, _≤_, _<_}
+use Prim.Native.Nat.{_+_, _-_, _<_}
 use native.Mathlib.Omega.{arith}
 use denote.Ref.{now}
 use lib.ListN.{length, drop}
@@ -16,11 +16,10 @@ use Rattle.cut.proofs.strides.stop_far.Statement.{statement}
 use Rattle.cut.proofs.strides.stop_far.Tie as tie
 
 abbrev Inv-loop : tie.InvT-loop
-Inv-loop d i₀ last i =
-    (last ≡ length d - stride) × (i ≤ length d) × (stop-from is-boundary d 0 ≡ stop-from is-boundary (drop i d) i)
+Inv-loop d at i₀ last i = (last ≡ length d - stride) × (stop-from is-boundary (drop at d) at ≡ stop-from is-boundary (drop i d) i)
 
 abbrev μ-loop : tie.MeasureT-loop
-μ-loop d i₀ last i = length d - i
+μ-loop d at i₀ last i = length d - i
 
 -- the stride that was looked at
 stride-at : (c : tie.After-may-end2 Inv-loop μ-loop)
@@ -44,7 +43,7 @@ strides-requires : tie.Need-strides-requires Inv-loop μ-loop
 strides-requires c κs = search needs
 
 loop-holds : tie.Need-loop-holds Inv-loop μ-loop
-loop-holds c = (c .strides .ensures, search needs, refl)
+loop-holds c = (c .strides .ensures, refl)
 
 eight-requires : tie.Need-eight-requires Inv-loop μ-loop
 eight-requires c κs = search needs
@@ -75,8 +74,7 @@ loop-again c =
     let seen = stride-at (c .before .before) in
     let at-loop = c .before .before .before .before .before .before .before in (
       at-loop .loop .inv .0,
-      omega (arith, seen .within),
-      at-loop .loop .inv .2
+      at-loop .loop .inv .1
           ∙ run-passes is-boundary _ _ _ (seen .whole (sym (c .before .all-unmarked .ensures) ∙ c .if1 .taken)) (omega (arith, seen .within)),
     )
 
@@ -97,7 +95,7 @@ returns c =
     let at-mark = c .before .before .before in
     let at-loop = at-mark .before .before .before .before .before .before .before .before in
     sym
-    (at-loop .loop .inv .2
+    (at-loop .loop .inv .1
     ∙ run-stops is-boundary _ _ _ (marked at-mark .0) (marked at-mark .1) (sym (c .before .is-boundary .ensures) ∙ c .if2 .taken))
 
 add-i-3 : tie.Need-add-i-3 Inv-loop μ-loop
@@ -111,8 +109,7 @@ loop-again-2 c =
     let at-mark = c .before .before .before in
     let at-loop = at-mark .before .before .before .before .before .before .before .before in (
       at-loop .loop .inv .0,
-      omega (arith, marked at-mark .1),
-      at-loop .loop .inv .2
+      at-loop .loop .inv .1
           ∙ run-goes-on is-boundary _ _ _ (marked at-mark .0) (marked at-mark .1) (sym (c .before .is-boundary .ensures) ∙ c .if2 .left),
     )
 
@@ -120,7 +117,7 @@ stop-tail-requires : tie.Need-stop-tail-requires Inv-loop μ-loop
 stop-tail-requires c κs = search needs
 
 returns-2 : tie.Need-returns-2 Inv-loop μ-loop
-returns-2 c = c .stop-tail .ensures ∙ sym (c .before .before .loop .inv .2)
+returns-2 c = c .stop-tail .ensures ∙ sym (c .before .before .loop .inv .1)
 
 pub stop-far-spec : {M : Type 1} → statement M
 stop-far-spec =
