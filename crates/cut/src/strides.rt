@@ -187,16 +187,16 @@ fn split_word(d: &[u8]) -> usize
 pub fn split_at_scalar(d: &[u8]) -> usize
     ensures { λ r. ⌜ r ≡ unquoted-run (now (d .entry)) ⌝ }
 {
-    if d.len() <= WORD + STRIDE {
-        return run_to(d, stop_tail(d, 0));
-    }
-    let second = d[1];
-    if second < b'@' {
-        if data::is_boundary(second) {
-            return 1;
+    if WORD + STRIDE < d.len() {
+        let second = d[1];
+        if second < b'@' {
+            if data::is_boundary(second) {
+                return 1;
+            }
         }
+        return split_word(d);
     }
-    split_word(d)
+    run_to(d, stop_tail(d, 0))
 }
 
 // The quoted run from a place on, with a backslash before it or none, by the plain cut of what is left. A backslash may have skipped past

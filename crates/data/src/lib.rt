@@ -272,21 +272,16 @@ pub fn character_class() -> [u8; BYTE_COUNT]
     CHARACTER_CLASS
 }
 
-// The boundary bytes below 64, a bit for each, and those from 64 to 127.
+// The boundary bytes before `@`, a bit for each.
 const LOW_BOUNDARIES: u64 = 0x7800_0009_0000_2600;
 
-const HIGH_BOUNDARIES: u64 = 0x2800_0000_2800_0000;
-
-// Whether a byte ends an unquoted run: the table's rule, for whoever looks at a byte here and there and would pay for a table.
+// Whether a byte ends an unquoted run: the table's rule, for whoever looks at a byte here and there and would pay for a table. What usually ends
+// a run, all but the brackets, stands before `@`, so that the first test is guessed right.
 pub fn is_boundary(b: u8) -> bool
     ensures { λ r. ⌜ r ≡ is-boundary b ⌝ }
 {
-    if 127 < b {
-        return false;
+    if b < b'@' {
+        return (LOW_BOUNDARIES >> b) & 1 == 1;
     }
-    let mut bits = LOW_BOUNDARIES;
-    if 63 < b {
-        bits = HIGH_BOUNDARIES;
-    }
-    (bits >> (b & 63)) & 1 == 1
+    (b == b'[') | (b == b']') | (b == b'{') | (b == b'}')
 }
