@@ -260,15 +260,18 @@ fn closes_soon(d: &[u8]) -> bool
     (first != b'"') & (first != b'\\')
 }
 
-// How long the quoted run after an opening quote is, and whether a backslash takes part in it.
+// How long the quoted run after an opening quote is, and whether a backslash takes part in it. Where a stride can be read, one byte is asked for
+// first.
 pub fn parse_quote_scalar(d: &[u8]) -> Quoted
     ensures { λ r. ⌜ r ≡ quoted-run (now (d .entry)) ⌝ }
 {
-    if closes_soon(d) {
-        return Quoted::Closed {
-            length: 1,
-            escaped: false,
-        };
+    if STRIDE < d.len() {
+        if closes_soon(d) {
+            return Quoted::Closed {
+                length: 1,
+                escaped: false,
+            };
+        }
     }
     quote_unguessed(d)
 }

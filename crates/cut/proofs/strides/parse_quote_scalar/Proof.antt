@@ -10,7 +10,7 @@ closes-soon-requires : tie.Need-closes-soon-requires
 closes-soon-requires c κs = search needs
 
 returns : tie.Need-returns
-returns c = sym (soon-run _ (sym (c .before .closes-soon .ensures) ∙ c .if1 .taken))
+returns c = sym (soon-run _ (sym (c .before .closes-soon .ensures) ∙ c .if2 .taken))
 
 quote-unguessed-requires : tie.Need-quote-unguessed-requires
 quote-unguessed-requires c κs = search needs
