@@ -1,8 +1,9 @@
 // Worked cuts: each line of the input has a letter that names a cut, a place and a text, both in hexadecimal, and is written out again with
 // the answer. b skips blanks, r ends a run and c cuts a scalar, each at the place; s, q and v measure the run, the quoted run and the
 // variable at the head of the text, S and Q the runs once more, by strides. U and D make texts of every length up to 40 and write the run,
-// or the quoted run, at the head of each by strides, and `differs` behind it where the plain cut has another: their line's text is the
-// byte that the texts are full of, the one that they end with, and those that are laid at every place in turn.
+// or the quoted run, at the head of each by strides, and `differs` behind it where the plain cut, or the one by which a scalar of a text is
+// cut, has another: their line's text is the byte that the texts are full of, the one that they end with, and those that are laid at every
+// place in turn.
 use cut::Cut;
 use cut::Quoted;
 use cut::Skipped;
@@ -146,11 +147,11 @@ fn say_alike(alike: bool) {
     }
 }
 
-// The run at the head of a text by strides, held against the plain cut.
+// The run at the head of a text by strides, held against the plain cut and against the end of the run as a text's.
 fn say_both_runs(text: &[u8], classes: &[u8; data::BYTE_COUNT]) {
     let length = cut::strides::split_at_scalar(text);
     say_number(length);
-    say_alike(length == cut::split_at_scalar(text, classes));
+    say_alike((length == cut::split_at_scalar(text, classes)) & (length == cut::run_end(text, 0)));
 }
 
 // Whether a quoted run closes behind so many bytes, with an escape or without.
@@ -169,24 +170,6 @@ fn is_open(run: Quoted) -> bool {
     }
 }
 
-// The quoted run at the head of a text by strides, held against the plain cut: its length, with an e where it has an escape, or a dash.
-fn say_both_quoted(text: &[u8]) {
-    let plain = cut::parse_quote_scalar(text);
-    match cut::strides::parse_quote_scalar(text) {
-        Quoted::Closed { length, escaped } => {
-            say_number(length);
-            if escaped {
-                say(b"e");
-            }
-            say_alike(closes(plain, length, escaped));
-        }
-        Quoted::Unclosed => {
-            say(b" -");
-            say_alike(is_open(plain));
-        }
-    }
-}
-
 // Puts bytes into the room from a place on, as far as it goes.
 fn lay(room: &mut [u8], at: usize, part: &[u8])
     ensures { λ _. ⌜ length (now (room .exit)) ≡ length (now (room .entry)) ⌝ }
@@ -200,6 +183,45 @@ fn lay(room: &mut [u8], at: usize, part: &[u8])
         room[place] = part[i];
         place += 1;
         i += 1;
+    }
+}
+
+// The place before another.
+fn before(end: usize) -> usize {
+    if end == 0 { 0 } else { end - 1 }
+}
+
+// Whether a quoted run is what the scalar of a text is, with the opening quote before it.
+fn is_scalar(run: Quoted, text: &[u8]) -> bool {
+    if ROOM <= text.len() {
+        return false;
+    }
+    let mut room = [b'"'; ROOM];
+    lay(&mut room, 1, text);
+    match cut::scalar_at(&room[..text.len() + 1], 0) {
+        Cut::Quoted { end, escaped, .. } => (end != 0) & closes(run, before(end), escaped),
+        Cut::Unquoted { .. } => false,
+        Cut::End => is_open(run),
+    }
+}
+
+// The quoted run at the head of a text by strides, held against the plain cut and against the scalar of a text: its length, with an e where it
+// has an escape, or a dash.
+fn say_both_quoted(text: &[u8]) {
+    let plain = cut::parse_quote_scalar(text);
+    let fast = cut::strides::parse_quote_scalar(text);
+    match fast {
+        Quoted::Closed { length, escaped } => {
+            say_number(length);
+            if escaped {
+                say(b"e");
+            }
+            say_alike(closes(plain, length, escaped) & is_scalar(fast, text));
+        }
+        Quoted::Unclosed => {
+            say(b" -");
+            say_alike(is_open(plain) & is_scalar(fast, text));
+        }
     }
 }
 
