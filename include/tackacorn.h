@@ -74,7 +74,7 @@ extern "C" {
  * The first part rises where a program that was built with an older header would read a tape wrongly, and
  * with it the name of the shared library; the second where something is added; the third else. */
 #define TACKACORN_VERSION "2.4.2"
-#define TACKACORN_VERSION_NUMBER 20401
+#define TACKACORN_VERSION_NUMBER 20402
 
 /* The most bytes that a text may have. */
 #define TACKACORN_TEXT_LIMIT 16777215

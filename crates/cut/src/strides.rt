@@ -2,8 +2,8 @@
 // there is no SSE2, and at two such words a step. A mask marks every byte that a cut looks for, and a few others: the marked byte itself is
 // tested before it counts. The last bytes are looked at one by one, so that nothing is read past the part.
 // The pair begins with what is quick where runs are alike: a run of one byte, and an unquoted one of less than a word. Which of these comes
-// next cannot be guessed in a save, so the scalars of a text are cut by what stands below the pair (`split_unguessed`, `quote_unguessed`),
-// which begins with a stride.
+// next cannot be guessed in a save, so the scalars of a text are cut by two that stand beside the pair (`split_unguessed`,
+// `quote_unguessed`) and begin with a stride.
 use crate::Quoted;
 ghost use mathlib.Core.Path.{_≡_};
 ghost use Prim.Native.Nat.{_+_, _-_, _≤_, _<_};
@@ -111,7 +111,7 @@ fn stop_tail(d: &[u8], at: usize) -> usize
     i
 }
 
-// The same. A stride without a mark is passed whole.
+// The same, by strides. One without a mark is passed whole.
 fn stop_far(d: &[u8], at: usize) -> usize
     ensures { λ r. ⌜ r ≡ stop-from is-boundary (drop at (now (d .entry))) at ⌝ }
 {
@@ -165,7 +165,7 @@ pub(crate) fn split_unguessed(d: &[u8]) -> usize
     run_to(d, stop(d))
 }
 
-// The same of a part that has more than a word and a stride, whose first word is looked at by itself.
+// How long the unquoted run at the head of a part is that has more than a word and a stride. The first word is looked at by itself.
 fn split_word(d: &[u8]) -> usize
     requires { ⌜ word-size + stride < length (now d) ⌝ }
     ensures { λ r. ⌜ r ≡ unquoted-run (now (d .entry)) ⌝ }
@@ -183,7 +183,8 @@ fn split_word(d: &[u8]) -> usize
 }
 
 // How long the unquoted run at the head of a part is, by the thirteen boundary bytes. One at the head is a run of its own, and so is a byte
-// before one: what usually ends a run, all but the brackets, stands before `@`.
+// before one, which is asked for first where the second byte stands before `@`. A part of no more than a word and a stride is looked at a byte
+// at a time.
 pub fn split_at_scalar(d: &[u8]) -> usize
     ensures { λ r. ⌜ r ≡ unquoted-run (now (d .entry)) ⌝ }
 {
@@ -246,7 +247,7 @@ pub(crate) fn quote_unguessed(d: &[u8]) -> Quoted
     quote_tail(d, i, escaped)
 }
 
-// Whether a quoted run has one byte, which is no backslash.
+// Whether a quoted run has one byte.
 fn closes_soon(d: &[u8]) -> bool
     ensures { λ r. ⌜ r ≡ closes-soon (now (d .entry)) ⌝ }
 {
@@ -260,8 +261,8 @@ fn closes_soon(d: &[u8]) -> bool
     (first != b'"') & (first != b'\\')
 }
 
-// How long the quoted run after an opening quote is, and whether a backslash takes part in it. Where a stride can be read, one byte is asked for
-// first.
+// How long the quoted run after an opening quote is, and whether a backslash takes part in it. Where a stride can be read, a run of one byte
+// is asked for first.
 pub fn parse_quote_scalar(d: &[u8]) -> Quoted
     ensures { λ r. ⌜ r ≡ quoted-run (now (d .entry)) ⌝ }
 {

@@ -186,9 +186,9 @@ fn lay(room: &mut [u8], at: usize, part: &[u8])
     }
 }
 
-// The place before another.
-fn before(end: usize) -> usize {
-    if end == 0 { 0 } else { end - 1 }
+// The place of the last of so many bytes. Of none it is past the room, so that nothing is laid there.
+fn last_place(n: usize) -> usize {
+    if n == 0 { ROOM } else { n - 1 }
 }
 
 // Whether a quoted run is what the scalar of a text is, with the opening quote before it.
@@ -199,14 +199,14 @@ fn is_scalar(run: Quoted, text: &[u8]) -> bool {
     let mut room = [b'"'; ROOM];
     lay(&mut room, 1, text);
     match cut::scalar_at(&room[..text.len() + 1], 0) {
-        Cut::Quoted { end, escaped, .. } => (end != 0) & closes(run, before(end), escaped),
+        Cut::Quoted { end, escaped, .. } => closes(run, last_place(end), escaped),
         Cut::Unquoted { .. } => false,
         Cut::End => is_open(run),
     }
 }
 
-// The quoted run at the head of a text by strides, held against the plain cut and against the scalar of a text: its length, with an e where it
-// has an escape, or a dash.
+// The quoted run at the head of a text by strides, held against the plain cut and against the scalar of a text: its length, with an e where
+// it has an escape, or a dash.
 fn say_both_quoted(text: &[u8]) {
     let plain = cut::parse_quote_scalar(text);
     let fast = cut::strides::parse_quote_scalar(text);
@@ -223,11 +223,6 @@ fn say_both_quoted(text: &[u8]) {
             say_alike(is_open(plain) & is_scalar(fast, text));
         }
     }
-}
-
-// The place of the last of so many bytes. Of none it is past the room, so that nothing is laid there.
-fn last_place(n: usize) -> usize {
-    if n == 0 { ROOM } else { n - 1 }
 }
 
 // The answers that a letter asks for.

@@ -69,16 +69,20 @@ module _ (text : List ℕ) (m : Machine) where
   entry-taken ArrayValue t = plain-taken (scalar-cut text (m .at)) ArrayValue t refl
 
 module _ (text : List ℕ) (t : Tape) (m : Machine) where
-  -- an operator of a container that is mixed already: mixed goes on again, and nothing changes
+  -- an operator, by the flag in force
+  abbrev by-flag : Bool → After
+  by-flag mixed = elim mixed [ true ↦ operator-then text t m | false ↦ unmixed-operator text t m ]
+
+  -- of a container that is mixed already: mixed goes on again, and nothing changes
   pub operator-mixed : m .mixed ≡ true → operator-then text t (mixed-on m (m .count)) ≡ array-operator text t m
   unfolding array-operator operator-then lay-then
   operator-mixed e =
       ap (λ (b : Bool). operator-then text t (record { at = m .at; state = ArrayValue; parent = m .parent; mixed = b; count = m .count })) (sym e)
-      ∙ sym (ap (λ (b : Bool). elim b [ true ↦ operator-then text t m | false ↦ unmixed-operator text t m ]) e)
+      ∙ sym (ap by-flag e)
 
   pub operator-unmixed : m .mixed ≡ false → array-operator text t m ≡ unmixed-operator text t m
   unfolding array-operator
-  operator-unmixed e = ap (λ (b : Bool). elim b [ true ↦ operator-then text t m | false ↦ unmixed-operator text t m ]) e
+  operator-unmixed e = ap by-flag e
 
   -- a parameter that opens a container which is not mixed
   abbrev opened : After

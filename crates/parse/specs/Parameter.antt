@@ -61,7 +61,7 @@ parameter-name text kind start t m =
       | false ↦ refused Eof
     ]
 
--- the kind of a name and its place behind `[[`, by whether `!` comes first
+-- the kind of a name and its place behind `[[`, by whether `!` comes first: as the code tells them, so that one call reads the name
 unfoldable pub name-kind : Bool → ScalarKind
 name-kind undefined = elim undefined [ true ↦ UndefinedParameter | false ↦ Parameter ]
 

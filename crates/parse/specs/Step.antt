@@ -1,5 +1,5 @@
--- A step of any state: a whole turn, or what is due that more than one state leads to: a scalar, an operator among values, a parameter. The code
--- takes turns by steps for speed, and the definitions of the turns know nothing of them.
+-- A step of any state: a whole turn, or what is due that is come to in more than one place: a scalar, an operator among values, a parameter. The
+-- code takes turns by steps for speed, and the definitions of the turns know nothing of them.
 use Prim.Native.Nat.{ℕ}
 use mathlib.Core.Bool.{true, false}
 use mathlib.Core.List.{List}

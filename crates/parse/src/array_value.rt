@@ -22,7 +22,7 @@ use tape::token::Standing;
 use tape::words;
 use tape::words::Pushed;
 ghost use mathlib.Core.Path.{_≡_};
-ghost use Prim.Native.Nat.{ℕ, _-_, _<_};
+ghost use Prim.Native.Nat.{ℕ, _<_};
 ghost use mathlib.Core.List.{List};
 ghost use Rattle.tape.specs.Tape.{view};
 ghost use Rattle.parse.specs.After.{after};

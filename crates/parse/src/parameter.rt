@@ -137,7 +137,7 @@ fn parameter_name(
     parameter_named(text, table, tape, m, kind, start, end)
 }
 
-// The kind of a name, by whether `!` stands before it.
+// The kind of a name, by whether `!` stands before it. It and the place are told first, so that one call reads the name.
 fn name_kind(undefined: bool) -> ScalarKind
     ensures { λ r. ⌜ r ≡ name-kind undefined ⌝ }
 {

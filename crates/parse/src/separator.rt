@@ -79,7 +79,7 @@ fn is_separator(state: State) -> bool
     }
 }
 
-// Whether the `=` that most keys have right behind them, and no second one, is next.
+// Whether a machine in KeyValueSeparator has next the `=` that most keys have right behind them, and no second one.
 fn at_equals(text: &[u8], m: Machine) -> bool
     ensures { λ r. ⌜ r ≡ at-equals (now (text .entry)) m ⌝ }
 {

@@ -1,5 +1,6 @@
-// A step of any state, and the scalar that it leaves due. What more than one state leads to, a scalar, an operator among values, a parameter,
-// is left due by the state and taken at one place, so that it is compiled into the loop, and the machine passes from turn to turn in registers.
+// A step of any state, and the scalar that it leaves due. What is come to in more than one place, a scalar, an operator among values, a
+// parameter, is left due by the state and taken at one, so that it is compiled into the loop, and the machine passes from turn to turn in
+// registers.
 use crate::parse_open::flag_parent;
 use crate::parse_open::open_as;
 use crate::scalars::Scalar;
@@ -19,8 +20,8 @@ ghost use Rattle.parse.specs.After.{after};
 ghost use Rattle.parse.specs.Step.{entered, entry};
 ghost use Rattle.parse.specs.Parse.{text-limit};
 
-// What a state makes of a byte: a whole turn; or that a scalar is due, and the state after it; that an operator of a mixed container is due, and
-// how many tokens stand on the tape; or that a parameter is due, and inside which opener.
+// What a state makes of a byte: a whole turn; or that a scalar is due, and the state after it; that an operator of a mixed container is due,
+// and how many tokens stand on the tape; or that a parameter is due, and inside which parent.
 pub enum Step {
     Turned(Turn),
     Scalar(State),
@@ -28,8 +29,8 @@ pub enum Step {
     Parameter(u32),
 }
 
-// After a scalar: in ParseOpen it is the container's first entry, and the byte behind it decides. Else the machine goes on as it is, made anew
-// field by field, since a copy of the whole would go through memory.
+// After a scalar: in ParseOpen it is the container's first entry, and the byte behind it decides. Else the machine goes on as it is, made
+// anew field by field, since a copy of the whole would go through memory.
 fn entered(text: &[u8], tape: &mut [u32], m: Machine) -> Turn
     ensures { λ r. ⌜ after r (now (tape .exit)) ≡ entered (now (text .entry)) (view (now (tape .entry)) (m .count)) m ⌝ }
 {

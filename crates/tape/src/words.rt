@@ -121,8 +121,8 @@ pub fn relink(tape: &mut [u32], i: u32, link: u32) -> u32
     0
 }
 
-// Lays a token down after count others, where a word can number one more and its words are there. Each test leaves at once, which the parser's
-// loop is faster by than by both as one.
+// Lays a token down after count others, where a word can number one more and its words are there. Each test leaves at once, by which the
+// parser's loop is faster than by both as one.
 pub fn push(tape: &mut [u32], count: u32, t: Token) -> Pushed
     ensures exact { λ r. ⌜ written r (now (tape .exit)) ≡ push-words (now (tape .entry)) count t ⌝ }
     ensures seen { λ r. ⌜ after-push r (now (tape .exit)) ≡ lay (view (now (tape .entry)) count) count t ⌝ }

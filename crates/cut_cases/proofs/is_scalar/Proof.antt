@@ -30,8 +30,8 @@ scalar-at-requires c κs = search needs
 enum-known-end : tie.Need-enum-known-end
 enum-known-end c = search needs
 
-before-requires : tie.Need-before-requires
-before-requires c κs = search needs
+last-place-requires : tie.Need-last-place-requires
+last-place-requires c κs = search needs
 
 closes-requires : tie.Need-closes-requires
 closes-requires c κs = search needs
@@ -66,7 +66,7 @@ is-scalar-spec =
     slice-aggregate-scalar-at
     scalar-at-requires
     enum-known-end
-    before-requires
+    last-place-requires
     closes-requires
     enum-told
     enum-told-2

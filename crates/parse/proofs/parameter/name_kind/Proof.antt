@@ -1,6 +1,5 @@
 -- `parse::parameter::name_kind` meets its contract, by whether `!` stands there.
 -- Assumes nothing.
-use borrow.Author.Needs.{needs}
 use Rattle.parse.specs.Parameter.{name-kind}
 use Rattle.parse.proofs.parameter.name_kind.Statement.{statement}
 use Rattle.parse.proofs.parameter.name_kind.Tie as tie
