@@ -1,4 +1,6 @@
 // Whether a text, parsed, gives the tokens of a sheet: the same codes, words and scalar bytes, offsets aside.
+#![tactic(auto)]
+
 ghost use Rattle.std.specs.Prelude.{◌≡◌, length, replicate};
 ghost use Rattle.tape.specs.Words.{tokens_in};
 ghost use Rattle.machine.specs.Finish.{outcome};

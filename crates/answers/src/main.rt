@@ -1,5 +1,7 @@
 // Answers records, to be compared with the Rust's answers to the same records. A record is a kind, a capacity of two bytes, a length of two
 // bytes and a body of that length; numbers have their larger bytes first. Input is read and answers are written in large blocks.
+#![tactic(auto)]
+
 ghost use Rattle.std.specs.Prelude.{◌≡◌, ◌+◌, ◌≤◌, ◌<◌, min, length};
 ghost use Rattle.tape.specs.Words.{words_for};
 ghost use Rattle.report.specs.Room.{most_input, most_tokens};

@@ -1,6 +1,8 @@
 // The calls for C: parse, check, views, tokens, the way back, sheet files, readings and dates under plain names, on slices (a pointer and a
 // length), pointers to single numbers, and numbers. Each answers a refusal's number, 0 for none, and writes through
 // every pointer that it is given, whatever it answers.
+#![tactic(auto)]
+
 ghost use Rattle.std.specs.Prelude.{◌≡◌, Bool, true, ◌↔◌, length};
 ghost use Rattle.parse.specs.Parse.{parse_of};
 ghost use Rattle.parse.specs.Told.{bit, parse_told, tell_parse};

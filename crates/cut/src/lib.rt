@@ -2,6 +2,8 @@
 // A place counts from the text's first byte. The plain pair of cuts looks at a byte at a time; the table of classes of its unquoted cut is
 // lent by whoever loops over the text. `strides` has a pair that answers the same by eight bytes at a time, and by its strides
 // scalars are cut.
+#![tactic(auto)]
+
 ghost use Rattle.std.specs.Prelude.{◌≡◌, ◌+◌, ◌≤◌, ◌<◌, length, drop};
 ghost use Rattle.cut.specs.Blanks.{is_blank, skip_ws};
 ghost use Rattle.cut.specs.Quotes.{quoted_run};

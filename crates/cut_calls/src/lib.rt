@@ -1,4 +1,6 @@
 // The four cuts under names for C, so that bench/ can time each alone. No part of the library that users link.
+#![tactic(auto)]
+
 ghost use Rattle.std.specs.Prelude.{◌≡◌, length};
 ghost use Rattle.cut.specs.Quotes.{quoted_run};
 ghost use Rattle.cut.specs.Runs.{run_by, unquoted_run};

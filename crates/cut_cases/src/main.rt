@@ -4,6 +4,8 @@
 // or the quoted run, at the head of each by strides, and `differs` behind it where the plain cut, or the one by which a scalar of a text is
 // cut, has another: their line's text is the byte that the texts are full of, the one that they end with, and those that are laid at every
 // place in turn.
+#![tactic(auto)]
+
 ghost use Rattle.std.specs.Prelude.{◌≡◌, ◌≤◌, length};
 
 use cut::{Cut, Quoted, Skipped};

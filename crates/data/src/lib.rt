@@ -1,4 +1,6 @@
 // The boundary bytes of the save format, as a table of 256 classes, and as a test of a byte.
+#![tactic(auto)]
+
 ghost use Rattle.std.specs.Prelude.{◌≡◌};
 ghost use Rattle.data.specs.Classes.{classes, is_boundary, may_be_sign};
 

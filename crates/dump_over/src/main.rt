@@ -1,4 +1,6 @@
 // The program `dump` again, run on one byte more than it reads.
+#![tactic(auto)]
+
 use libc::{STDIN_FILENO, STDOUT_FILENO};
 use report::limits::{DUMP_BYTES, MOST_INPUT, TAPE_WORDS};
 

@@ -1,4 +1,6 @@
 // Sheet files: a sheet written into a lent buffer, and any bytes read as a sheet onto lent words.
+#![tactic(auto)]
+
 ghost use Rattle.std.specs.Prelude.{◌≡◌, false, ◌≤◌, length};
 ghost use Rattle.std.proofs.lemmas.List.Edits.{sets};
 ghost use Rattle.tape.specs.Words.{tokens_in};

@@ -1,5 +1,7 @@
 // What is said of sheet files as lines, each put into a lent buffer from a place on: the file that a sheet is written as, and the sheet
 // that a file is read as. Records of the kinds `F` and `R` are answered with them.
+#![tactic(auto)]
+
 ghost use Rattle.std.specs.Prelude.{Bool, ◌≡◌, length};
 ghost use Rattle.tape.specs.Words.{words_for, tokens_in};
 ghost use Rattle.sheet.specs.Decided.{Decided};

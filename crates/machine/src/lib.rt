@@ -1,5 +1,7 @@
 // The parser's machine by value: its states, why a text is refused, what a turn and a parse answer, and how a machine moves on.
 // Nothing here writes on a tape but what ends a parse (`finish`).
+#![tactic(auto)]
+
 ghost use Rattle.std.specs.Prelude.{◌≡◌, ◌-◌};
 ghost use Rattle.machine.specs.Refusals.{number, place};
 ghost use Rattle.machine.specs.Machine.{byte_at, to, within, mixed_on, is_key, is_parse_open};

@@ -1,4 +1,6 @@
 // The operators of the save format: eight kinds, their numbers and signs, and which of them stands at a place.
+#![tactic(auto)]
+
 ghost use Rattle.std.specs.Prelude.{◌≡◌};
 ghost use Rattle.operator.specs.Operators.{number_of, numbered, is_equal, symbol_of, sighted};
 

@@ -1,4 +1,5 @@
 // Tokens as bytes, one behind the other, as a sheet file has them; and the one reading of a token that serves words and such bytes alike.
+#![tactic(auto)]
 
 // Numbers as bytes.
 pub mod numbers;

@@ -1,5 +1,7 @@
 // Bytes put into a lent buffer one after another, as far as it has room: every such call answers the place after what it put. And parts
 // of some bytes.
+#![tactic(auto)]
+
 ghost use Rattle.std.specs.Prelude.{◌≡◌, [], ◌∷◌, ◌+◌, ◌-◌, ◌≤◌, length, take, drop};
 ghost use Rattle.std.proofs.lemmas.List.Edits.{sets};
 ghost use Rattle.put.specs.Append.{wrote, append, zeroed};

@@ -1,5 +1,6 @@
 // What the programs write: numbers, the dump of a text, and the answers that are compared with the Rust's, each put into a lent
 // buffer from a place on.
+#![tactic(auto)]
 
 // A date, and the date of a day.
 pub mod dates;

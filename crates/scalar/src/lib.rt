@@ -1,5 +1,7 @@
 // What the bytes of one value say: yes or no, a whole number, a decimal, or a name. Each reading
 // answers for every slice, and its contract says which answer, byte by byte.
+#![tactic(auto)]
+
 mod digits;
 mod float;
 mod kinds;

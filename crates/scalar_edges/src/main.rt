@@ -1,5 +1,7 @@
 // Reads scalars from standard input, one to a line, and writes on a line for each what the five
 // readings make of it: `=` and the value, or the refusal's number; then the number of its kind.
+#![tactic(auto)]
+
 ghost use Rattle.std.specs.Prelude.{◌≤◌, length};
 
 use libc::{STDIN_FILENO, STDOUT_FILENO};

@@ -1,4 +1,6 @@
 // Sheets that come from elsewhere: whether one is sound, and the views of its tokens.
+#![tactic(auto)]
+
 ghost use Rattle.std.specs.Prelude.{◌≡◌, true, ◌↔◌, ◌≤◌, leb, length};
 ghost use Rattle.packed.specs.Packed.{behind, words_packed};
 ghost use Rattle.tape.specs.Words.{room_of, tokens_in};

@@ -3,6 +3,8 @@
 //   view LENGTH COUNT INDEX WORD ..      the view's offset, length and part of the text, or refused 12
 //   token COUNT INDEX WORD ..            the token's code and link
 // The text of a view is the first LENGTH letters of the alphabet. Any other line is a remark, written as it stands.
+#![tactic(auto)]
+
 use libc::STDOUT_FILENO;
 use sheet::views;
 use sheet::views::Viewed;

@@ -1,4 +1,6 @@
 // Prints the tokens of the sheet file on standard input.
+#![tactic(auto)]
+
 use libc::{STDIN_FILENO, STDOUT_FILENO};
 use report::limits::{DUMP_BYTES, MOST_INPUT, TAPE_WORDS};
 

@@ -1,4 +1,5 @@
 // The tape: how many words a token has and what each word means is known here and nowhere else.
+#![tactic(auto)]
 
 // The codes of tokens.
 pub mod codes;

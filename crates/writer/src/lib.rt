@@ -1,4 +1,6 @@
 // The way back: from a sheet, with the text that its views lie in, to save text.
+#![tactic(auto)]
+
 ghost use Rattle.std.specs.Prelude.{◌≡◌, ◌≤◌, length};
 ghost use Rattle.sheet.specs.Decided.{Decided};
 ghost use Rattle.sheet.specs.Sound.{Sound};

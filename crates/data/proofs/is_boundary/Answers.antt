@@ -3,15 +3,13 @@
 use mathlib.Core.Bool.{Bool, true, false, not, false≢true, ◌||◌}
 use mathlib.Core.Path.{◌≡◌, refl, sym}
 use Prim.Native.Nat.{ℕ, ◌/◌, ◌^◌, ◌≤◌, ◌<◌}
-use borrow.Author.Rules.{rules}
 use borrow.Author.Tests.{lt-ltb, le-ltb}
 use lib.Bits.{bit_and}
 use lib.Dec.{eqb, ltb}
 use Rattle.data.specs.Bytes.{bracket_open, bracket_close, brace_open, brace_close}
 use Rattle.data.specs.Classes.{is_boundary, byte_count}
 use Rattle.data.proofs.Below.{all_below, below}
-use Rattle.data.proofs.is_boundary.Statement.{statement}
-use Rattle.data.proofs.is_boundary.Tie as tie
+use Rattle.data.proofs.is_boundary.Goals as goal
 
 -- what the code answers before `@`, and from there on
 unfoldable by_bit : ℕ → Bool
@@ -46,16 +44,10 @@ upper : (b : ℕ) → b < byte_count → 64 ≤ b → by_name b ≡ is_boundary 
 unfolding by_both
 upper b h k = rw (by_both, le-ltb b 64 k) at (right b h)
 
-shr-result : tie.Need-overflow-shr-result
-shr-result c = search rules
-
-returns : tie.Need-returns
+pub returns-then-b-lt64 : goal.returns-then-b-lt64
 unfolding by_bit
-returns c = lower _ c.before.ranges.b.fits c.if1.true
+returns-then-b-lt64 c = lower _ c.ranges.b.fits c.if-b-lt64.true
 
-returns-2 : tie.Need-returns-2
+pub returns : goal.returns
 unfolding by_name
-returns-2 c = upper _ c.before.ranges.b.fits c.if1.false
-
-pub is_boundary_spec : {M : Type 1} → statement M
-is_boundary_spec = tie.close (tie.spec shr-result returns returns-2)
+returns c = upper _ c.ranges.b.fits c.if-b-lt64.false
