@@ -5,8 +5,7 @@ use mathlib.Core.Path.{◌≡◌, refl}
 use lib.Dec.{eqb}
 use Rattle.data.specs.Bytes.{space, tab, line_feed, carriage_return, semicolon}
 use Rattle.cut.specs.Blanks.{is_blank}
-use Rattle.cut.proofs.is_blank.Statement.{statement}
-use Rattle.cut.proofs.is_blank.Tie as tie
+use Rattle.cut.proofs.is_blank.Goals as goal
 
 abbrev in_turn : Bool → Bool → Bool → Bool → Bool → Bool
 in_turn a b c d e =
@@ -26,11 +25,8 @@ at_once false false false true e = refl
 at_once false false false false true = refl
 at_once false false false false false = refl
 
-returns : tie.Need-returns
+pub returns : goal.returns
 unfolding is_blank
 returns c =
     let b = c.args.b in
     at_once (eqb b space) (eqb b tab) (eqb b line_feed) (eqb b carriage_return) (eqb b semicolon)
-
-pub is_blank_spec : {M : Type 1} → statement M
-is_blank_spec = tie.close (tie.spec returns)

@@ -11,9 +11,7 @@ use lib.Arith.{digits_lt}
 use native.Mathlib.Nat.{zero-mul, add-mul, mul_assoc}
 use Rattle.cut.proofs.Places.{drop_here}
 use Rattle.cut.specs.Lanes.{word}
-use borrow.Author.Rules.{rules}
-use Rattle.cut.proofs.strides.eight.Statement.{statement}
-use Rattle.cut.proofs.strides.eight.Tie as tie
+use Rattle.cut.proofs.strides.eight.Goals as goal
 
 -- bytes put above what is there, each eight digits further up, as the code does it
 unfoldable stacked : ℕ → ℕ → List ℕ → ℕ
@@ -65,31 +63,9 @@ eight_is d i h w0 w1 w2 w3 w4 w5 w6 w7 p0 p1 p2 p3 p4 p5 p6 p7 =
     let t7 = word-here d 0 (i + 7) (i + 8) (omega arith) (omega arith) in
     s ∙ omega arith
 
-returns : tie.Need-returns
+pub returns : goal.returns
 unfolding stacked
 returns c =
-    let at_7 = c.before.before in
-    let at-6 = at_7.before.before in
-    let at_5 = at-6.before.before in
-    let at-4 = at_5.before.before in
-    let at-3 = at-4.before.before in
-    let at-2 = at-3.before.before in
-    let at_1 = at-2.before.before in
-    eight_is _ _ at_1.before.before.before.requires _ _ _ _ _ _ _ _
-    at_1.wide.ensures at-2.wide2.ensures at-3.wide3.ensures at-4.wide4.ensures
-    at_5.wide5.ensures at-6.wide6.ensures at_7.wide7.ensures c.wide8.ensures
-
--- each byte is read within the part, at a place that fits
-pub eight_spec : {M : Type 1} → statement M
-eight_spec =
-    tie.close
-    (tie.spec
-    (λ c. search rules) (λ c κs. search rules)
-    (λ c. search rules) (λ c. search rules) (λ c κs. search rules)
-    (λ c. search rules) (λ c. search rules) (λ c κs. search rules)
-    (λ c. search rules) (λ c. search rules) (λ c κs. search rules)
-    (λ c. search rules) (λ c. search rules) (λ c κs. search rules)
-    (λ c. search rules) (λ c. search rules) (λ c κs. search rules)
-    (λ c. search rules) (λ c. search rules) (λ c κs. search rules)
-    (λ c. search rules) (λ c. search rules) (λ c κs. search rules)
-    returns)
+    eight_is _ _ c.requires _ _ _ _ _ _ _ _
+    c.wide.ensures c.wide-2.ensures c.wide-3.ensures c.wide-4.ensures
+    c.wide-5.ensures c.wide-6.ensures c.wide-7.ensures c.wide-8.ensures

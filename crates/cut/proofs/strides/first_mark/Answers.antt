@@ -1,0 +1,22 @@
+-- `cut::strides::first_mark` meets its contract: the first mark of the first word that has one, and eight bytes before it where that is the
+-- second.
+-- Assumes nothing.
+use mathlib.Core.Path.{ap}
+use native.Mathlib.Omega.{arith}
+use Rattle.cut.specs.Marks.{word_mark}
+use Rattle.cut.proofs.Marks.{mark_few, mark_first, mark_second}
+use Rattle.cut.proofs.strides.first_mark.Goals as goal
+use Rattle.cut.proofs.strides.first_mark.Goals.{then-x-eq0, else-x-eq0}
+
+pub overflow_add-result : goal.overflow_add-result
+overflow_add-result c =
+    let few = mark_few c.if-x-eq0.word in
+    elim c.if-x-eq0.branch [ then-x-eq0 w ↦ omega arith | else-x-eq0 w ↦ omega arith ]
+
+pub returns : goal.returns
+returns c =
+    let a = c.args in
+    elim c.if-x-eq0.branch [
+      | then-x-eq0 w ↦ omega (arith, ap word_mark w.word-is, mark_second a.x a.y w.if-x-eq0.true)
+      | else-x-eq0 w ↦ omega (arith, ap word_mark w.word-is, mark_first a.x a.y w.if-x-eq0.false)
+    ]
