@@ -7,7 +7,6 @@ use Rattle.operator.specs.declared.Sighted.{Sighted}
 use Rattle.operator.specs.declared.Sighted.TheVariants.{Sign, Nothing}
 use Rattle.operator.specs.declared.Symbol.{Symbol}
 use Rattle.operator.specs.declared.Numbered.{Numbered}
-use Rattle.operator.specs.declared.Numbered.TheVariants as Numbered
 
 -- document 01's number for each operator
 abbrev pub number_of : Operator → ℕ

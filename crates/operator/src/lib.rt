@@ -4,7 +4,7 @@
 ghost use Rattle.std.specs.Prelude.{◌≡◌};
 ghost use Rattle.operator.specs.Operators.{number_of, numbered, is_equal, symbol_of, sighted};
 
-#[derive(Drop)]
+#[derive(Clone, Copy)]
 pub enum Operator {
     LessThan,
     LessThanEqual,
@@ -17,21 +17,21 @@ pub enum Operator {
 }
 
 // What stands at two bytes: an operator and how many bytes it takes, or none.
-#[derive(Drop)]
+#[derive(Clone, Copy)]
 pub enum Sighted {
     Sign { operator: Operator, width: usize },
     Nothing,
 }
 
 // The operator that a number stands for, or none.
-#[derive(Drop)]
+#[derive(Clone, Copy)]
 pub enum Numbered {
     Is(Operator),
     Nothing,
 }
 
 // An operator's sign: one byte, or two where second is not 0.
-#[derive(Drop)]
+#[derive(Clone, Copy)]
 pub struct Symbol {
     pub first: u8,
     pub second: u8,
@@ -112,6 +112,7 @@ impl Operator {
 }
 
 // The operator that stands on the tape by a number.
+#[tactic(auto, unfolding(crate::specs::Operators::numbered))]
 pub fn operator_numbered(number: u32) -> Numbered
     ensures { result ≡ numbered number }
 {
@@ -144,6 +145,7 @@ pub fn operator_numbered(number: u32) -> Numbered
 
 // The operator that two bytes begin with, a line for each in the order of their numbers; `0..=b'<' | b'>'..=255` is every byte but `=`, the 0
 // that stands for the text's end among them. A line returns at once: where the lines met first, `bench/run` had the parser slower.
+#[tactic(auto, unfolding(crate::specs::Operators::sighted))]
 pub fn operator_at(first: u8, second: u8) -> Sighted
     ensures { result ≡ sighted first second }
 {

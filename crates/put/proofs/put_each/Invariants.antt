@@ -1,0 +1,13 @@
+-- What each turn keeps, and what gets less.
+use mathlib.Core.Path.{◌≡◌}
+use Prim.Native.Nat.{◌≤◌, ◌-◌}
+use lib.ListN.{length, drop}
+use Rattle.put.specs.Append.{append}
+use Rattle.put.proofs.put_each.Given as goal
+
+abbrev pub invariant-loop-i : goal.invariant-loop-i
+invariant-loop-i l =
+    (l.i ≤ length l.bytes) × (length l.out ≡ length l.initial.out) × (append l.out l.next (drop l.i l.bytes) ≡ append l.initial.out l.at l.bytes)
+
+abbrev pub decreases-loop-i : goal.decreases-loop-i
+decreases-loop-i l = length l.bytes - l.i
