@@ -4,7 +4,7 @@ ghost use Rattle.std.specs.Prelude.{◌≡◌};
 ghost use Rattle.machine.specs.Bytes.{key_byte, open_byte, follows_key, begins_operator, value_byte};
 
 // What a byte is in Key.
-#[derive(Drop)]
+#[derive(Clone, Copy)]
 pub enum KeyByte {
     Closer,
     Brace,
@@ -35,7 +35,7 @@ pub fn key_byte(b: u8) -> KeyByte
 }
 
 // What a byte is in ParseOpen.
-#[derive(Drop)]
+#[derive(Clone, Copy)]
 pub enum OpenByte {
     Closer,
     Bracket,
@@ -82,7 +82,7 @@ pub fn follows_key(b: u8) -> bool
 }
 
 // What a byte is in ArrayValue.
-#[derive(Drop)]
+#[derive(Clone, Copy)]
 pub enum ValueByte {
     Brace,
     Closer,

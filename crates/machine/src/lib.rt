@@ -12,7 +12,7 @@ pub mod parents;
 pub mod start;
 
 // The five states.
-#[derive(Drop)]
+#[derive(Clone, Copy)]
 pub enum State {
     Key,
     KeyValueSeparator,
@@ -24,7 +24,7 @@ pub enum State {
 // In which state the parser is, whether mixed is in force, how many tokens stand on the tape, where the text goes on, and
 // inside which opener (0 for none). The fields' order lays the place over a refusal's place in a `Turn`, which then passes
 // from turn to turn in registers.
-#[derive(Drop)]
+#[derive(Clone, Copy)]
 pub struct Machine {
     pub state: State,
     pub mixed: bool,
@@ -34,7 +34,7 @@ pub struct Machine {
 }
 
 // Why a text is refused, with the place where it has one.
-#[derive(Drop)]
+#[derive(Clone, Copy)]
 pub enum Refusal {
     TooLong,
     Eof,
@@ -90,7 +90,7 @@ impl Refusal {
 }
 
 // What a turn answers: the machine for the next one, the count of a finished tape, or a refusal.
-#[derive(Drop)]
+#[derive(Clone, Copy)]
 pub enum Turn {
     Next(Machine),
     Done(u32),
@@ -98,14 +98,14 @@ pub enum Turn {
 }
 
 // How a run ends: with the count of a finished tape, or with a refusal.
-#[derive(Drop)]
+#[derive(Clone, Copy)]
 pub enum Ending {
     Done(u32),
     Refused(Refusal),
 }
 
 // What a parse answers: how many tokens stand on the tape and whether the text began with a BOM, or why it is refused.
-#[derive(Drop)]
+#[derive(Clone, Copy)]
 pub enum Parsed {
     Tokens { count: u32, bom: bool },
     Refused(Refusal),

@@ -6,7 +6,7 @@ use crate::token::{Container, ScalarKind, ScalarNamed, Token};
 use crate::{codes, token};
 
 // A token with what its words say, or words that no token has.
-#[derive(Drop)]
+#[derive(Clone, Copy)]
 pub enum Shape {
     Opener {
         end: u32,
@@ -27,7 +27,7 @@ pub enum Shape {
 }
 
 // The token that a container's opener or an End names.
-#[derive(Drop)]
+#[derive(Clone, Copy)]
 pub enum Link {
     ToEnd(u32),
     ToOpener(u32),

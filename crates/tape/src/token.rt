@@ -6,7 +6,7 @@ ghost use Rattle.tape.specs.Token.{opener_of, end_of, scalar_of, operator_of, mi
 
 use crate::codes;
 
-#[derive(Drop)]
+#[derive(Clone, Copy)]
 pub struct Token {
     pub code: u32,
     pub a: u32,
@@ -14,14 +14,14 @@ pub struct Token {
 }
 
 // The two kinds of container.
-#[derive(Drop)]
+#[derive(Clone, Copy)]
 pub enum ContainerKind {
     Array,
     Object,
 }
 
 // The six kinds of scalar. A QuotedEscape is a quoted run in which a backslash took part.
-#[derive(Drop)]
+#[derive(Clone, Copy)]
 pub enum ScalarKind {
     Unquoted,
     Quoted,
@@ -32,7 +32,7 @@ pub enum ScalarKind {
 }
 
 // The kind of scalar that a code names, or none.
-#[derive(Drop)]
+#[derive(Clone, Copy)]
 pub enum ScalarNamed {
     Kind(ScalarKind),
     Nothing,
@@ -40,7 +40,7 @@ pub enum ScalarNamed {
 
 // A token seen as a container: its kind, its link (the index of its End or, while it is open, of its parent) and its
 // stored flag; or none.
-#[derive(Drop)]
+#[derive(Clone, Copy)]
 pub enum Container {
     Opened {
         kind: ContainerKind,
@@ -51,7 +51,7 @@ pub enum Container {
 }
 
 // What a token is to a brace or an operator that follows it.
-#[derive(Drop)]
+#[derive(Clone, Copy)]
 pub enum Standing {
     Unquoted,
     OtherScalar,

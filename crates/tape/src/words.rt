@@ -18,7 +18,7 @@ const B_WORD: usize = 2;
 const LAST_WORD: usize = WORDS_PER_TOKEN - 1;
 
 // What laying down a token answers: the new count, or that there is no room.
-#[derive(Drop)]
+#[derive(Clone, Copy)]
 pub enum Pushed {
     Laid(u32),
     Full,
