@@ -83,6 +83,7 @@ fn f64_digits(d: &[u8], sign: usize, negative: bool) -> F64Read
 }
 
 // What stands at a place where a run of digits ended.
+#[tactic(auto, using(crate::proofs::Floats::tail_end, crate::proofs::Floats::tail_point, crate::proofs::Floats::tail_other, crate::proofs::Floats::tail_closed, crate::proofs::Floats::tail_after_f))]
 pub(crate) fn tail_at(d: &[u8], at: usize) -> Tail
     ensures { result ≡ tail_of (drop at d.now) }
 {
