@@ -17,7 +17,6 @@ use Rattle.scalar.proofs.Rests.{rest-digit, rest-other, run_alone, rest_plain}
 use Rattle.scalar.proofs.Runs.{digit_bounds, run-digit, run-other}
 use Rattle.date.specs.Reading.{onto, parts, is_part, all_parts, day_parts, hour_parts, right_number, shaped, past_all, part_at, point_first}
 use Rattle.date.specs.Reading.{pointed_part}
-use Rattle.date.specs.declared.reading.Part.TheVariants as Part
 use Rattle.date.specs.declared.reading.Part.{Part}
 
 -- ---- the first part begins with the digits in front

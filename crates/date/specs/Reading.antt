@@ -8,7 +8,6 @@ use Rattle.date.specs.Calendar.{date, most_year, in_range}
 use Rattle.date.specs.declared.calendar.Date.{Date}
 use Rattle.date.specs.declared.calendar.DateRead.TheVariants.{Is, NotADate, OutOfRange}
 use Rattle.date.specs.declared.calendar.DateRead.{DateRead}
-use Rattle.date.specs.declared.reading.Part.TheVariants as Part
 use Rattle.date.specs.declared.reading.Part.{Part}
 
 -- ---- the shape

@@ -35,7 +35,7 @@ const YEAR_DAYS: u32 = 365;
 const LAST_DAY: u32 = MOST_YEAR * YEAR_DAYS - 1;
 
 // A date; its hour is 0 where none is told.
-#[derive(Drop)]
+#[derive(Clone, Copy)]
 pub struct Date {
     pub year: u32,
     pub month: u32,
@@ -44,7 +44,7 @@ pub struct Date {
 }
 
 // A date, or why there is none.
-#[derive(Drop)]
+#[derive(Clone, Copy)]
 pub enum DateRead {
     Is(Date),
     NotADate,
@@ -52,7 +52,7 @@ pub enum DateRead {
 }
 
 // The day count of a date, or that the calendar has no such date.
-#[derive(Drop)]
+#[derive(Clone, Copy)]
 pub enum DaysRead {
     Is(u32),
     OutOfRange,

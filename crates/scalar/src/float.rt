@@ -25,7 +25,7 @@ const SAFE_INTEGER: u64 = 0x1f_ffff_ffff_ffff;
 const NAN_PATTERN: u64 = 0x7ff8_0000_0000_0000;
 
 // What bytes say as an f64. A number that an f64 cannot hold comes with the nearest that can.
-#[derive(Drop)]
+#[derive(Clone, Copy)]
 pub enum F64Read {
     Is(f64),
     AllDigits,

@@ -3,7 +3,7 @@ ghost use Rattle.std.specs.Prelude.{◌≡◌, [], ◌∷◌};
 ghost use Rattle.scalar.specs.Truth.{bool_read};
 
 // What bytes say as yes or no.
-#[derive(Drop)]
+#[derive(Clone, Copy)]
 pub enum BoolRead {
     Is(bool),
     InvalidBool,

@@ -9,7 +9,7 @@ use crate::digits::{exceeds, gather, is_digit};
 pub(crate) const MOST_I64: u64 = 0x7fff_ffff_ffff_ffff;
 
 // What bytes say as a number without a minus.
-#[derive(Drop)]
+#[derive(Clone, Copy)]
 pub enum U64Read {
     Is(u64),
     AllDigits,
@@ -26,7 +26,7 @@ pub enum I64Part {
 }
 
 // What bytes say, or begin with, as a number with a sign.
-#[derive(Drop)]
+#[derive(Clone, Copy)]
 pub enum I64Read {
     Is(i64),
     AllDigits,

@@ -1,0 +1,11 @@
+-- `date::refusals::days_refusal` meets its contract, by what is answered.
+-- Assumes nothing.
+use mathlib.Core.Path.{sym, ap}
+use Rattle.date.specs.Refusals.{days_refusal_of}
+use Rattle.date.proofs.refusals.days_refusal.Goals as goal
+
+pub returns-in-Is : goal.returns-in-Is
+returns-in-Is c = ap days_refusal_of (sym c.in-Is.is)
+
+pub returns-in-OutOfRange : goal.returns-in-OutOfRange
+returns-in-OutOfRange c = ap days_refusal_of (sym c.in-OutOfRange.is)
