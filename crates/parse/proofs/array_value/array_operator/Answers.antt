@@ -1,0 +1,11 @@
+-- `parse::array_value::array_operator` meets its contract, by the flag in force.
+-- Assumes nothing.
+use mathlib.Core.Path.{sym, ◌∙◌}
+use Rattle.parse.proofs.Steps.{operator-mixed, operator-unmixed}
+use Rattle.parse.proofs.array_value.array_operator.Goals as goal
+
+pub returns-then-mixed : goal.returns-then-mixed
+returns-then-mixed c = operator-mixed _ _ _ c.if-mixed.true
+
+pub returns : goal.returns
+returns c = c.unmixed_operator.ensures ∙ sym (operator-unmixed _ _ _ c.if-mixed.false)

@@ -1,0 +1,53 @@
+-- `parse::run` meets its contract. The loop's invariant: the run from here, with one turn more than are left, is the run from the
+-- start.
+-- Assumes nothing.
+use native.Mathlib.Omega.{arith}
+use mathlib.Core.Path.{refl, sym, ◌∙◌}
+use Rattle.tape.specs.Tape.{view}
+use Rattle.parse.proofs.Equals.{fell, goes_on}
+use Rattle.parse.proofs.Falls.{left}
+use Rattle.parse.proofs.Runs.{run-done, run-refused, run-turn, run-enough, within-enough}
+use Rattle.parse.proofs.run.Goals as goal
+
+pub loop-after-init : goal.loop-after-init
+loop-after-init c =
+    let a = c.args in
+    (refl, c.character_class-table.ensures, run-enough a.text.now _ _ a.from _ (within-enough a.text.now a.from) (omega arith))
+
+pub turn-requires : goal.turn-requires
+turn-requires c =
+    (c.requires, c.character_class-table.ensures)
+
+pub loop-after-smaller : goal.loop-after-smaller
+loop-after-smaller c =
+    fell _ _ _ _ _ _ _ c.turn.ensures c.in-Next.is c.past_equals-m.ensures
+
+pub loop-after-preserved : goal.loop-after-preserved
+loop-after-preserved c = (
+  c.turn.auto.tape ∙ c.loop-after.invariant.0,
+  c.loop-after.invariant.1,
+  c.loop-after.invariant.2
+      ∙ goes_on _ _ _ _ _ _ _ c.turn.ensures c.in-Next.is c.past_equals-m.ensures,
+)
+
+pub returns-in-Done : goal.returns-in-Done
+returns-in-Done c =
+    let text = c.args.text.now in
+    let m = c.loop-after.m in
+    sym (c.loop-after.invariant.2
+    ∙ rw (
+      run-turn text (left text m.at m.state) m (view c.loop-after.tape m.count),
+      ← c.turn.ensures,
+      c.in-Done.is,
+    ) (run-done text _ _ _))
+
+pub returns-in-Refused : goal.returns-in-Refused
+returns-in-Refused c =
+    let text = c.args.text.now in
+    let m = c.loop-after.m in
+    sym (c.loop-after.invariant.2
+    ∙ rw (
+      run-turn text (left text m.at m.state) m (view c.loop-after.tape m.count),
+      ← c.turn.ensures,
+      c.in-Refused.is,
+    ) (run-refused text _ _))

@@ -1,0 +1,19 @@
+-- `parse::run`: the run from here, with one turn more than are left, is the run from the start; and what gets less.
+use Prim.Native.Nat.{suc}
+use lib.ListN.{length}
+use mathlib.Core.Path.{◌≡◌}
+use Rattle.data.specs.Classes.{classes}
+use Rattle.tape.specs.Tape.{view}
+use Rattle.parse.specs.After.{next}
+use Rattle.parse.specs.Parse.{run, enough}
+use Rattle.parse.proofs.Falls.{left}
+use Rattle.parse.proofs.run.Given as goal
+
+abbrev pub invariant-loop-after : goal.invariant-loop-after
+invariant-loop-after l =
+    (length l.tape ≡ length l.initial.tape)
+    × (l.table ≡ classes)
+    × (run l.text (enough l.text) (next l.initial.m (view l.initial.tape l.initial.m.count)) ≡ run l.text (suc (left l.text l.m.at l.m.state)) (next l.m (view l.tape l.m.count)))
+
+abbrev pub decreases-loop-after : goal.decreases-loop-after
+decreases-loop-after l = left l.text l.m.at l.m.state

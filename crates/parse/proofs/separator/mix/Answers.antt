@@ -1,0 +1,13 @@
+-- `parse::separator::mix` meets its contract, by what the insertion answers.
+-- Assumes nothing.
+use Rattle.parse.specs.KeyValueSeparator.{mix_then}
+use Rattle.parse.proofs.separator.mix.Goals as goal
+
+pub returns-in-Laid : goal.returns-in-Laid
+unfolding mix_then
+returns-in-Laid c =
+    rw (mix_then, ← c.insert_mixed.ensures.seen, c.in-Laid.is, c.mixed_on.ensures)
+
+pub returns-in-Full : goal.returns-in-Full
+unfolding mix_then
+returns-in-Full c = rw (mix_then, ← c.insert_mixed.ensures.seen, c.in-Full.is)
