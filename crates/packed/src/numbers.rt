@@ -7,7 +7,7 @@ ghost use Rattle.packed.specs.Numbers.{byte_values, width_of, greatest, spelled,
 const BYTE: u32 = 256;
 
 // How many bytes a number is given.
-#[derive(Drop)]
+#[derive(Clone, Copy)]
 pub enum Width {
     One,
     Three,

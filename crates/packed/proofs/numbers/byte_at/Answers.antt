@@ -1,0 +1,11 @@
+-- `packed::numbers::byte_at` meets its contract.
+-- Assumes nothing.
+use mathlib.Core.Path.{refl}
+use native.Mathlib.Omega.{arith}
+use Rattle.packed.proofs.numbers.byte_at.Goals as goal
+
+pub overflow_cast-result : goal.overflow_cast-result
+overflow_cast-result c = omega (arith, c.type_inv.bytes c.args.at)
+
+pub returns : goal.returns
+returns c = (refl, omega (arith, c.type_inv.bytes c.args.at))

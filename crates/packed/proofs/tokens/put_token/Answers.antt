@@ -1,0 +1,8 @@
+-- `packed::tokens::put_token` meets its contract.
+-- Assumes nothing.
+use Rattle.packed.proofs.Packing.{token-put}
+use Rattle.packed.proofs.tokens.put_token.Goals as goal
+
+pub returns : goal.returns
+returns c =
+    token-put _ _ _ c.put_one.ensures c.put_four.ensures c.put_four-2.ensures
