@@ -2,15 +2,17 @@
 // bytes and a body of that length; numbers have their larger bytes first. Input is read and answers are written in large blocks.
 #![tactic(auto)]
 
-ghost use Rattle.std.specs.Prelude.{◌≡◌, ◌+◌, ◌≤◌, ◌<◌, min, length};
+ghost use Rattle.std.specs.Prelude.{◌≡◌, ◌+◌, ◌≤◌, ◌<◌, min, length, IfOk};
 ghost use Rattle.tape.specs.Words.{words_for};
 ghost use Rattle.report.specs.Room.{most_input, most_tokens};
 ghost use Rattle.answers.specs.Whole.{word_in, most_answer, stop_bytes, block_bytes, Whole};
 
-use libc::{STDIN_FILENO, STDOUT_FILENO};
+use input::read_full;
 use packed::numbers::{Width, number_at};
 use put::front;
 use report::limits::{DUMP_BYTES, MOST_INPUT, MOST_TOKENS, TAPE_WORDS};
+use std::io;
+use std::io::Read;
 use tape::words::WORDS_PER_TOKEN;
 
 // The bytes of a record before its body: its kind, its capacity and its length.
@@ -294,27 +296,32 @@ fn answer_record(
 }
 
 // Puts the line for a bad record, and writes all lines.
-fn stop(out: &mut [u8], at: usize)
+fn stop(rt: &impl Print, out: &mut [u8], at: usize) -> io::Result<()>
     requires { at + stop_bytes ≤ length out.old }
 {
     let n = put::put_bytes(out, at, b"bad record\n");
-    io::write_all(STDOUT_FILENO, front(out, n));
+    rt.write_all(front(out, n))
 }
 
 // The place for the next answer. Where more than half of the buffer is taken, what stands there is written first.
-fn place_for_next(out: &[u8], to: usize) -> usize
+fn place_for_next(rt: &impl Print, out: &[u8], to: usize) -> io::Result<usize>
     requires { block_bytes ≤ length out.now }
-    ensures { result + most_answer + stop_bytes ≤ length out.now }
+    ensures { IfOk result (λ place. place + most_answer + stop_bytes ≤ length out.now) }
 {
     if out.len() / 2 < to {
-        io::write_all(STDOUT_FILENO, front(out, to));
-        return 0;
+        rt.write_all(front(out, to))?;
+        return Ok(0);
     }
-    to
+    Ok(to)
 }
 
 // Answers the records that are all there.
-fn answer_block(input: &[u8], words: &mut [u32], out: &mut [u8]) -> Answered
+fn answer_block(
+    rt: &impl Print,
+    input: &[u8],
+    words: &mut [u32],
+    out: &mut [u8],
+) -> io::Result<Answered>
     requires { (block_bytes ≤ length out.old) × (words_for most_tokens ≤ length words.old) }
 {
     let mut to = 0;
@@ -322,28 +329,28 @@ fn answer_block(input: &[u8], words: &mut [u32], out: &mut [u8]) -> Answered
     while at + HEAD <= input.len() {
         let size = pair(input[at + 3], input[at + 4]);
         if MOST_INPUT < size {
-            stop(out, to);
-            return Answered::Stopped;
+            stop(rt, out, to)?;
+            return Ok(Answered::Stopped);
         }
         let start = at + HEAD;
         if input.len() - start < size {
-            io::write_all(STDOUT_FILENO, front(out, to));
-            return Answered::Until(at);
+            rt.write_all(front(out, to))?;
+            return Ok(Answered::Until(at));
         }
         let end = start + size;
         let capacity = pair(input[at + 1], input[at + 2]);
-        let place = place_for_next(out, to);
+        let place = place_for_next(rt, out, to)?;
         match answer_record(out, place, input[at], capacity, &input[start..end], words) {
             Answer::Put(next) => to = next,
             Answer::Bad => {
-                stop(out, place);
-                return Answered::Stopped;
+                stop(rt, out, place)?;
+                return Ok(Answered::Stopped);
             }
         }
         at = end;
     }
-    io::write_all(STDOUT_FILENO, front(out, to));
-    Answered::Until(at)
+    rt.write_all(front(out, to))?;
+    Ok(Answered::Until(at))
 }
 
 // Moves the bytes from a place to n to the front, and answers how many they are.
@@ -365,43 +372,52 @@ fn to_front(input: &mut [u8], from: usize, n: usize) -> usize
 
 // Block by block, until the input ends or a record is bad. A record that a block cuts waits at the front for the rest of it. The count of
 // turns is there so that the loop is seen to end, and no input is that long.
-fn run(input: &mut [u8], words: &mut [u32], out: &mut [u8])
+fn run(
+    rt: &impl Print,
+    from: &mut impl Read,
+    input: &mut [u8],
+    words: &mut [u32],
+    out: &mut [u8],
+) -> io::Result<()>
     requires { (block_bytes ≤ length out.old) × (words_for most_tokens ≤ length words.old) }
 {
     let mut kept = 0;
     let mut turns = u64::MAX;
     while 0 < turns {
         if input.len() < kept {
-            return;
+            return Ok(());
         }
-        let n = kept + io::read_full(STDIN_FILENO, &mut input[kept..]);
-        let Answered::Until(at) = answer_block(&input[..n], words, out) else {
-            return;
+        let n = kept + read_full(from, &mut input[kept..])?;
+        let Answered::Until(at) = answer_block(rt, &input[..n], words, out)? else {
+            return Ok(());
         };
         if n < input.len() {
             if at < n {
-                stop(out, 0);
+                stop(rt, out, 0)?;
             }
-            return;
+            return Ok(());
         }
         kept = to_front(input, at, n);
         turns -= 1;
     }
+    Ok(())
 }
 
 // All of the input, with what the program lends: the buffer has room for any answer when one is put.
 fn answer_input(
+    rt: &impl Print,
+    from: &mut impl Read,
     input: &mut [u8; BLOCK],
     words: &mut [u32; TAPE_WORDS],
     out: &mut [u8; ANSWER_BYTES],
-) {
-    run(input, words, out);
+) -> io::Result<()> {
+    run(rt, from, input, words, out)
 }
 
 // Records in, answers out, with arrays of the limits' lengths.
-fn main() {
+fn main(rt: HostRuntime) -> io::Result<()> {
     let mut input = [0u8; BLOCK];
     let mut words = [0u32; TAPE_WORDS];
     let mut out = [0u8; ANSWER_BYTES];
-    answer_input(&mut input, &mut words, &mut out);
+    answer_input(&rt, &mut rt.stdin(), &mut input, &mut words, &mut out)
 }

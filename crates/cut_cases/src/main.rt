@@ -9,7 +9,11 @@
 ghost use Rattle.std.specs.Prelude.{◌≡◌, ◌≤◌, length};
 
 use cut::{Cut, Quoted, Skipped};
-use libc::{STDIN_FILENO, STDOUT_FILENO};
+use input::read_full;
+use std::io;
+
+// How many bytes of the input count.
+const MOST_BYTES: usize = 65536;
 
 // How many bytes a text has room for.
 const ROOM: usize = 64;
@@ -71,59 +75,60 @@ fn bytes(hex: &[u8], text: &mut [u8]) -> usize
 }
 
 // All that is written goes through here.
-fn say(words: &[u8]) {
-    io::write_all(STDOUT_FILENO, words);
+fn say(rt: &impl Print, words: &[u8]) -> io::Result<()> {
+    rt.write_all(words)
 }
 
 // A number stands behind a space, so that a line needs no other.
-fn say_number(n: usize) {
-    say(b" ");
-    io::print_decimal(STDOUT_FILENO, n as u64);
+fn say_number(rt: &impl Print, n: usize) -> io::Result<()> {
+    say(rt, b" ")?;
+    print!(rt; "{n}")
 }
 
 // Where a scalar's view lies, and where the text goes on.
-fn say_view(start: usize, end: usize, rest: usize) {
-    say_number(start);
-    say_number(end);
-    say_number(rest);
+fn say_view(rt: &impl Print, start: usize, end: usize, rest: usize) -> io::Result<()> {
+    say_number(rt, start)?;
+    say_number(rt, end)?;
+    say_number(rt, rest)
 }
 
 // What stands behind blanks and comments.
-fn say_blanks(text: &[u8], place: usize) {
+fn say_blanks(rt: &impl Print, text: &[u8], place: usize) -> io::Result<()> {
     match cut::skip_ws_t(text, place) {
         Skipped::At(i) => {
-            say(b" at");
-            say_number(i);
+            say(rt, b" at")?;
+            say_number(rt, i)
         }
-        Skipped::End => say(b" end"),
+        Skipped::End => say(rt, b" end"),
     }
 }
 
 // Whether a backslash took part in a quoted run.
-fn say_escaped(escaped: bool) {
+fn say_escaped(rt: &impl Print, escaped: bool) -> io::Result<()> {
     if escaped {
-        say(b" escaped");
+        say(rt, b" escaped")?;
     }
+    Ok(())
 }
 
 // Where a quoted run closes.
-fn say_quoted(run: Quoted) {
+fn say_quoted(rt: &impl Print, run: Quoted) -> io::Result<()> {
     match run {
         Quoted::Closed { length, escaped } => {
-            say(b" closed");
-            say_number(length);
-            say_escaped(escaped);
+            say(rt, b" closed")?;
+            say_number(rt, length)?;
+            say_escaped(rt, escaped)
         }
-        Quoted::Unclosed => say(b" unclosed"),
+        Quoted::Unclosed => say(rt, b" unclosed"),
     }
 }
 
 // The scalar at a place.
-fn say_scalar(text: &[u8], place: usize) {
+fn say_scalar(rt: &impl Print, text: &[u8], place: usize) -> io::Result<()> {
     match cut::scalar_at(text, place) {
         Cut::Unquoted { start, end, rest } => {
-            say(b" unquoted");
-            say_view(start, end, rest);
+            say(rt, b" unquoted")?;
+            say_view(rt, start, end, rest)
         }
         Cut::Quoted {
             start,
@@ -131,26 +136,30 @@ fn say_scalar(text: &[u8], place: usize) {
             rest,
             escaped,
         } => {
-            say(b" quoted");
-            say_view(start, end, rest);
-            say_escaped(escaped);
+            say(rt, b" quoted")?;
+            say_view(rt, start, end, rest)?;
+            say_escaped(rt, escaped)
         }
-        Cut::End => say(b" end"),
+        Cut::End => say(rt, b" end"),
     }
 }
 
 // What stands behind an answer by strides.
-fn say_alike(alike: bool) {
+fn say_alike(rt: &impl Print, alike: bool) -> io::Result<()> {
     if !alike {
-        say(b" differs");
+        say(rt, b" differs")?;
     }
+    Ok(())
 }
 
 // The run at the head of a text by strides, held against the plain cut and against the end of the run as a text's.
-fn say_both_runs(text: &[u8], classes: &[u8; data::BYTE_COUNT]) {
+fn say_both_runs(rt: &impl Print, text: &[u8], classes: &[u8; data::BYTE_COUNT]) -> io::Result<()> {
     let length = cut::strides::split_at_scalar(text);
-    say_number(length);
-    say_alike((length == cut::split_at_scalar(text, classes)) & (length == cut::run_end(text, 0)));
+    say_number(rt, length)?;
+    say_alike(
+        rt,
+        (length == cut::split_at_scalar(text, classes)) & (length == cut::run_end(text, 0)),
+    )
 }
 
 // Whether a quoted run closes behind so many bytes, with an escape or without.
@@ -206,99 +215,131 @@ fn is_scalar(run: Quoted, text: &[u8]) -> bool {
 
 // The quoted run at the head of a text by strides, held against the plain cut and against the scalar of a text: its length, with an e where
 // it has an escape, or a dash.
-fn say_both_quoted(text: &[u8]) {
+fn say_both_quoted(rt: &impl Print, text: &[u8]) -> io::Result<()> {
     let plain = cut::parse_quote_scalar(text);
     let fast = cut::strides::parse_quote_scalar(text);
     match fast {
         Quoted::Closed { length, escaped } => {
-            say_number(length);
+            say_number(rt, length)?;
             if escaped {
-                say(b"e");
+                say(rt, b"e")?;
             }
-            say_alike(closes(plain, length, escaped) & is_scalar(fast, text));
+            say_alike(rt, closes(plain, length, escaped) & is_scalar(fast, text))
         }
         Quoted::Unclosed => {
-            say(b" -");
-            say_alike(is_open(plain) & is_scalar(fast, text));
+            say(rt, b" -")?;
+            say_alike(rt, is_open(plain) & is_scalar(fast, text))
         }
     }
 }
 
 // The answers that a letter asks for.
-fn say_both(name: u8, text: &[u8], classes: &[u8; data::BYTE_COUNT]) {
+fn say_both(
+    rt: &impl Print,
+    name: u8,
+    text: &[u8],
+    classes: &[u8; data::BYTE_COUNT],
+) -> io::Result<()> {
     if name == b'U' {
-        say_both_runs(text, classes);
+        say_both_runs(rt, text, classes)
     } else {
-        say_both_quoted(text);
+        say_both_quoted(rt, text)
     }
 }
 
 // The text of so many bytes with the shape's own laid at a place. Past the end they are laid too, where no cut may see them.
-fn one_place(name: u8, shape: &[u8], n: usize, at: usize, classes: &[u8; data::BYTE_COUNT])
+fn one_place(
+    rt: &impl Print,
+    name: u8,
+    shape: &[u8],
+    n: usize,
+    at: usize,
+    classes: &[u8; data::BYTE_COUNT],
+) -> io::Result<()>
     requires { n ≤ 40 }
 {
     if shape.len() < 2 {
-        return;
+        return Ok(());
     }
     let mut room = [shape[0]; ROOM];
     lay(&mut room, last_place(n), &shape[1..2]);
     lay(&mut room, at, &shape[2..]);
-    say_both(name, &room[..n], classes);
+    say_both(rt, name, &room[..n], classes)
 }
 
 // The texts of so many bytes: a place for each byte, and the end for the text without.
-fn places(name: u8, shape: &[u8], n: usize, classes: &[u8; data::BYTE_COUNT])
+fn places(
+    rt: &impl Print,
+    name: u8,
+    shape: &[u8],
+    n: usize,
+    classes: &[u8; data::BYTE_COUNT],
+) -> io::Result<()>
     requires { n ≤ 40 }
 {
     let mut at = 0;
     while at <= n {
-        one_place(name, shape, n, at, classes);
+        one_place(rt, name, shape, n, at, classes)?;
         at += 1;
     }
+    Ok(())
 }
 
 // The texts of every length, with a line for each.
-fn sweep(name: u8, shape: &[u8], classes: &[u8; data::BYTE_COUNT]) {
+fn sweep(
+    rt: &impl Print,
+    name: u8,
+    shape: &[u8],
+    classes: &[u8; data::BYTE_COUNT],
+) -> io::Result<()> {
     let mut n = 0;
     while n <= LONGEST {
-        say(b"\nof");
-        say_number(n);
-        say(b":");
-        places(name, shape, n, classes);
+        say(rt, b"\nof")?;
+        say_number(rt, n)?;
+        say(rt, b":")?;
+        places(rt, name, shape, n, classes)?;
         n += 1;
     }
+    Ok(())
 }
 
 // The answer of the cut that a letter names.
-fn answer(name: u8, place: usize, text: &[u8], classes: &[u8; data::BYTE_COUNT]) {
+fn answer(
+    rt: &impl Print,
+    name: u8,
+    place: usize,
+    text: &[u8],
+    classes: &[u8; data::BYTE_COUNT],
+) -> io::Result<()> {
     match name {
-        b'b' => say_blanks(text, place),
-        b'r' => say_number(cut::run_end(text, place)),
-        b'c' => say_scalar(text, place),
-        b's' => say_number(cut::split_at_scalar(text, classes)),
-        b'S' => say_number(cut::strides::split_at_scalar(text)),
-        b'q' => say_quoted(cut::parse_quote_scalar(text)),
-        b'Q' => say_quoted(cut::strides::parse_quote_scalar(text)),
-        b'v' => say_number(cut::parse_variable(text)),
-        b'U' | b'D' => sweep(name, text, classes),
-        _ => say(b" no such cut"),
+        b'b' => say_blanks(rt, text, place),
+        b'r' => say_number(rt, cut::run_end(text, place)),
+        b'c' => say_scalar(rt, text, place),
+        b's' => say_number(rt, cut::split_at_scalar(text, classes)),
+        b'S' => say_number(rt, cut::strides::split_at_scalar(text)),
+        b'q' => say_quoted(rt, cut::parse_quote_scalar(text)),
+        b'Q' => say_quoted(rt, cut::strides::parse_quote_scalar(text)),
+        b'v' => say_number(rt, cut::parse_variable(text)),
+        b'U' | b'D' => sweep(rt, name, text, classes),
+        _ => say(rt, b" no such cut"),
     }
 }
 
 // A line: the letter, a space, the place, a space, the text.
-fn line_answer(line: &[u8], classes: &[u8; data::BYTE_COUNT]) {
+fn line_answer(rt: &impl Print, line: &[u8], classes: &[u8; data::BYTE_COUNT]) -> io::Result<()> {
     if line.len() == 0 {
-        return;
+        return Ok(());
     }
     let place = number(line, 2);
     let mut room = [0u8; ROOM];
     let next = place.next;
     if next < line.len() {
         let n = bytes(&line[next + 1..], &mut room);
-        say(line);
-        answer(line[0], place.value, &room[..n], classes);
-        say(b"\n");
+        say(rt, line)?;
+        answer(rt, line[0], place.value, &room[..n], classes)?;
+        say(rt, b"\n")?;
     }
+    Ok(())
 }
 
 // The place of the LF that ends the line from a place on, or the end.
@@ -317,19 +358,20 @@ fn line_end(input: &[u8], at: usize) -> usize
 }
 
 // Each line of the input in turn.
-fn lines(input: &[u8], classes: &[u8; data::BYTE_COUNT]) {
+fn lines(rt: &impl Print, input: &[u8], classes: &[u8; data::BYTE_COUNT]) -> io::Result<()> {
     let mut i = 0;
     while i < input.len() {
         let end = line_end(input, i);
-        line_answer(&input[i..end], classes);
+        line_answer(rt, &input[i..end], classes)?;
         i = end + 1;
     }
+    Ok(())
 }
 
 // Cases in, the same cases with their answers out.
-fn main() {
-    let mut input = io::large_buffer();
-    let n = io::read_full(STDIN_FILENO, &mut input);
+fn main(rt: HostRuntime) -> io::Result<()> {
+    let mut input = [0u8; MOST_BYTES];
+    let n = read_full(&mut rt.stdin(), &mut input)?;
     let classes = data::character_class();
-    lines(&input[..n], &classes);
+    lines(&rt, &input[..n], &classes)
 }

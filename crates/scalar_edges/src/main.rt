@@ -4,27 +4,29 @@
 
 ghost use Rattle.std.specs.Prelude.{◌≤◌, length};
 
-use libc::{STDIN_FILENO, STDOUT_FILENO};
+use input::read_full;
 use scalar::{BoolRead, F64Read, I64Read, U64Read};
+use std::io;
 
 // How many bytes of the text count.
 const MOST_BYTES: usize = 32768;
 
 // Reads the text, of which only the first bytes count.
-fn main() {
+fn main(rt: HostRuntime) -> io::Result<()> {
     let mut text = [0u8; MOST_BYTES];
-    let n = io::read_full(STDIN_FILENO, &mut text);
-    write_lines(&text[..n]);
+    let n = read_full(&mut rt.stdin(), &mut text)?;
+    write_lines(&rt, &text[..n])
 }
 
 // A line for each line of the text.
-fn write_lines(text: &[u8]) {
+fn write_lines(rt: &impl Print, text: &[u8]) -> io::Result<()> {
     let mut start = 0;
     while start < text.len() {
         let end = line_end(text, start);
-        write_readings(&text[start..end]);
+        write_readings(rt, &text[start..end])?;
         start = end + 1;
     }
+    Ok(())
 }
 
 // The place of the next LF, or of the text's end.
@@ -43,71 +45,66 @@ fn line_end(text: &[u8], start: usize) -> usize
 }
 
 // The five readings of a scalar.
-fn write_readings(d: &[u8]) {
-    write_bool(scalar::to_bool(d));
-    io::write_all(STDOUT_FILENO, b" ");
-    write_u64(scalar::to_u64(d));
-    io::write_all(STDOUT_FILENO, b" ");
-    write_i64(scalar::to_i64(d));
-    io::write_all(STDOUT_FILENO, b" ");
-    write_f64(scalar::to_f64(d));
-    io::write_all(STDOUT_FILENO, b" ");
-    io::print_decimal(STDOUT_FILENO, scalar::kind_number(scalar::kind(d)) as u64);
-    io::write_all(STDOUT_FILENO, b"\n");
+fn write_readings(rt: &impl Print, d: &[u8]) -> io::Result<()> {
+    write_bool(rt, scalar::to_bool(d))?;
+    print!(rt; " ")?;
+    write_u64(rt, scalar::to_u64(d))?;
+    print!(rt; " ")?;
+    write_i64(rt, scalar::to_i64(d))?;
+    print!(rt; " ")?;
+    write_f64(rt, scalar::to_f64(d))?;
+    print!(rt; " ")?;
+    println!(rt; "{}", scalar::kind_number(scalar::kind(d)))
 }
 
 // A truth is 1 or 0.
-fn write_bool(r: BoolRead) {
+fn write_bool(rt: &impl Print, r: BoolRead) -> io::Result<()> {
     let refusal = scalar::bool_refusal(r);
     if refusal != scalar::ANSWERED {
-        io::print_decimal(STDOUT_FILENO, refusal as u64);
-        return;
+        return print!(rt; "{refusal}");
     }
     if scalar::bool_value(r) {
-        io::write_all(STDOUT_FILENO, b"=1");
+        print!(rt; "=1")
     } else {
-        io::write_all(STDOUT_FILENO, b"=0");
+        print!(rt; "=0")
     }
 }
 
 // A number without a minus, in decimal.
-fn write_u64(r: U64Read) {
+fn write_u64(rt: &impl Print, r: U64Read) -> io::Result<()> {
     let refusal = scalar::u64_refusal(r);
     if refusal != scalar::ANSWERED {
-        io::print_decimal(STDOUT_FILENO, refusal as u64);
-        return;
+        return print!(rt; "{refusal}");
     }
-    io::write_all(STDOUT_FILENO, b"=");
-    io::print_decimal(STDOUT_FILENO, scalar::u64_value(r));
+    print!(rt; "={}", scalar::u64_value(r))
 }
 
 // A number with a sign, in decimal.
-fn write_i64(r: I64Read) {
+fn write_i64(rt: &impl Print, r: I64Read) -> io::Result<()> {
     let refusal = scalar::i64_refusal(r);
     if refusal != scalar::ANSWERED {
-        io::print_decimal(STDOUT_FILENO, refusal as u64);
-        return;
+        return print!(rt; "{refusal}");
     }
     let n = scalar::i64_value(r);
     if n < 0 {
-        io::write_all(STDOUT_FILENO, b"=-");
+        print!(rt; "=-")?;
     } else {
-        io::write_all(STDOUT_FILENO, b"=");
+        print!(rt; "=")?;
     }
-    io::print_decimal(STDOUT_FILENO, scalar::magnitude(n));
+    print!(rt; "{}", scalar::magnitude(n))
 }
 
 // An f64 is its bits in hex; a loss of precision is its number and the bits that it carries.
-fn write_f64(r: F64Read) {
+fn write_f64(rt: &impl Print, r: F64Read) -> io::Result<()> {
     let refusal = scalar::f64_refusal(r);
     if refusal == scalar::ANSWERED {
-        io::write_all(STDOUT_FILENO, b"=");
+        print!(rt; "=")?;
     } else {
-        io::print_decimal(STDOUT_FILENO, refusal as u64);
+        print!(rt; "{refusal}")?;
         if refusal != scalar::PRECISION_LOSS {
-            return;
+            return Ok(());
         }
-        io::write_all(STDOUT_FILENO, b":");
+        print!(rt; ":")?;
     }
-    io::print_hex(STDOUT_FILENO, scalar::pattern(scalar::f64_value(r)), 16);
+    print!(rt; "{:016x}", scalar::pattern(scalar::f64_value(r)))
 }

@@ -5,23 +5,26 @@
 // The text of a view is the first LENGTH letters of the alphabet. Any other line is a remark, written as it stands.
 #![tactic(auto)]
 
-use libc::STDOUT_FILENO;
+use input::read_full;
 use sheet::views;
 use sheet::views::Viewed;
+use std::io;
 
 // The numbers of a line.
 mod line;
 
 use crate::line::Line;
 
+// How many bytes of the input count.
+const MOST_BYTES: usize = 65536;
+
 // Writes a word and a blank.
-fn print_number(n: usize) {
-    io::print_decimal(STDOUT_FILENO, n as u64);
-    io::write_all(STDOUT_FILENO, b" ");
+fn print_number(rt: &impl Print, n: usize) -> io::Result<()> {
+    print!(rt; "{n} ")
 }
 
 // check LENGTH COUNT WORD ..
-fn run_check(line: Line, numbers: &[u64; line::MOST]) {
+fn run_check(rt: &impl Print, line: Line, numbers: &[u64; line::MOST]) -> io::Result<()> {
     let mut words = [0u32; line::MOST];
     line::fill(numbers, 2, &mut words);
     if sheet::check(
@@ -29,9 +32,9 @@ fn run_check(line: Line, numbers: &[u64; line::MOST]) {
         line::words(line, 2, &words),
         numbers[1] as usize,
     ) {
-        io::write_all(STDOUT_FILENO, b"sound\n");
+        println!(rt; "sound")
     } else {
-        io::write_all(STDOUT_FILENO, b"unsound\n");
+        println!(rt; "unsound")
     }
 }
 
@@ -45,62 +48,69 @@ fn first(text: &[u8], length: usize) -> &[u8] {
 }
 
 // view LENGTH COUNT INDEX WORD ..
-fn run_view(line: Line, numbers: &[u64; line::MOST]) {
+fn run_view(rt: &impl Print, line: Line, numbers: &[u64; line::MOST]) -> io::Result<()> {
     let mut words = [0u32; line::MOST];
     line::fill(numbers, 3, &mut words);
     print_view(
+        rt,
         first(b"abcdefghijklmnopqrstuvwxyz", numbers[0] as usize),
         line::words(line, 3, &words),
         numbers[1] as usize,
         numbers[2] as usize,
-    );
+    )
 }
 
 // Writes what the two calls for a view answer.
-fn print_view(text: &[u8], words: &[u32], count: usize, index: usize) {
+fn print_view(
+    rt: &impl Print,
+    text: &[u8],
+    words: &[u32],
+    count: usize,
+    index: usize,
+) -> io::Result<()> {
     let answer = views::view_of(text, words, count, index);
     match answer {
         Viewed::At { offset, length } => {
-            print_number(offset);
-            print_number(length);
+            print_number(rt, offset)?;
+            print_number(rt, length)?;
         }
         Viewed::NoScalar => {
-            io::write_all(STDOUT_FILENO, b"refused ");
-            print_number(answer.refusal() as usize);
+            print!(rt; "refused ")?;
+            print_number(rt, answer.refusal() as usize)?;
         }
     }
-    io::write_all(STDOUT_FILENO, b"[");
-    io::write_all(STDOUT_FILENO, views::view(text, words, count, index));
-    io::write_all(STDOUT_FILENO, b"]\n");
+    print!(rt; "[")?;
+    rt.write_all(views::view(text, words, count, index))?;
+    println!(rt; "]")
 }
 
 // token COUNT INDEX WORD ..
-fn run_token(line: Line, numbers: &[u64; line::MOST]) {
+fn run_token(rt: &impl Print, line: Line, numbers: &[u64; line::MOST]) -> io::Result<()> {
     let mut words = [0u32; line::MOST];
     line::fill(numbers, 2, &mut words);
     let count = numbers[0] as usize;
     let index = numbers[1] as usize;
-    print_token(line::words(line, 2, &words), count, index);
+    print_token(rt, line::words(line, 2, &words), count, index)
 }
 
 // Writes what the two calls for a token answer.
-fn print_token(words: &[u32], count: usize, index: usize) {
-    print_number(views::code(words, count, index) as usize);
-    print_number(views::link(words, count, index) as usize);
-    io::write_all(STDOUT_FILENO, b"\n");
+fn print_token(rt: &impl Print, words: &[u32], count: usize, index: usize) -> io::Result<()> {
+    print_number(rt, views::code(words, count, index) as usize)?;
+    print_number(rt, views::link(words, count, index) as usize)?;
+    println!(rt)
 }
 
 // Runs a line that is whole.
-fn run(line: Line, numbers: &[u64; line::MOST]) {
+fn run(rt: &impl Print, line: Line, numbers: &[u64; line::MOST]) -> io::Result<()> {
     let kind = line.kind;
     if kind == b'c' {
-        run_check(line, numbers);
+        run_check(rt, line, numbers)
     } else if kind == b'v' {
-        run_view(line, numbers);
+        run_view(rt, line, numbers)
     } else if kind == b't' {
-        run_token(line, numbers);
+        run_token(rt, line, numbers)
     } else {
-        io::write_all(STDOUT_FILENO, b"\n");
+        println!(rt)
     }
 }
 
@@ -116,33 +126,39 @@ fn is_case(kind: u8) -> bool {
 }
 
 // One byte of the input: the end of a line runs it, a byte of a remark is written.
-fn step(before: Line, byte: u8, numbers: &mut [u64; line::MOST]) -> Line {
+fn step(
+    rt: &impl Print,
+    before: Line,
+    byte: u8,
+    numbers: &mut [u64; line::MOST],
+) -> io::Result<Line> {
     if byte == b'\n' {
         let line = line::put_away(before, numbers);
-        run(line, numbers);
-        return line::new();
+        run(rt, line, numbers)?;
+        return Ok(line::new());
     }
     let line = line::read(before, byte, numbers);
     if !is_case(line.kind) {
-        io::write_all(STDOUT_FILENO, &[byte]);
+        rt.write_all(&[byte])?;
     }
-    line
+    Ok(line)
 }
 
 // Runs every line.
-fn run_all(input: &[u8]) {
+fn run_all(rt: &impl Print, input: &[u8]) -> io::Result<()> {
     let mut numbers = [0u64; line::MOST];
     let mut line = line::new();
     let mut i = 0;
     while i < input.len() {
-        line = step(line, input[i], &mut numbers);
+        line = step(rt, line, input[i], &mut numbers)?;
         i += 1;
     }
+    Ok(())
 }
 
 // Cases in, a line for each out.
-fn main() {
-    let mut input = io::large_buffer();
-    let n = io::read_full(0, &mut input);
-    run_all(&input[..n]);
+fn main(rt: HostRuntime) -> io::Result<()> {
+    let mut input = [0u8; MOST_BYTES];
+    let n = read_full(&mut rt.stdin(), &mut input)?;
+    run_all(&rt, &input[..n])
 }
