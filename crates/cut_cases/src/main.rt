@@ -74,7 +74,7 @@ fn bytes(hex: &[u8], text: &mut [u8]) -> usize
     n
 }
 
-// All that is written goes through here.
+// All that is written goes through here, but for the digits of a number.
 fn say(rt: &impl Print, words: &[u8]) -> io::Result<()> {
     rt.write_all(words)
 }
