@@ -1,5 +1,5 @@
 -- When a sheet is sound: document 01's section of that name, a field to a sentence.
--- A sheet's tokens are a list; past them stands `no-token`, which opens, ends and views nothing.
+-- A sheet's tokens are a list; past them stands `no_token`, which opens, ends and views nothing.
 use Rattle.std.specs.Prelude.{ℕ, ◌+◌, ◌≤◌, ◌<◌, ◌≡◌, true, List, length}
 use Rattle.tape.specs.declared.token.Token.{Token}
 use Rattle.tape.specs.declared.token.ScalarKind.{ScalarKind}

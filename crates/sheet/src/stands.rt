@@ -13,7 +13,7 @@ use tape::token::ScalarKind;
 use tape::{shape, token};
 
 // The least start that the next scalar may have, or that one came too early.
-#[derive(Drop)]
+#[derive(Clone, Copy)]
 pub(crate) enum Floor {
     At(usize),
     Passed,

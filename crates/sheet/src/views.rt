@@ -7,7 +7,7 @@ use tape::shape::{Link, Shape};
 use tape::{shape, words};
 
 // Where a token's view lies, or refusal 12.
-#[derive(Drop)]
+#[derive(Clone, Copy)]
 pub enum Viewed {
     At { offset: usize, length: usize },
     NoScalar,
