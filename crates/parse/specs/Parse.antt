@@ -60,7 +60,7 @@ enough text = 2 * length text + 2
 abbrev pub text_limit : ℕ
 text_limit = 16777215
 
--- After success all words past the tokens are 0. An unfinished run answers Eof only because none is unfinished: `parse-ends` of
+-- After success all words past the tokens are 0. An unfinished run answers Eof only because none is unfinished: `parse_ends` of
 -- crates/parse/proofs/Runs.antt
 abbrev pub answer : Bool → ℕ → After → Outcome
 answer bom len (next m t) = refuse len Eof
