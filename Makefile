@@ -6,11 +6,15 @@
 #                           /usr/local where it is not given; DESTDIR goes before every path
 #   make uninstall, make clean
 #
-# All that the library does but its words is proved first: that takes some minutes, once. On a machine that
-# is no x86-64 the kit's own compiler, linker and C library are used in place of the machine's, as with
-# KIT=1; what is built is for x86-64, and `host/run build/tackacorn ..` runs it under the kit's emulator.
+# All that the library does but its words is proved first: that takes some minutes, once. The kit and what is
+# built are for x86-64. On a machine that is none the kit's own compiler, linker and C library are used in
+# place of the machine's, as with KIT=1, and `host/run build/tackacorn ..` runs what is built under the
+# emulator qemu-x86_64; the kit brings none, and runs under one itself there.
 
 RT ?= rt
+ifneq ($(findstring /,$(RT)),)
+override RT := $(abspath $(RT))
+endif
 PREFIX ?= /usr/local
 ifeq ($(filter /%,$(PREFIX)),)
 override PREFIX := $(CURDIR)/$(PREFIX)
@@ -40,8 +44,8 @@ LAST_DAY := $(shell sed -n 's/^.define TACKACORN_LAST_DAY //p' include/tackacorn
 VERSION := $(shell sed -n 's/^.define TACKACORN_VERSION "\(.*\)"/\1/p' include/tackacorn.h)
 SONAME := libtackacorn.so.$(firstword $(subst ., ,$(VERSION)))
 SHARED := libtackacorn.so.$(VERSION)
-PROVED := target/staticlib/libcapi.a
-CRATES := $(shell find crates -path '*/must-fail' -prune -o \( -name '*.rt' -o -name '*.antt' \) -print)
+PROVED := crates/capi_c/out/libcapi_c.a
+CRATES := $(shell find crates \( -path '*/must-fail' -o -path 'crates/*/out' \) -prune -o \( -name '*.rt' -o -name '*.antt' \) -print)
 COMMAND := $(patsubst host/command/%.c,$(BUILD)/command/%.o,$(wildcard host/command/*.c))
 FILL := sed -e 's|@VERSION@|$(VERSION)|g' -e 's|@LIMIT@|$(LIMIT)|g' -e 's|@LEVELS@|$(LEVELS)|g' -e 's|@LAST_DAY@|$(LAST_DAY)|g' \
     -e 's|@PREFIX@|$(PREFIX)|g' -e 's|@LIBDIR@|$(LIBDIR)|g' -e 's|@INCLUDEDIR@|$(INCLUDEDIR)|g'
@@ -53,7 +57,7 @@ all: $(BUILD)/libtackacorn.a $(BUILD)/libtackacorn.so $(BUILD)/tackacorn $(BUILD
 
 $(PROVED): crates.txt $(CRATES)
 	@command -v $(RT) >/dev/null || { echo "make: $(RT) is not on the path: the Rattle kit is needed to prove the library" >&2; exit 1; }
-	$(RT) staticlib capi
+	cd crates/capi_c && $(RT) lib --cpu x86-64
 	@touch $@
 
 $(BUILD)/words.o: host/library/words.c include/tackacorn.h

@@ -23,9 +23,8 @@ const LINE: usize = 120;
 const HEAD: &str = "\
 -- What the Rust (x86-64, its files compiled unchanged) answers to some texts, in the domain and past it: refusal number, place and BOM, and then the words
 -- of all tokens that its `Vec` held when it returned, at a refusal too. Written by compare's `rust_cases`; not to be edited by hand.
-use Prim.Native.Nat.{ℕ}
-use mathlib.Core.List.{List, [], _∷_}
-use Rattle·promises.specs.Cases.{bytes}
+use Rattle.std.specs.Prelude.{ℕ, List, [], ◌∷◌}
+use Rattle.promises.specs.Cases.{bytes}
 
 pub record Row : Type 0 where
   pub text : List ℕ

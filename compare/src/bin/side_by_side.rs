@@ -60,7 +60,7 @@ fn usage() -> ! {
 
 /// Our program, as a command: its path, with what it runs under in front where it needs that.
 fn ours() -> Vec<String> {
-    let command = env::var("ANSWERS").unwrap_or_else(|_| "target/bin/answers".to_string());
+    let command = env::var("ANSWERS").unwrap_or_else(|_| "crates/answers/out/answers".to_string());
     command.split_whitespace().map(str::to_string).collect()
 }
 

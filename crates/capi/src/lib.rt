@@ -1,6 +1,6 @@
 // The calls for C: parse, check, views, tokens, the way back, sheet files, readings and dates under plain names, on slices (a pointer and a
 // length), pointers to single numbers, and numbers. Each answers a refusal's number, 0 for none, and writes through
-// every pointer that it is given, whatever it answers.
+// every pointer that it is given, whatever it answers. Crate `capi_c` exports them under these names.
 #![tactic(auto)]
 
 ghost use Rattle.std.specs.Prelude.{◌≡◌, Bool, true, ◌↔◌, length};
@@ -48,8 +48,7 @@ fn wide(n: u8) -> u32
 }
 
 // Parses a text onto a lent tape.
-#[unsafe(no_mangle)]
-pub extern "C" fn tackacorn_parse(
+pub fn tackacorn_parse(
     text: &[u8],
     tape: &mut [u32],
     count: &mut u32,
@@ -80,16 +79,14 @@ pub extern "C" fn tackacorn_parse(
 }
 
 // Whether the first count tokens of the words are a sound sheet for a text of a length.
-#[unsafe(no_mangle)]
-pub extern "C" fn tackacorn_check(text_length: usize, words: &[u32], count: usize) -> bool
+pub fn tackacorn_check(text_length: usize, words: &[u32], count: usize) -> bool
     ensures { (result ≡ true) ↔ Sound text_length words.now count }
 {
     sheet::check(text_length, words, count)
 }
 
 // Where in the text the view of token `index` lies.
-#[unsafe(no_mangle)]
-pub extern "C" fn tackacorn_view(
+pub fn tackacorn_view(
     text: &[u8],
     words: &[u32],
     count: usize,
@@ -119,8 +116,7 @@ pub extern "C" fn tackacorn_view(
 }
 
 // The words of token `index`.
-#[unsafe(no_mangle)]
-pub extern "C" fn tackacorn_token(
+pub fn tackacorn_token(
     words: &[u32],
     count: usize,
     index: usize,
@@ -137,8 +133,7 @@ pub extern "C" fn tackacorn_token(
 }
 
 // Writes a sheet back as save text into a lent buffer.
-#[unsafe(no_mangle)]
-pub extern "C" fn tackacorn_write(
+pub fn tackacorn_write(
     text: &[u8],
     words: &[u32],
     count: usize,
@@ -164,8 +159,7 @@ pub extern "C" fn tackacorn_write(
 }
 
 // Writes a sheet as a sheet file into a lent buffer.
-#[unsafe(no_mangle)]
-pub extern "C" fn tackacorn_sheet_write(
+pub fn tackacorn_sheet_write(
     text_length: usize,
     words: &[u32],
     count: usize,
@@ -189,8 +183,7 @@ pub extern "C" fn tackacorn_sheet_write(
 }
 
 // Reads any bytes as a sheet file onto lent words.
-#[unsafe(no_mangle)]
-pub extern "C" fn tackacorn_sheet_read(
+pub fn tackacorn_sheet_read(
     bytes: &[u8],
     words: &mut [u32],
     text_length: &mut usize,
@@ -217,8 +210,7 @@ pub extern "C" fn tackacorn_sheet_read(
 }
 
 // Reads yes or no.
-#[unsafe(no_mangle)]
-pub extern "C" fn tackacorn_to_bool(scalar: &[u8], value: &mut u32) -> u32
+pub fn tackacorn_to_bool(scalar: &[u8], value: &mut u32) -> u32
     ensures { read_told result value.new ≡ tell_bool (bool_read scalar.now) }
 {
     let read = scalar::to_bool(scalar);
@@ -227,8 +219,7 @@ pub extern "C" fn tackacorn_to_bool(scalar: &[u8], value: &mut u32) -> u32
 }
 
 // Reads a number without a minus.
-#[unsafe(no_mangle)]
-pub extern "C" fn tackacorn_to_u64(scalar: &[u8], value: &mut u64) -> u32
+pub fn tackacorn_to_u64(scalar: &[u8], value: &mut u64) -> u32
     ensures { read_told result value.new ≡ tell_u64 (u64_read scalar.now) }
 {
     let read = scalar::to_u64(scalar);
@@ -237,8 +228,7 @@ pub extern "C" fn tackacorn_to_u64(scalar: &[u8], value: &mut u64) -> u32
 }
 
 // Reads a number with a sign.
-#[unsafe(no_mangle)]
-pub extern "C" fn tackacorn_to_i64(scalar: &[u8], value: &mut i64) -> u32
+pub fn tackacorn_to_i64(scalar: &[u8], value: &mut i64) -> u32
     ensures { read_told result value.new ≡ tell_i64 (i64_read scalar.now) }
 {
     let read = scalar::to_i64(scalar);
@@ -247,8 +237,7 @@ pub extern "C" fn tackacorn_to_i64(scalar: &[u8], value: &mut i64) -> u32
 }
 
 // Reads the number with a sign that a scalar begins with, and says how many bytes are left over after it.
-#[unsafe(no_mangle)]
-pub extern "C" fn tackacorn_to_i64_part(scalar: &[u8], value: &mut i64, left: &mut usize) -> u32
+pub fn tackacorn_to_i64_part(scalar: &[u8], value: &mut i64, left: &mut usize) -> u32
     ensures { part_told result value.new left.new
         ≡ tell_part (i64_number scalar.now) (i64_rest scalar.now) }
 {
@@ -259,8 +248,7 @@ pub extern "C" fn tackacorn_to_i64_part(scalar: &[u8], value: &mut i64, left: &m
 }
 
 // Reads a decimal.
-#[unsafe(no_mangle)]
-pub extern "C" fn tackacorn_to_f64(scalar: &[u8], value: &mut f64) -> u32
+pub fn tackacorn_to_f64(scalar: &[u8], value: &mut f64) -> u32
     ensures { read_told result value.new ≡ tell_f64 (f64_read scalar.now) }
 {
     let read = scalar::to_f64(scalar);
@@ -269,16 +257,14 @@ pub extern "C" fn tackacorn_to_f64(scalar: &[u8], value: &mut f64) -> u32
 }
 
 // The kind of an unquoted scalar.
-#[unsafe(no_mangle)]
-pub extern "C" fn tackacorn_kind(scalar: &[u8]) -> u32
+pub fn tackacorn_kind(scalar: &[u8]) -> u32
     ensures { result ≡ kind_number_of (kind_of scalar.now) }
 {
     wide(scalar::kind_number(scalar::kind(scalar)))
 }
 
 // Reads a date.
-#[unsafe(no_mangle)]
-pub extern "C" fn tackacorn_to_date(
+pub fn tackacorn_to_date(
     scalar: &[u8],
     year: &mut u32,
     month: &mut u32,
@@ -298,8 +284,7 @@ pub extern "C" fn tackacorn_to_date(
 }
 
 // The day count of a date.
-#[unsafe(no_mangle)]
-pub extern "C" fn tackacorn_to_days(year: u32, month: u32, day: u32, days: &mut u32) -> u32
+pub fn tackacorn_to_days(year: u32, month: u32, day: u32, days: &mut u32) -> u32
     ensures { read_told result days.new ≡ tell_days (days_of (date year month day 0)) }
 {
     let read = date::to_days(Date {
@@ -313,13 +298,7 @@ pub extern "C" fn tackacorn_to_days(year: u32, month: u32, day: u32, days: &mut 
 }
 
 // The date of a day count.
-#[unsafe(no_mangle)]
-pub extern "C" fn tackacorn_from_days(
-    days: u32,
-    year: &mut u32,
-    month: &mut u32,
-    day: &mut u32,
-) -> u32
+pub fn tackacorn_from_days(days: u32, year: &mut u32, month: &mut u32, day: &mut u32) -> u32
     ensures { read_told result (date year.new month.new day.new 0) ≡ tell_date (date_at days) }
 {
     let read = date::from_days(days);

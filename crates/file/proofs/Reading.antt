@@ -23,10 +23,8 @@ use Rattle.packed.proofs.Packing.{unpacked-length, words_hold}
 use Rattle.file.specs.declared.layout.Version.{Version}
 use Rattle.file.specs.declared.Refusal.TheVariants.{NotSound, NoRoom}
 use Rattle.file.specs.declared.Found.{Found}
-use Rattle.file.specs.declared.Found.TheVariants as Found
 use Rattle.file.specs.Layout.{head_size, file_size}
 use Rattle.file.specs.declared.Opened.{Opened}
-use Rattle.file.specs.declared.Opened.TheVariants as Opened
 use Rattle.file.specs.declared.Opened.TheVariants.{Holds}
 use Rattle.file.specs.Open.{tokens_of, open_file}
 use Rattle.file.specs.Files.{zeros, Left, left, refuse_read, accept_read, read_of, ReadOpened, ReadsAs, Reads}

@@ -3,10 +3,8 @@ use Rattle.std.specs.Prelude.{ℕ}
 use Rattle.file.specs.declared.Refusal.{Refusal}
 use Rattle.file.specs.declared.Refusal.TheVariants.{FileLength, UnknownVersion, NotSound, NoRoom, TooLarge, OtherCount}
 use Rattle.file.specs.declared.Written.{Written}
-use Rattle.file.specs.declared.Written.TheVariants as Written
 use Rattle.file.specs.declared.Written.TheVariants.{File}
 use Rattle.file.specs.declared.Found.{Found}
-use Rattle.file.specs.declared.Found.TheVariants as Found
 use Rattle.file.specs.declared.Found.TheVariants.{Sheet}
 
 -- 31 file under 12 bytes or its first word not its length, 32 unknown version, 33 sheet not sound, 34 no room, 35 text length or total too

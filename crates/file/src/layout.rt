@@ -7,13 +7,13 @@ use packed::numbers::Width;
 use packed::tokens;
 
 // The versions that are read and written.
-#[derive(Drop)]
+#[derive(Clone, Copy)]
 pub enum Version {
     V1,
 }
 
 // The version that a number names, or none.
-#[derive(Drop)]
+#[derive(Clone, Copy)]
 pub enum VersionNamed {
     Known(Version),
     Unknown,

@@ -22,7 +22,7 @@ use tape::words;
 pub mod layout;
 
 // Why a sheet is not written or a file not read.
-#[derive(Drop)]
+#[derive(Clone, Copy)]
 pub enum Refusal {
     FileLength,
     UnknownVersion,
@@ -33,21 +33,21 @@ pub enum Refusal {
 }
 
 // The length of the file written, or a refusal.
-#[derive(Drop)]
+#[derive(Clone, Copy)]
 pub enum Written {
     File(usize),
     Refused(Refusal),
 }
 
 // The length of the text and the count of tokens of the sheet read, or a refusal.
-#[derive(Drop)]
+#[derive(Clone, Copy)]
 pub enum Found {
     Sheet { text_length: u32, count: u32 },
     Refused(Refusal),
 }
 
 // What a file says before its tokens.
-#[derive(Drop)]
+#[derive(Clone, Copy)]
 pub enum Opened {
     Holds {
         version: Version,

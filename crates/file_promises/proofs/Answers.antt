@@ -3,7 +3,7 @@
 use mathlib.Core.Path.{◌≡◌, refl, sym, ◌∙◌, subst}
 use mathlib.Core.Bool.{Bool, true, false, not}
 use mathlib.Core.List.{List}
-use Prim.Native.Nat.{ℕ, ◌-◌, ◌≤◌}
+use Prim.Native.Nat.{ℕ, ◌≤◌}
 use native.Mathlib.Omega.{arith}
 use borrow.Author.Tests.{ltb-true, ltb-false, eqb-true, not-false}
 use lib.Dec.{ltb, eqb}
@@ -19,11 +19,9 @@ use Rattle.file.specs.declared.Refusal.{Refusal}
 use Rattle.file.specs.declared.Refusal.TheVariants.{FileLength, UnknownVersion, NotSound, NoRoom, TooLarge, OtherCount}
 use Rattle.file.specs.declared.Opened.{Opened}
 use Rattle.file.specs.declared.Opened.TheVariants.{Holds}
-use Rattle.file.specs.declared.Opened.TheVariants as Opened
 use Rattle.file.specs.declared.Written.{Written}
 use Rattle.file.specs.declared.Written.TheVariants.{File}
 use Rattle.file.specs.declared.Found.{Found}
-use Rattle.file.specs.declared.Found.TheVariants as Found
 use Rattle.file.specs.Layout.{file_size, file_of}
 use Rattle.file.specs.Open.{least_size, version_named, total_in, version_in, text_length_in, count_in, tokens_of, other_length, open_as, open_file}
 use Rattle.file.specs.Files.{Left, left, too_large, refuse_write, accept_write, write_of, refuse_read, accept_read, read_of, ReadOpened, Reads}

@@ -1,8 +1,8 @@
 -- Bytes and tokens there and back: what is spelled is read, and what is read is spelled.
 -- Assumes nothing.
-use mathlib.Core.Path.{◌≡◌, refl, sym, ◌∙◌, ap}
+use mathlib.Core.Path.{◌≡◌, refl, sym, ◌∙◌, ap, subst}
 use mathlib.Core.List.{List, [], ◌∷◌, ◌++◌, append-nil, append_assoc}
-use Prim.Native.Nat.{ℕ, zero, suc, ◌+◌, ◌-◌, ◌*◌, ◌/◌, ◌%◌, ◌^◌, ◌≤◌, ◌<◌}
+use Prim.Native.Nat.{ℕ, zero, suc, ◌+◌, ◌*◌, ◌/◌, ◌%◌, ◌^◌, ◌≤◌, ◌<◌}
 use native.Mathlib.Omega.{arith}
 use borrow.Author.Tests.{ltb-true, ltb-false}
 use lib.Dec.{ltb}
@@ -138,8 +138,9 @@ tokens-back [] xs s = refl
 tokens-back (t ∷ ts) xs s =
     let parts : xs ++ (token_bytes t ++ packed ts) ≡ xs ++ token_bytes t ++ packed ts = sym (append_assoc xs (token_bytes t) (packed ts)) in
     let on : length (xs ++ token_bytes t) ≡ length xs + bytes_per_token = length-append xs (token_bytes t) ∙ omega (arith, token-length t) in
-    rw (parts, token_back xs (packed ts) t (s 0 (omega arith)), ← on)
-    (ap {B = List Token} (λ (us : List Token). t ∷ us) (tokens-back ts (xs ++ token_bytes t) (λ i h. s (suc i) (omega arith))))
+    subst (λ (bytes : List ℕ). spelled_from bytes (length xs) (suc (length ts)) ≡ t ∷ ts) (sym parts)
+    (rw (token_back xs (packed ts) t (s 0 (omega arith)), ← on)
+    (ap {B = List Token} (λ (us : List Token). t ∷ us) (tokens-back ts (xs ++ token_bytes t) (λ i h. s (suc i) (omega arith)))))
 
 pub packed-back : (ts : List Token) → ((i : ℕ) → i < length ts → Small (nth ts i)) → unpacked (packed ts) ≡ ts
 unfolding unpacked
