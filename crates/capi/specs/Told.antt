@@ -1,5 +1,5 @@
 -- What the calls tell C: a number for the refusal, 0 for none, and beside it what is written through each pointer.
--- What a parse tells stands beside the parse: `tell-parse` of crates/parse/specs/Told.antt.
+-- What a parse tells stands beside the parse: `tell_parse` of crates/parse/specs/Told.antt.
 use Rattle.std.specs.Prelude.{ℕ, List, Float, ℤ, length}
 use Rattle.parse.specs.Told.{bit}
 use Rattle.scalar.specs.Numbers.{bool_refusal_of, bool_value_of, u64_refusal_of, u64_value_of}
