@@ -3,18 +3,14 @@
 use mathlib.Core.Path.{◌≡◌, refl, sym, ◌∙◌, ap, subst}
 use mathlib.Core.Bool.{Bool, true, false, false≢true}
 use mathlib.Core.List.{List, [], ◌∷◌, ◌++◌}
-use mathlib.Core.Logic.{⊎_elim}
 use Prim.Native.Nat.{ℕ, ◌+◌, ◌-◌, ◌*◌, ◌≤◌, ◌<◌}
 use native.Mathlib.Omega.{arith}
 use lib.ListN.{length}
-use types.Run.{OneOf}
-use denote.Enum.Declared.{tag_of}
 use Rattle.data.specs.Bytes.{brace_open, brace_close}
 use Rattle.put.specs.Append.{wrote, append}
 use Rattle.put.proofs.Append.{chain, same_bytes, put-empty, put_on}
 use Rattle.tape.specs.declared.token.Token.{Token}
 use Rattle.tape.specs.declared.token.ContainerKind.{ContainerKind}
-use Rattle.writer.specs.contracts.pieces.Piece.{the_type}
 use Rattle.writer.specs.declared.dues.Due.{Due}
 use Rattle.writer.specs.declared.dues.Due.TheVariants.{Entry}
 use Rattle.writer.specs.declared.pieces.Piece.{Piece}
@@ -27,21 +23,13 @@ use Rattle.writer.specs.Ranges.{Range, behind, Inside, inside_text, token_text}
 use Rattle.writer.proofs.Grown.{stretch-none}
 use Rattle.writer.proofs.Walks.{Bare, scalar, heading, sign, mixed, other, bare-text, Met, step_inside, step_range, step_ahead, step_text}
 
--- ---- a piece by its tag: one that is not an opener's opens nothing
-abbrev bare_tags : List ℕ
-bare_tags = 0 ∷ 1 ∷ 2 ∷ 3 ∷ 5 ∷ []
-
-not_its_tag : OneOf bare_tags 4 → ⊥
-not_its_tag h =
-    ⊎_elim (λ e. omega (arith, e)) (⊎_elim (λ e. omega (arith, e))
-    (⊎_elim (λ e. omega (arith, e)) (⊎_elim (λ e. omega (arith, e)) (λ e. omega (arith, e))))) h
-
-pub not_opener : (p : Piece) → OneOf bare_tags (tag_of the_type p) → Bare p
+-- ---- a piece that is no opener's opens nothing
+pub not_opener : (p : Piece) → ((kind : ContainerKind) (end : ℕ) → p ≡ Opener kind end → ⊥) → Bare p
 not_opener (Scalar quoted offset size) h = scalar quoted offset size
 not_opener (Heading offset size) h = heading offset size
 not_opener (Sign number) h = sign number
 not_opener Mixed h = mixed
-not_opener (Opener kind end) h = absurd (not_its_tag h)
+not_opener (Opener kind end) h = absurd (h kind end refl)
 not_opener Other h = other
 
 -- ---- the measures: twice the tokens that are left, and for a container one more than for what stands in it

@@ -14,7 +14,6 @@ use Rattle.data.specs.Bytes.{brace_close}
 use Rattle.tape.specs.declared.token.Token.{Token}
 use Rattle.tape.specs.declared.token.Container.TheVariants.{Nothing}
 use Rattle.tape.specs.declared.shape.Link.{Link}
-use Rattle.tape.specs.declared.shape.Link.TheVariants as Link
 use Rattle.tape.specs.Token.{nth, container_of}
 use Rattle.tape.specs.Words.{tokens_in, token_in}
 use Rattle.parse.specs.Parse.{text_limit}

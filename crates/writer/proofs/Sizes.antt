@@ -11,7 +11,6 @@ use Rattle.data.specs.Bytes.{quote}
 use Rattle.operator.specs.declared.Operator.{Operator}
 use Rattle.operator.specs.declared.Symbol.{Symbol}
 use Rattle.operator.specs.declared.Numbered.{Numbered}
-use Rattle.operator.specs.declared.Numbered.TheVariants as Numbered
 use Rattle.operator.specs.Operators.{symbol_of, numbered}
 use Rattle.writer.specs.declared.dues.Due.{Due}
 use Rattle.writer.specs.declared.dues.Due.TheVariants.{Entry, Key, AfterKey, Value}

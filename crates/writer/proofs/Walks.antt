@@ -165,6 +165,10 @@ pub record Met (ts : List Token) (i j : ℕ) (p : Piece) : Type 0 where
   pub early : i < j
   pub piece : p ≡ piece_of (nth ts i)
 
+pub read_met : (words : List ℕ) (count i : ℕ) {j : ℕ} {x : Token} {p : Piece} → Range (tokens_in words count) i j → i < j
+    → x ≡ token_in words count i → p ≡ piece_of x → Met (tokens_in words count) i j p
+read_met words count i b h e f = record { range = b; early = h; piece = read-piece words count i e f }
+
 module _ {ts : List Token} {i j : ℕ} {p : Piece} (met : Met ts i j p) where
   pub step_inside : Inside ts (i + 1) p
   step_inside = subst (Inside ts (i + 1)) (sym met.piece) (range_inside ts i j met.range met.early)

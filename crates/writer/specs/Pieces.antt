@@ -3,7 +3,6 @@ use Rattle.std.specs.Prelude.{ℕ, Bool, true, false, List, [], ◌∷◌, ◌++
 use Rattle.data.specs.Bytes.{quote}
 use Rattle.put.specs.Parts.{view_of}
 use Rattle.operator.specs.declared.Numbered.{Numbered}
-use Rattle.operator.specs.declared.Numbered.TheVariants as Numbered
 use Rattle.operator.specs.declared.Symbol.{Symbol}
 use Rattle.operator.specs.Operators.{symbol_of, numbered}
 use Rattle.tape.specs.declared.token.Token.{Token}

@@ -10,7 +10,6 @@ use Rattle.writer.specs.declared.Refusal.TheVariants.{NotSound, TooDeep, TooLong
 use Rattle.writer.specs.declared.Written.{Written}
 use Rattle.writer.specs.declared.Written.TheVariants.{Text, Refused}
 use Rattle.writer.specs.declared.Weighed.{Weighed}
-use Rattle.writer.specs.declared.Weighed.TheVariants as Weighed
 use Rattle.writer.specs.declared.Weighed.TheVariants.{Fits}
 use Rattle.writer.specs.declared.dues.Due.TheVariants.{Key}
 use Rattle.writer.specs.Forest.{forest_of}

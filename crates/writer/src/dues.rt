@@ -6,7 +6,7 @@ use crate::pieces::Piece;
 use tape::token::ContainerKind;
 
 // An entry of an array, or behind a MixedContainer; a key; what stands right behind a key; or the entry that is still missing.
-#[derive(Drop)]
+#[derive(Clone, Copy)]
 pub enum Due {
     Entry,
     Key,

@@ -13,7 +13,7 @@ use tape::{shape, words};
 const MOST_LEVELS: usize = 64;
 
 // How many levels are open, or one more than may be.
-#[derive(Drop)]
+#[derive(Clone, Copy)]
 pub(crate) enum Sunk {
     To(usize),
     TooDeep,

@@ -29,14 +29,14 @@ pub mod pieces;
 mod ranges;
 
 // What can be said before a byte is written: that there is room, or a refusal.
-#[derive(Drop)]
+#[derive(Clone, Copy)]
 enum Weighed {
     Fits,
     Refused(Refusal),
 }
 
 // Why a sheet is not written.
-#[derive(Drop)]
+#[derive(Clone, Copy)]
 pub enum Refusal {
     NotSound,
     TooDeep,
@@ -47,7 +47,7 @@ pub enum Refusal {
 }
 
 // The length of the text written, or a refusal.
-#[derive(Drop)]
+#[derive(Clone, Copy)]
 pub enum Written {
     Text(usize),
     Refused(Refusal),

@@ -17,7 +17,7 @@ use tape::token::Token;
 use tape::{shape, words};
 
 // The bytes of a text, or that there are more than the limit.
-#[derive(Drop)]
+#[derive(Clone, Copy)]
 pub(crate) enum Measured {
     Size(usize),
     Over,

@@ -8,7 +8,7 @@ use tape::shape::Shape;
 use tape::token::{Container, ContainerKind, ScalarKind, Token};
 
 // A scalar with or without quotes, a Header, an operator's sign, a MixedContainer, a container's opener, or what cannot be written.
-#[derive(Drop)]
+#[derive(Clone, Copy)]
 pub enum Piece {
     Scalar {
         quoted: bool,

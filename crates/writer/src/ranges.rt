@@ -5,6 +5,7 @@ ghost use Rattle.writer.specs.Ranges.{behind};
 use crate::pieces::Piece;
 
 // Behind the End of what a piece opens, or at the next token.
+#[tactic(auto, unfolding(crate::specs::Ranges::behind))]
 pub(crate) fn behind(piece: Piece, next: usize) -> usize
     ensures { result ≡ behind piece next }
 {
