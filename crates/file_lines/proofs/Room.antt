@@ -18,13 +18,10 @@ use Rattle.file.specs.declared.layout.Version.{Version}
 use Rattle.file.specs.declared.Refusal.{Refusal}
 use Rattle.file.specs.declared.Refusal.TheVariants.{FileLength, UnknownVersion, NotSound, NoRoom, TooLarge, OtherCount}
 use Rattle.file.specs.declared.Opened.{Opened}
-use Rattle.file.specs.declared.Opened.TheVariants as Opened
 use Rattle.file.specs.declared.Opened.TheVariants.{Holds}
 use Rattle.file.specs.declared.Written.{Written}
-use Rattle.file.specs.declared.Written.TheVariants as Written
 use Rattle.file.specs.declared.Written.TheVariants.{File}
 use Rattle.file.specs.declared.Found.{Found}
-use Rattle.file.specs.declared.Found.TheVariants as Found
 use Rattle.file.specs.declared.Found.TheVariants.{Sheet}
 use Rattle.file.specs.Layout.{head_size}
 use Rattle.file.specs.Open.{tokens_of, open_file}

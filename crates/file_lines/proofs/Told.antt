@@ -7,7 +7,6 @@ use Prim.Native.Nat.{ℕ}
 use Rattle.sheet.specs.Decided.{Decided}
 use Rattle.sheet.proofs.Decisions.{decided_as}
 use Rattle.file.specs.declared.Opened.{Opened}
-use Rattle.file.specs.declared.Opened.TheVariants as Opened
 use Rattle.file.specs.declared.Opened.TheVariants.{Holds}
 use Rattle.file.specs.declared.Written.{Written}
 use Rattle.file.specs.declared.Found.{Found}

@@ -4,10 +4,8 @@ use Rattle.data.specs.Bytes.{line_feed}
 use Rattle.tape.specs.Words.{capacity, tokens_in}
 use Rattle.packed.specs.Packed.{bytes_per_token}
 use Rattle.file.specs.declared.Written.{Written}
-use Rattle.file.specs.declared.Written.TheVariants as Written
 use Rattle.file.specs.declared.Written.TheVariants.{File}
 use Rattle.file.specs.declared.Found.{Found}
-use Rattle.file.specs.declared.Found.TheVariants as Found
 use Rattle.file.specs.declared.Found.TheVariants.{Sheet}
 use Rattle.file.specs.Files.{Left, left, Reads}
 use Rattle.file.specs.Refusals.{number}
