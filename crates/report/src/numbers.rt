@@ -1,7 +1,7 @@
 // Numbers, most significant digit first: the digits of the quotient, and behind them the last one.
 ghost use Rattle.std.specs.Prelude.{◌≡◌, ◌<◌, ◌≤◌};
 ghost use Rattle.put.specs.Append.{wrote, append};
-ghost use Rattle.report.specs.Digits.{glyph as glyph-of, decimal, hex_by, most_hex, hex};
+ghost use Rattle.report.specs.Digits.{glyph as glyph_of, decimal, hex_by, most_hex, hex};
 ghost use Rattle.report.specs.Readings.{integer};
 
 use put::put_byte;
@@ -9,7 +9,7 @@ use put::put_byte;
 // The digit for a number below sixteen: `0` to `9`, then `a` to `f`.
 fn glyph(d: u8) -> u8
     requires { d < 16 }
-    ensures { result ≡ glyph-of d }
+    ensures { result ≡ glyph_of d }
 {
     if d < 10 { b'0' + d } else { b'a' + (d - 10) }
 }

@@ -1,0 +1,21 @@
+-- `report::sheets::put_view` meets its contract, by where the view lies.
+-- Assumes nothing.
+use Rattle.report.proofs.Hexes.{view-shown, view-refused}
+use Rattle.put.proofs.Append.{chain, same_bytes}
+use Rattle.report.proofs.sheets.put_view.Goals as goal
+
+pub returns-in-At : goal.returns-in-At
+returns-in-At c =
+    same_bytes _ _ _ _
+    (chain _ _ _ _
+    (chain _ _ _ _ c.put_bytes-word.ensures c.put_hex_bytes-bytes.ensures)
+    c.put_byte.ensures)
+    (view-shown _ _ _ _ _ _ c.view_of-found.ensures c.in-At.is c.view.ensures.bytes)
+
+pub returns-in-NoScalar : goal.returns-in-NoScalar
+returns-in-NoScalar c =
+    same_bytes _ _ _ _
+    (chain _ _ _ _
+    (chain _ _ _ _ c.put_bytes-word-in-NoScalar.ensures c.put_decimal-number.ensures)
+    c.put_byte-in-NoScalar.ensures)
+    (view-refused _ _ _ _ c.view_of-found.ensures c.in-NoScalar.is c.refusal.ensures)

@@ -1,0 +1,24 @@
+-- `report::sheets::put_written` meets its contract, by what the way back answers.
+-- Assumes nothing.
+use mathlib.Core.Path.{ap}
+use mathlib.Core.List.{List, [], ◌∷◌, ◌++◌}
+use Prim.Native.Nat.{ℕ}
+use Rattle.data.specs.Bytes.{line_feed}
+use Rattle.put.proofs.Append.{chain}
+use Rattle.report.specs.Digits.{decimal}
+use Rattle.report.specs.Sheets.{hex_bytes}
+use Rattle.report.specs.Words as words
+use Rattle.report.proofs.Hexes.{written_as}
+use Rattle.report.proofs.sheets.put_written.Goals as goal
+
+pub returns-in-Text : goal.returns-in-Text
+returns-in-Text c =
+    written_as _ _ _ c.write.ensures c.in-Text.is
+    (chain _ _ _ _ (chain _ _ _ _ c.put_bytes-word.ensures c.put_hex_bytes-bytes.ensures) c.put_byte.ensures)
+    (ap (λ (l : List ℕ). words.text ++ hex_bytes l ++ (line_feed ∷ [])) c.front.ensures.bytes)
+
+pub returns-in-Refused : goal.returns-in-Refused
+returns-in-Refused c =
+    written_as _ _ _ c.write.ensures c.in-Refused.is
+    (chain _ _ _ _ (chain _ _ _ _ c.put_bytes-word-in-Refused.ensures c.put_decimal-digits.ensures) c.put_byte-in-Refused.ensures)
+    (ap (λ (n : ℕ). words.refused ++ decimal n ++ (line_feed ∷ [])) c.number-number.ensures)
