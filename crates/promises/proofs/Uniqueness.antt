@@ -9,10 +9,9 @@ use Prim.Native.Nat.{ℕ}
 use Rattle.sheet.specs.Decided.{Decided}
 use Rattle.file.specs.declared.Opened.{Opened}
 use Rattle.file.specs.declared.Opened.TheVariants.{Holds}
-use Rattle.file.specs.declared.Opened.TheVariants as Opened
 use Rattle.file.specs.declared.Found.{Found}
 use Rattle.file.specs.Open.{open_file}
-use Rattle.file.specs.Files.{Left, ReadOpened, ReadsAs}
+use Rattle.file.specs.Files.{Left, left, ReadOpened, ReadsAs}
 use Rattle.put.specs.Append.{Wrote, wrote}
 use Rattle.promises.specs.Unique.{OneResult, OneLeft, OneLine, OnePart}
 use Rattle.data.proofs.character_class.Reads as character_class
@@ -172,7 +171,11 @@ use Rattle.report.proofs.sheets.put_written.Reads as Put-written
 use Rattle.file_lines.proofs.put_filed.Reads as put-filed
 use Rattle.file_lines.proofs.put_found.Reads as put-found
 use Rattle.file_lines.proofs.found_lines.Reads as found-lines
-use Rattle.capi.specs.Told.{read_told}
+use Rattle.capi.specs.Told.{read_told, sheet_told, tell_sheet}
+use Rattle.file_lines.specs.Lines.{reported, report_sheet, report_whole}
+use Rattle.report.specs.Room.{most_tokens}
+use Rattle.tape.specs.Words
+use lib.ListN.{length}
 use Rattle.capi.proofs.tackacorn_parse.Reads as tackacorn-parse
 use Rattle.capi.proofs.tackacorn_check.Reads as tackacorn_check
 use Rattle.capi.proofs.tackacorn_view.Reads as tackacorn-view
@@ -562,8 +565,8 @@ file_calls =
       file_size = by_definition _ _;
       file_write_result = λ κs args r s xs ys p q. let e = one_decided _ _ _ _ p q in cc;
       file_write_buffer = λ κs args r s xs ys p q. let e = one_decided _ _ _ _ p q in cc;
-      file_read_result = λ κs args r s xs ys p q. let e = one-read _ _ _ _ _ p q in cc;
-      file_read_words = λ κs args r s xs ys p q. let e = one-read _ _ _ _ _ p q in cc;
+      file_read_result = λ κs args r s xs ys p q. let e = one-read (λ answer. answer) _ _ (left r xs.1.0.now) (left s ys.1.0.now) p q in cc;
+      file_read_words = λ κs args r s xs ys p q. let e = one-read (λ answer. answer) _ _ (left r xs.1.0.now) (left s ys.1.0.now) p q in cc;
     }
 
 pub record Sheet : Type 0 where
@@ -705,15 +708,15 @@ file-lines_calls =
       );
       put_filed_buffer = λ κs args r s xs ys p q. let e = one_decided _ _ _ _ p q in cc;
       put_found_line = (
-        λ κs args r s xs ys p q. let e = one-read _ _ _ _ _ p.0 q.0 in cc,
-        λ κs args r s xs ys p q. let e = one-read _ _ _ _ _ p.0 q.0 in cc,
+        λ κs args r s xs ys p q. let e = one-read (report_sheet args.0.now args.1.0) _ (length args.1.1.1.0.now) (reported (wrote r xs.0.now) xs.1.1.1.0.now) (reported (wrote s ys.0.now) ys.1.1.1.0.now) p.0 q.0 in cc,
+        λ κs args r s xs ys p q. let e = one-read (report_sheet args.0.now args.1.0) _ (length args.1.1.1.0.now) (reported (wrote r xs.0.now) xs.1.1.1.0.now) (reported (wrote s ys.0.now) ys.1.1.1.0.now) p.0 q.0 in cc,
       );
-      put_found_words = λ κs args r s xs ys p q. let e = one-read _ _ _ _ _ p.0 q.0 in cc;
+      put_found_words = λ κs args r s xs ys p q. let e = one-read (report_sheet args.0.now args.1.0) _ (length args.1.1.1.0.now) (reported (wrote r xs.0.now) xs.1.1.1.0.now) (reported (wrote s ys.0.now) ys.1.1.1.0.now) p.0 q.0 in cc;
       found_lines_line = (
-        λ κs args r s xs ys p q. let e = one-read _ _ _ _ _ p q in cc,
-        λ κs args r s xs ys p q. let e = one-read _ _ _ _ _ p q in cc,
+        λ κs args r s xs ys p q. let e = one-read (report_whole args.0.now 0) _ (Words.words_for most_tokens) (reported (wrote r xs.0.now) xs.1.1.0.now) (reported (wrote s ys.0.now) ys.1.1.0.now) p q in cc,
+        λ κs args r s xs ys p q. let e = one-read (report_whole args.0.now 0) _ (Words.words_for most_tokens) (reported (wrote r xs.0.now) xs.1.1.0.now) (reported (wrote s ys.0.now) ys.1.1.0.now) p q in cc,
       );
-      found_lines_words = λ κs args r s xs ys p q. let e = one-read _ _ _ _ _ p q in cc;
+      found_lines_words = λ κs args r s xs ys p q. let e = one-read (report_whole args.0.now 0) _ (Words.words_for most_tokens) (reported (wrote r xs.0.now) xs.1.1.0.now) (reported (wrote s ys.0.now) ys.1.1.0.now) p q in cc;
     }
 
 pub record Capi : Type 0 where
@@ -786,10 +789,10 @@ capi_calls =
       tackacorn_sheet_write_result = λ κs args r s xs ys p q. let e = one_decided _ _ _ _ p q in cc;
       tackacorn_sheet_write_buffer = λ κs args r s xs ys p q. let e = one_decided _ _ _ _ p q in cc;
       tackacorn_sheet_write_size = λ κs args r s xs ys p q. let e = one_decided _ _ _ _ p q in cc;
-      tackacorn_sheet_read_result = λ κs args r s xs ys p q. let e = one-read _ _ _ _ _ p q in cc;
-      tackacorn_sheet_read_words = λ κs args r s xs ys p q. let e = one-read _ _ _ _ _ p q in cc;
-      tackacorn_sheet_read_length = λ κs args r s xs ys p q. let e = one-read _ _ _ _ _ p q in cc;
-      tackacorn_sheet_read_count = λ κs args r s xs ys p q. let e = one-read _ _ _ _ _ p q in cc;
+      tackacorn_sheet_read_result = λ κs args r s xs ys p q. let e = one-read tell_sheet _ _ (sheet_told r xs.1.1.0.now xs.1.1.1.0.now xs.1.0.now) (sheet_told s ys.1.1.0.now ys.1.1.1.0.now ys.1.0.now) p q in cc;
+      tackacorn_sheet_read_words = λ κs args r s xs ys p q. let e = one-read tell_sheet _ _ (sheet_told r xs.1.1.0.now xs.1.1.1.0.now xs.1.0.now) (sheet_told s ys.1.1.0.now ys.1.1.1.0.now ys.1.0.now) p q in cc;
+      tackacorn_sheet_read_length = λ κs args r s xs ys p q. let e = one-read tell_sheet _ _ (sheet_told r xs.1.1.0.now xs.1.1.1.0.now xs.1.0.now) (sheet_told s ys.1.1.0.now ys.1.1.1.0.now ys.1.0.now) p q in cc;
+      tackacorn_sheet_read_count = λ κs args r s xs ys p q. let e = one-read tell_sheet _ _ (sheet_told r xs.1.1.0.now xs.1.1.1.0.now xs.1.0.now) (sheet_told s ys.1.1.0.now ys.1.1.1.0.now ys.1.0.now) p q in cc;
       tackacorn_to_bool_result = λ κs args r s xs ys p q. cc;
       tackacorn_to_bool_value = λ κs args r s xs ys p q. cc;
       tackacorn_to_u64_result = λ κs args r s xs ys p q. cc;

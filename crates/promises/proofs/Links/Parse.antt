@@ -6,7 +6,7 @@ use mathlib.Core.Bool.{Bool}
 use mathlib.Core.List.{List, []}
 use Prim.Native.Nat.{ℕ}
 use native.Mathlib.Omega.{arith}
-use Rattle.tape.specs.Token.{no_token, headed}
+use Rattle.tape.specs.Token.{no_token}
 use Rattle.tape.specs.Shape.{linked}
 use Rattle.tape.specs.Words.{tokens_in}
 use Rattle.tape.specs.Tape.{Tape}
