@@ -12,7 +12,6 @@ use lib.ListN.{length, drop, length-append}
 use Rattle.data.proofs.Cases.{by_bool}
 use Rattle.operator.specs.declared.Symbol.{Symbol}
 use Rattle.operator.specs.declared.Numbered.{Numbered}
-use Rattle.operator.specs.declared.Numbered.TheVariants as Numbered
 use Rattle.operator.specs.Operators.{symbol_of, numbered}
 use Rattle.tape.specs.declared.token.Token.{Token}
 use Rattle.tape.specs.declared.token.ScalarKind.TheVariants.{Unquoted, Quoted, Parameter, UndefinedParameter, Header, QuotedEscape}
