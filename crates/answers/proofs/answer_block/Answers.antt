@@ -1,0 +1,15 @@
+-- `answers::answer_block` is safe and ends: each record ends after it begins and within the input. Each answer
+-- finds room, since the place for it leaves half of the buffer, and there is room behind it for the line of a bad record.
+-- Assumes nothing.
+use borrow.Author.Rules.{rules}
+use Rattle.answers.proofs.Fits.{next_near}
+use Rattle.answers.proofs.answer_block.Goals as goal
+
+pub loop-at-preserved : goal.loop-at-preserved
+loop-at-preserved g c = (
+  search rules,
+  search rules,
+  search rules,
+  (let near = next_near _ _ _ _ _ _ _ c.in-Put.is c.answer_record.ensures in
+      search rules),
+)
