@@ -1,5 +1,6 @@
 // Answers records, to be compared with the Rust's answers to the same records. A record is a kind, a capacity of two bytes, a length of two
-// bytes and a body of that length; numbers have their larger bytes first. Input is read and answers are written in large blocks.
+// bytes and a body of that length; numbers have their larger bytes first. Input is read and answers are written in large blocks. A read or a
+// write that fails ends all with its error.
 #![tactic(auto)]
 
 ghost use Rattle.std.specs.Prelude.{◌≡◌, ◌+◌, ◌≤◌, ◌<◌, min, length, IfOk};
@@ -303,7 +304,8 @@ fn stop(rt: &impl Print, out: &mut [u8], at: usize) -> io::Result<()>
     rt.write_all(front(out, n))
 }
 
-// The place for the next answer. Where more than half of the buffer is taken, what stands there is written first.
+// The place for the next answer. Where more than half of the buffer is taken, what stands there is written first: an error is that write's,
+// and nothing else changes.
 fn place_for_next(rt: &impl Print, out: &[u8], to: usize) -> io::Result<usize>
     requires { block_bytes ≤ length out.now }
     ensures { IfOk result (λ place. place + most_answer + stop_bytes ≤ length out.now) }
