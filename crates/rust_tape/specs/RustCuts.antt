@@ -52,7 +52,7 @@ pub data Look : Type 0 where
   next : Look
   leave : Look
 
--- the bytes of a stride; each is loaded whole (`scalar-loads` and `quote-loads` of proofs/Domain.antt)
+-- the bytes of a stride; each is loaded whole (`scalar_loads` and `quote_loads` of proofs/Domain.antt)
 abbrev pub loop_size : ℕ
 loop_size = 16
 

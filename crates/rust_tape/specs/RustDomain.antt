@@ -137,6 +137,6 @@ Throughout P text = Along P text (enough text) (next (start (has_bom text)) (tap
 abbrev pub Domain : List ℕ → Type 0
 Domain text = Throughout (InDomain text) text
 
--- none of the three bytes stands in a text at all; such a text is in the domain (`plain-in-domain`)
+-- none of the three bytes stands in a text at all; such a text is in the domain (`plain_in_domain`)
 abbrev pub Plain : List ℕ → Type 0
 Plain text = (k : ℕ) → among (get_or text k 0) doubted_bytes ≡ false

@@ -694,7 +694,7 @@ begin text =
 unfoldable pub turns_by : (List ℕ → ℕ) → List ℕ → ℕ → Flow
 turns_by cut text turns = rust_loop (source cut text) turns (begin text)
 
--- the parse by a cut: 2n + 2 turns for n bytes. Where Demand2's `Runs-by` holds it has returned by then (`returns`), and more leave its answer (`settles`)
+-- the parse by a cut: 2n + 2 turns for n bytes. Where Demand2's `RunsBy` holds it has returned by then (`returns`), and more leave its answer (`settles`)
 unfoldable pub parsed_by : (List ℕ → ℕ) → List ℕ → Flow
 parsed_by cut text = turns_by cut text (2 * length text + 2)
 

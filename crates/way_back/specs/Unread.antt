@@ -33,7 +33,7 @@ pub record SameLeft (answer other : Written) (buffer buffer' scratch scratch' : 
   pub scratches : scratch ≡ scratch'
 
 -- of the contract of `write`: two calls with the same in what is read, and with buffers and scratches of the same lengths, whatever
--- stands in those, answer and leave the same. It is what `Check-ignores` of crates/sheet/specs/Laws.antt says of `check`: slices with the
+-- stands in those, answer and leave the same. It is what `CheckIgnores` of crates/sheet/specs/Laws.antt says of `check`: slices with the
 -- same words up to the count hold the same tokens. Of the arguments `.0` is the text, and behind it stand the words, the count, the buffer
 -- and the scratch
 abbrev pub WriteIgnores : Type 0
