@@ -54,14 +54,14 @@ const BLOCK: usize = 4 * MOST_INPUT;
 const ANSWER_BYTES: usize = 2 * DUMP_BYTES;
 
 // The answer to a record: the place after its lines, or that the record is bad.
-#[derive(Drop)]
+#[derive(Clone, Copy)]
 enum Answer {
     Put(usize),
     Bad,
 }
 
 // What the answering of a block comes to: the place of a record that is not all there, or that a bad one was met.
-#[derive(Drop)]
+#[derive(Clone, Copy)]
 enum Answered {
     Until(usize),
     Stopped,

@@ -13,7 +13,7 @@ ghost use Rattle.cut.specs.Scalars.{quoted, bracket_run, opens_variable, variabl
 pub mod strides;
 
 // What skipping blanks finds.
-#[derive(Drop)]
+#[derive(Clone, Copy)]
 pub enum Skipped {
     // The place of the next byte that is no blank.
     At(usize),
@@ -22,7 +22,7 @@ pub enum Skipped {
 }
 
 // What reading a quoted run finds.
-#[derive(Drop)]
+#[derive(Clone, Copy)]
 pub enum Quoted {
     // How many bytes stand before the closing quote, and whether a backslash is among them.
     Closed { length: usize, escaped: bool },
@@ -31,7 +31,7 @@ pub enum Quoted {
 }
 
 // A scalar: its view from start to end, and the place where the text goes on.
-#[derive(Drop)]
+#[derive(Clone, Copy)]
 pub enum Cut {
     Unquoted {
         start: usize,

@@ -22,7 +22,7 @@ const ROOM: usize = 64;
 const LONGEST: usize = 40;
 
 // A number that was read, and the place after it.
-#[derive(Drop)]
+#[derive(Clone, Copy)]
 struct Spelt {
     value: usize,
     next: usize,

@@ -9,7 +9,7 @@ use crate::calendar::{Date, DateRead, FIRST_HOUR, MOST_YEAR, in_range};
 const PAST_ALL: u32 = MOST_YEAR + 1;
 
 // A part at a place: its number, and the place after it; or that none stands there.
-#[derive(Drop)]
+#[derive(Clone, Copy)]
 pub enum Part {
     Is(u32, usize),
     Nothing,

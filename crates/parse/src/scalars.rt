@@ -18,7 +18,7 @@ pub(crate) fn viewed(kind: ScalarKind, start: usize, end: usize) -> token::Token
 }
 
 // What stands at a place as a scalar: its token and the place after it, or that the text ends in it.
-#[derive(Drop)]
+#[derive(Clone, Copy)]
 pub enum Scalar {
     Cut { token: token::Token, rest: usize },
     End,

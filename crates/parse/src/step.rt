@@ -15,7 +15,7 @@ use tape::words::Pushed;
 
 // What a state makes of a byte: a whole turn; or that a scalar is due, and the state after it; that an operator of a mixed container is due,
 // and how many tokens stand on the tape; or that a parameter is due, and inside which parent.
-#[derive(Drop)]
+#[derive(Clone, Copy)]
 pub enum Step {
     Turned(Turn),
     Scalar(State),

@@ -6,7 +6,7 @@ ghost use Rattle.scalar.specs.Digits.{is_digit, carry, digit_run, value, gathere
 pub(crate) const OVERFLOW_CUTOFF: usize = 20;
 
 // What a run of digits gathers to, modulo 2^64, and the place after the run.
-#[derive(Drop)]
+#[derive(Clone, Copy)]
 pub struct Gathered {
     pub total: u64,
     pub at: usize,
@@ -14,7 +14,7 @@ pub struct Gathered {
 
 // The digits that stand at a place: the number that they write, or the most that 64 bits hold where it is more, and the place after
 // them.
-#[derive(Drop)]
+#[derive(Clone, Copy)]
 pub struct Digits {
     pub number: u64,
     pub end: usize,

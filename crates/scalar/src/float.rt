@@ -34,7 +34,7 @@ pub enum F64Read {
 }
 
 // What stands after a run of digits: the end or a closing `f`, a point, or anything else.
-#[derive(Drop)]
+#[derive(Clone, Copy)]
 pub enum Tail {
     End,
     Point,

@@ -9,7 +9,7 @@ use crate::truth::{BoolRead, to_bool};
 use crate::whole::MOST_I64;
 
 // What an unquoted scalar is.
-#[derive(Drop)]
+#[derive(Clone, Copy)]
 pub enum ReadingKind {
     Bool,
     Whole,

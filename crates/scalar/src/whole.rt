@@ -18,7 +18,7 @@ pub enum U64Read {
 
 // What bytes begin with as a number with a sign: the number, and the place after its digits. Who asks from outside gets the
 // part that begins there, and no place.
-#[derive(Drop)]
+#[derive(Clone, Copy)]
 pub enum I64Part {
     Is(i64, usize),
     AllDigits,

@@ -4,7 +4,7 @@
 pub const MOST: usize = 256;
 
 // What a line has given so far: its first byte, the number that is being read, and how many numbers have been put away.
-#[derive(Drop)]
+#[derive(Clone, Copy)]
 pub struct Line {
     pub kind: u8,
     pub inside: bool,
