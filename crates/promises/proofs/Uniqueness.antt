@@ -172,7 +172,7 @@ use Rattle.file_lines.proofs.put_filed.Reads as put-filed
 use Rattle.file_lines.proofs.put_found.Reads as put-found
 use Rattle.file_lines.proofs.found_lines.Reads as found-lines
 use Rattle.capi.specs.Told.{read_told, sheet_told, tell_sheet}
-use Rattle.file_lines.specs.Lines.{reported, report_sheet, report_whole}
+use Rattle.file_lines.specs.Lines.{Reported, reported, report_sheet, report_whole}
 use Rattle.report.specs.Room.{most_tokens}
 use Rattle.tape.specs.Words
 use lib.ListN.{length}
@@ -232,6 +232,20 @@ one-opened tell bytes room (Opened.Refused r) x y p q = p ∙ sym q
 one-read : {Told : Type 0} (tell : Left Found → Told) (bytes : List ℕ) (room : ℕ) (x y : Told)
     → ReadsAs tell bytes room x → ReadsAs tell bytes room y → x ≡ y
 one-read tell bytes room x y p q = one-opened tell bytes room (open_file bytes) x y p q
+
+-- told as lines: one place, one buffer and one list of words
+one_reported : (tell : Left Found → Reported) (bytes : List ℕ) (room : ℕ) {r s : ℕ} {out more words left : List ℕ}
+    → ReadsAs tell bytes room (reported (wrote r out) words) → ReadsAs tell bytes room (reported (wrote s more) left)
+    → (r ≡ s) × (out ≡ more) × (words ≡ left)
+one_reported tell bytes room {r} {s} {out} {more} {words} {left} p q =
+    let e = one-read tell bytes room (reported (wrote r out) words) (reported (wrote s more) left) p q in (cc, cc, cc)
+
+-- and told to C: one refusal, one length, one count and one list of words
+one_sheet_told : (bytes : List ℕ) (room : ℕ) {r s size length count many : ℕ} {words left : List ℕ}
+    → ReadsAs tell_sheet bytes room (sheet_told r size count words) → ReadsAs tell_sheet bytes room (sheet_told s length many left)
+    → (r ≡ s) × (size ≡ length) × (count ≡ many) × (words ≡ left)
+one_sheet_told bytes room {r} {s} {size} {length} {count} {many} {words} {left} p q =
+    let e = one-read tell_sheet bytes room (sheet_told r size count words) (sheet_told s length many left) p q in (cc, cc, cc, cc)
 
 pub record Data : Type 0 where
   pub character_class : OneResult character_class.Post
@@ -708,15 +722,15 @@ file-lines_calls =
       );
       put_filed_buffer = λ κs args r s xs ys p q. let e = one_decided _ _ _ _ p q in cc;
       put_found_line = (
-        λ κs args r s xs ys p q. let e = one-read (report_sheet args.0.now args.1.0) _ (length args.1.1.1.0.now) (reported (wrote r xs.0.now) xs.1.1.1.0.now) (reported (wrote s ys.0.now) ys.1.1.1.0.now) p.0 q.0 in cc,
-        λ κs args r s xs ys p q. let e = one-read (report_sheet args.0.now args.1.0) _ (length args.1.1.1.0.now) (reported (wrote r xs.0.now) xs.1.1.1.0.now) (reported (wrote s ys.0.now) ys.1.1.1.0.now) p.0 q.0 in cc,
+        λ κs args r s xs ys p q. (one_reported (report_sheet args.0.now args.1.0) args.1.1.0.now (length args.1.1.1.0.now) p.0 q.0).0,
+        λ κs args r s xs ys p q. (one_reported (report_sheet args.0.now args.1.0) args.1.1.0.now (length args.1.1.1.0.now) p.0 q.0).1,
       );
-      put_found_words = λ κs args r s xs ys p q. let e = one-read (report_sheet args.0.now args.1.0) _ (length args.1.1.1.0.now) (reported (wrote r xs.0.now) xs.1.1.1.0.now) (reported (wrote s ys.0.now) ys.1.1.1.0.now) p.0 q.0 in cc;
+      put_found_words = λ κs args r s xs ys p q. (one_reported (report_sheet args.0.now args.1.0) args.1.1.0.now (length args.1.1.1.0.now) p.0 q.0).2;
       found_lines_line = (
-        λ κs args r s xs ys p q. let e = one-read (report_whole args.0.now 0) _ (Words.words_for most_tokens) (reported (wrote r xs.0.now) xs.1.1.0.now) (reported (wrote s ys.0.now) ys.1.1.0.now) p q in cc,
-        λ κs args r s xs ys p q. let e = one-read (report_whole args.0.now 0) _ (Words.words_for most_tokens) (reported (wrote r xs.0.now) xs.1.1.0.now) (reported (wrote s ys.0.now) ys.1.1.0.now) p q in cc,
+        λ κs args r s xs ys p q. (one_reported (report_whole args.0.now 0) args.1.0.now (Words.words_for most_tokens) p q).0,
+        λ κs args r s xs ys p q. (one_reported (report_whole args.0.now 0) args.1.0.now (Words.words_for most_tokens) p q).1,
       );
-      found_lines_words = λ κs args r s xs ys p q. let e = one-read (report_whole args.0.now 0) _ (Words.words_for most_tokens) (reported (wrote r xs.0.now) xs.1.1.0.now) (reported (wrote s ys.0.now) ys.1.1.0.now) p q in cc;
+      found_lines_words = λ κs args r s xs ys p q. (one_reported (report_whole args.0.now 0) args.1.0.now (Words.words_for most_tokens) p q).2;
     }
 
 pub record Capi : Type 0 where
@@ -789,10 +803,10 @@ capi_calls =
       tackacorn_sheet_write_result = λ κs args r s xs ys p q. let e = one_decided _ _ _ _ p q in cc;
       tackacorn_sheet_write_buffer = λ κs args r s xs ys p q. let e = one_decided _ _ _ _ p q in cc;
       tackacorn_sheet_write_size = λ κs args r s xs ys p q. let e = one_decided _ _ _ _ p q in cc;
-      tackacorn_sheet_read_result = λ κs args r s xs ys p q. let e = one-read tell_sheet _ _ (sheet_told r xs.1.1.0.now xs.1.1.1.0.now xs.1.0.now) (sheet_told s ys.1.1.0.now ys.1.1.1.0.now ys.1.0.now) p q in cc;
-      tackacorn_sheet_read_words = λ κs args r s xs ys p q. let e = one-read tell_sheet _ _ (sheet_told r xs.1.1.0.now xs.1.1.1.0.now xs.1.0.now) (sheet_told s ys.1.1.0.now ys.1.1.1.0.now ys.1.0.now) p q in cc;
-      tackacorn_sheet_read_length = λ κs args r s xs ys p q. let e = one-read tell_sheet _ _ (sheet_told r xs.1.1.0.now xs.1.1.1.0.now xs.1.0.now) (sheet_told s ys.1.1.0.now ys.1.1.1.0.now ys.1.0.now) p q in cc;
-      tackacorn_sheet_read_count = λ κs args r s xs ys p q. let e = one-read tell_sheet _ _ (sheet_told r xs.1.1.0.now xs.1.1.1.0.now xs.1.0.now) (sheet_told s ys.1.1.0.now ys.1.1.1.0.now ys.1.0.now) p q in cc;
+      tackacorn_sheet_read_result = λ κs args r s xs ys p q. (one_sheet_told args.0.now (length args.1.0.now) p q).0;
+      tackacorn_sheet_read_words = λ κs args r s xs ys p q. (one_sheet_told args.0.now (length args.1.0.now) p q).3;
+      tackacorn_sheet_read_length = λ κs args r s xs ys p q. (one_sheet_told args.0.now (length args.1.0.now) p q).1;
+      tackacorn_sheet_read_count = λ κs args r s xs ys p q. (one_sheet_told args.0.now (length args.1.0.now) p q).2;
       tackacorn_to_bool_result = λ κs args r s xs ys p q. cc;
       tackacorn_to_bool_value = λ κs args r s xs ys p q. cc;
       tackacorn_to_u64_result = λ κs args r s xs ys p q. cc;

@@ -10,7 +10,8 @@ returns-then-code-eq-END c = rw (bare_shape, eq-eqb _ _ c.if-code-eq-END.true)
 
 pub returns-then-a-lt-LEAST_OPERATOR : goal.returns-then-a-lt-LEAST_OPERATOR
 unfolding bare_shape
-returns-then-a-lt-LEAST_OPERATOR c = rw (bare_shape, ne_eqb _ _ c.if-code-eq-END.false, eq-eqb _ _ c.if-code-eq-OPERATOR.true, lt-ltb _ _ c.if-a-lt-LEAST_OPERATOR.true)
+returns-then-a-lt-LEAST_OPERATOR c =
+    rw (bare_shape, ne_eqb _ _ c.if-code-eq-END.false, eq-eqb _ _ c.if-code-eq-OPERATOR.true, lt-ltb _ _ c.if-a-lt-LEAST_OPERATOR.true)
 
 pub returns-then-a-gt-GREATEST_OPERATOR : goal.returns-then-a-gt-GREATEST_OPERATOR
 unfolding bare_shape
@@ -58,4 +59,10 @@ returns-else-a-eq0 c =
 
 pub returns-else-code-eq-MIXED_CONTAINER : goal.returns-else-code-eq-MIXED_CONTAINER
 unfolding bare_shape
-returns-else-code-eq-MIXED_CONTAINER c = rw (bare_shape, ne_eqb _ _ c.if-code-eq-END.false, ne_eqb _ _ c.if-code-eq-OPERATOR.false, ne_eqb _ _ c.if-code-eq-MIXED_CONTAINER.false)
+returns-else-code-eq-MIXED_CONTAINER c =
+    rw (
+      bare_shape,
+      ne_eqb _ _ c.if-code-eq-END.false,
+      ne_eqb _ _ c.if-code-eq-OPERATOR.false,
+      ne_eqb _ _ c.if-code-eq-MIXED_CONTAINER.false,
+    )
