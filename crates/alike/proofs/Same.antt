@@ -1,5 +1,6 @@
 -- Two sheets held against each other, a token at a time.
 -- Assumes nothing.
+use Rattle.std.specs.Prelude.{Some, None, Result}
 use mathlib.Core.Path.{◌≡◌, sym, ◌∙◌, ap}
 use mathlib.Core.Bool.{Bool, true, false}
 use mathlib.Core.List.{List}
@@ -12,15 +13,14 @@ use Rattle.data.proofs.Pairs.{pairs-on, pairs_not, pairs_end, pairs-lengths}
 use Rattle.data.proofs.Told.{as_told}
 use Rattle.tape.specs.declared.token.Token.{Token}
 use Rattle.tape.specs.declared.token.ScalarKind.{ScalarKind}
-use Rattle.tape.specs.declared.token.ScalarNamed.TheVariants.{Kind, Nothing}
 use Rattle.tape.specs.Token.{no_token, scalar_named}
 use Rattle.tape.specs.Words.{words_for, tokens_in, token_in, cleared}
 use Rattle.tape.proofs.Views.{tokens-length, tokens-counted}
 use Rattle.machine.specs.declared.Parsed.{Parsed}
-use Rattle.machine.specs.declared.Parsed.TheVariants.{Tokens}
-use Rattle.machine.specs.Finish.{outcome}
+use Rattle.machine.specs.Finish.{outcome, parsed}
 use Rattle.tape.proofs.Clearing.{cleared-whole}
 use Rattle.alike.specs.Alike.{same_view, same_words, same_token, alike, found_alike, comes_back}
+use Rattle.machine.specs.declared.Refusal.{Refusal}
 
 -- ---- one token
 module _ (text other : List ℕ) (x y : Token) where
@@ -32,12 +32,12 @@ module _ (text other : List ℕ) (x y : Token) where
   unfolding same_token
   code_other h = rw (same_token, ne_eqb _ _ h)
 
-  pub scalars-same : {kind : ScalarKind} {r : Bool} → x.code ≡ y.code → scalar_named x.code ≡ Kind kind → r ≡ same_view text other x y
+  pub scalars-same : {kind : ScalarKind} {r : Bool} → x.code ≡ y.code → scalar_named x.code ≡ Some kind → r ≡ same_view text other x y
       → r ≡ same_token text other x y
   unfolding same_token
   scalars-same h k e = rw (same_token, eq-eqb _ _ h, k) e
 
-  pub words_same : {r : Bool} → x.code ≡ y.code → scalar_named x.code ≡ Nothing → r ≡ same_words x y → r ≡ same_token text other x y
+  pub words_same : {r : Bool} → x.code ≡ y.code → scalar_named x.code ≡ None → r ≡ same_words x y → r ≡ same_token text other x y
   unfolding same_token
   words_same h k e = rw (same_token, eq-eqb _ _ h, k) e
 
@@ -50,9 +50,9 @@ unfolding same_words
 word_same x y h = rw (same_words, eq-eqb _ _ h)
 
 -- ---- a parse that found tokens tells what they tell
-pub back_found : (text other : List ℕ) (ts : List Token) (tape : List ℕ) {p : Parsed} {n : ℕ} {bom r : Bool} → p ≡ Tokens n bom
+pub back_found : (text other : List ℕ) (ts : List Token) (tape : List ℕ) {p : Result Parsed Refusal} {n : ℕ} {bom r : Bool} → p ≡ parsed n bom
     → r ≡ found_alike text other ts n tape → r ≡ comes_back text other ts (outcome p tape)
-back_found text other ts tape told e = as_told (λ (q : Parsed). comes_back text other ts (outcome q tape)) e told
+back_found text other ts tape told e = as_told (λ (q : Result Parsed Refusal). comes_back text other ts (outcome q tape)) e told
 
 -- ---- a tape that is cleared from its first token on, and had so many words
 pub all-cleared : (tape : List ℕ) {out : List ℕ} {n : ℕ} → out ≡ cleared tape 0 → length tape ≡ n → out ≡ replicate n 0

@@ -1,12 +1,10 @@
 -- Whether two sheets are the same tokens, each over its own text: the same codes, words and scalar bytes, offsets aside.
-use Rattle.std.specs.Prelude.{ℕ, Bool, false, ◌&&◌, List, eqb, length}
+use Rattle.std.specs.Prelude.{ℕ, Bool, false, ◌&&◌, List, eqb, length, Some, None, Ok, Err}
 use Rattle.data.specs.Pairs.{pairwise}
 use Rattle.put.specs.Equal.{equal_bytes}
 use Rattle.put.specs.Parts.{view_of}
 use Rattle.tape.specs.declared.token.Token.{Token}
-use Rattle.tape.specs.declared.token.ScalarNamed.TheVariants.{Kind, Nothing}
 use Rattle.tape.specs.Token.{scalar_named}
-use Rattle.machine.specs.declared.Parsed.TheVariants.{Tokens, Refused}
 use Rattle.machine.specs.Finish.{Outcome, outcome}
 use Rattle.tape.specs.Words.{tokens_in}
 
@@ -21,7 +19,7 @@ same_words x y = eqb x.a y.a && eqb x.b y.b
 -- two tokens
 unfoldable pub same_token : List ℕ → List ℕ → Token → Token → Bool
 same_token text other x y =
-    eqb x.code y.code && elim (scalar_named x.code) [ Kind kind ↦ same_view text other x y | Nothing ↦ same_words x y ]
+    eqb x.code y.code && elim (scalar_named x.code) [ Some kind ↦ same_view text other x y | None ↦ same_words x y ]
 
 -- as many tokens, and each like the other's
 abbrev pub alike : List ℕ → List ℕ → List Token → List Token → Bool
@@ -33,5 +31,5 @@ found_alike text other ts count words = eqb count (length ts) && alike text othe
 
 -- whether a parse of another text gives the same tokens
 abbrev pub comes_back : List ℕ → List ℕ → List Token → Outcome → Bool
-comes_back text other ts (outcome (Tokens count bom) words) = found_alike text other ts count words
-comes_back text other ts (outcome (Refused r) words) = false
+comes_back text other ts (outcome (Ok p) words) = found_alike text other ts p.count words
+comes_back text other ts (outcome (Err r) words) = false

@@ -7,10 +7,10 @@ ghost use Rattle.machine.specs.Finish.{outcome};
 ghost use Rattle.parse.specs.Parse.{parse_of};
 ghost use Rattle.alike.specs.Alike.{same_view, same_words, same_token, found_alike, comes_back};
 
-use machine::Parsed;
+use machine::{Parsed, Refusal};
 use put::equal::equal_bytes;
 use put::part;
-use tape::token::{ScalarNamed, Token};
+use tape::token::Token;
 use tape::{token, words};
 
 // Whether two scalars view the same bytes, each in its own text.
@@ -42,8 +42,8 @@ fn same_token(text: &[u8], other: &[u8], x: Token, y: Token) -> bool
         return false;
     }
     match token::scalar_named(x.code) {
-        ScalarNamed::Kind(_) => same_view(text, other, x, y),
-        ScalarNamed::Nothing => same_words(x, y),
+        Some(_) => same_view(text, other, x, y),
+        None => same_words(x, y),
     }
 }
 
@@ -82,17 +82,14 @@ fn parsed_alike(
     words: &[u32],
     count: usize,
     tape: &[u32],
-    parsed: Parsed,
+    parsed: Result<Parsed, Refusal>,
 ) -> bool
     ensures { result ≡ comes_back text.now other.now (tokens_in words.now count)
         (outcome parsed tape.now) }
 {
     match parsed {
-        Parsed::Tokens {
-            count: found,
-            bom: _,
-        } => found_alike(text, other, words, count, tape, found as usize),
-        Parsed::Refused(_) => false,
+        Ok(parsed) => found_alike(text, other, words, count, tape, parsed.count as usize),
+        Err(_) => false,
     }
 }
 

@@ -1,6 +1,6 @@
 -- What the calls tell C: a number for the refusal, 0 for none, and beside it what is written through each pointer.
 -- What a parse tells stands beside the parse: `tell_parse` of crates/parse/specs/Told.antt.
-use Rattle.std.specs.Prelude.{ℕ, List, Float, ℤ, length}
+use Rattle.std.specs.Prelude.{ℕ, List, Float, ℤ, length, Option, Some, None}
 use Rattle.parse.specs.Told.{bit}
 use Rattle.scalar.specs.Numbers.{bool_refusal_of, bool_value_of, u64_refusal_of, u64_value_of}
 use Rattle.scalar.specs.Numbers.{i64_refusal_of, i64_value_of, f64_refusal_of, f64_value_of}
@@ -12,9 +12,7 @@ use Rattle.date.specs.Refusals.{date_refusal_of, date_value_of, days_refusal_of,
 use Rattle.date.specs.declared.calendar.Date.{Date}
 use Rattle.date.specs.declared.calendar.DateRead.{DateRead}
 use Rattle.date.specs.declared.calendar.DaysRead.{DaysRead}
-use Rattle.sheet.specs.declared.views.Viewed.{Viewed}
-use Rattle.sheet.specs.declared.views.Viewed.TheVariants.{At, NoScalar}
-use Rattle.sheet.specs.Views.{refusal_of}
+use Rattle.sheet.specs.Views.{refusal_of, seen}
 use Rattle.file.specs.declared.Written as file-written
 use Rattle.file.specs.declared.Found.{Found}
 use Rattle.file.specs.Refusals.{write_refusal, size_of, read_refusal, text_length_of, count_of}
@@ -23,15 +21,16 @@ use Rattle.tape.specs.declared.token.Token.{Token}
 use Rattle.writer.specs.Refusals.{length_of}
 use Rattle.writer.specs.Refusals.{refusal_of as write-refusal-of}
 use Rattle.writer.specs.Write.{Left, left}
+use Rattle.sheet.specs.declared.views.View.{View}
 
 -- a view: its refusal, its offset and its length
 pub data ViewTold : Type 0 where
   view_told : (refusal offset size : ℕ) → ViewTold
 
 -- a refused view is empty, at the text's start
-abbrev pub tell_view : Viewed → ViewTold
-tell_view (At offset size) = view_told (refusal_of (At offset size)) offset size
-tell_view NoScalar = view_told (refusal_of NoScalar) 0 0
+abbrev pub tell_view : Option View → ViewTold
+tell_view (Some v) = view_told (refusal_of (seen v.offset v.length)) v.offset v.length
+tell_view None = view_told (refusal_of None) 0 0
 
 -- the way back: its refusal, the length of the text, and the buffer and the scratch as it leaves them
 pub data WriteTold : Type 0 where

@@ -27,9 +27,8 @@ ghost use Rattle.capi.specs.Told.{read_told, tell_bool, tell_u64, tell_i64, tell
 
 use date::Date;
 use file::Found;
-use machine::Parsed;
 use sheet::views;
-use sheet::views::Viewed;
+use sheet::views::View;
 use tape::words;
 use writer::Written;
 
@@ -59,21 +58,17 @@ pub fn tackacorn_parse(
         ≡ tell_parse (parse_of text.now (length tape.old)) }
 {
     match parse::parse(text, tape) {
-        Parsed::Tokens {
-            count: tokens,
-            bom: began,
-        } => {
-            *count = tokens;
-            *bom = bit_of(began);
+        Ok(parsed) => {
+            *count = parsed.count;
+            *bom = bit_of(parsed.bom);
             *place = 0;
             0
         }
-        Parsed::Refused(refusal) => {
+        Err(refusal) => {
             *count = 0;
             *bom = 0;
             *place = refusal.place();
-            let number = refusal.number();
-            number
+            refusal.number()
         }
     }
 }
@@ -98,21 +93,13 @@ pub fn tackacorn_view(
         ≡ tell_view (viewed (length text.now) words.now count index) }
 {
     let found = views::view_of(text, words, count, index);
-    match found {
-        Viewed::At {
-            offset: start,
-            length,
-        } => {
-            *offset = start;
-            *size = length;
-            found.refusal()
-        }
-        Viewed::NoScalar => {
-            *offset = 0;
-            *size = 0;
-            found.refusal()
-        }
-    }
+    let view = found.unwrap_or(View {
+        offset: 0,
+        length: 0,
+    });
+    *offset = view.offset;
+    *size = view.length;
+    views::refusal(found)
 }
 
 // The words of token `index`.

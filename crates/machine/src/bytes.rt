@@ -19,19 +19,12 @@ pub fn key_byte(b: u8) -> KeyByte
     if !data::may_be_sign(b) {
         return KeyByte::Other;
     }
-    if b == b'}' {
-        return KeyByte::Closer;
+    match b {
+        b'}' | b']' => KeyByte::Closer,
+        b'{' => KeyByte::Brace,
+        b'[' => KeyByte::Bracket,
+        _ => KeyByte::Other,
     }
-    if b == b']' {
-        return KeyByte::Closer;
-    }
-    if b == b'{' {
-        return KeyByte::Brace;
-    }
-    if b == b'[' {
-        return KeyByte::Bracket;
-    }
-    KeyByte::Other
 }
 
 // What a byte is in ParseOpen.
@@ -50,35 +43,19 @@ pub fn open_byte(b: u8) -> OpenByte
     if !data::may_be_sign(b) {
         return OpenByte::Other;
     }
-    if b == b'}' {
-        return OpenByte::Closer;
+    match b {
+        b'}' => OpenByte::Closer,
+        b'[' => OpenByte::Bracket,
+        b'{' => OpenByte::Brace,
+        _ => OpenByte::Other,
     }
-    if b == b'[' {
-        return OpenByte::Bracket;
-    }
-    if b == b'{' {
-        return OpenByte::Brace;
-    }
-    OpenByte::Other
 }
 
 // Whether a byte says that what stood before it is a key.
 pub fn follows_key(b: u8) -> bool
     ensures { result ≡ follows_key b }
 {
-    if b == b'=' {
-        return true;
-    }
-    if b == b'>' {
-        return true;
-    }
-    if b == b'<' {
-        return true;
-    }
-    if b == b'?' {
-        return true;
-    }
-    b == b'!'
+    matches!(b, b'=' | b'>' | b'<' | b'?' | b'!')
 }
 
 // What a byte is in ArrayValue.
@@ -94,16 +71,7 @@ pub enum ValueByte {
 fn begins_operator(b: u8) -> bool
     ensures { result ≡ begins_operator b }
 {
-    if b == b'<' {
-        return true;
-    }
-    if b == b'>' {
-        return true;
-    }
-    if b == b'!' {
-        return true;
-    }
-    b == b'='
+    matches!(b, b'<' | b'>' | b'!' | b'=')
 }
 
 // Tells the bytes of ArrayValue apart.
@@ -113,14 +81,10 @@ pub fn value_byte(b: u8) -> ValueByte
     if !data::may_be_sign(b) & (b != b'!') {
         return ValueByte::Other;
     }
-    if b == b'{' {
-        return ValueByte::Brace;
+    match b {
+        b'{' => ValueByte::Brace,
+        b'}' => ValueByte::Closer,
+        b'<' | b'>' | b'!' | b'=' => ValueByte::Sign,
+        _ => ValueByte::Other,
     }
-    if b == b'}' {
-        return ValueByte::Closer;
-    }
-    if begins_operator(b) {
-        return ValueByte::Sign;
-    }
-    ValueByte::Other
 }

@@ -12,7 +12,7 @@ pub mod parents;
 pub mod start;
 
 // The five states.
-#[derive(Clone, Copy)]
+#[derive(Clone, Copy, PartialEq, Eq)]
 pub enum State {
     Key,
     KeyValueSeparator,
@@ -74,41 +74,31 @@ impl Refusal {
         ensures { result ≡ place self }
     {
         match self {
-            Refusal::TooLong => 0,
-            Refusal::Eof => 0,
-            Refusal::StackEmpty(at) => at,
-            Refusal::NoHeader(at) => at,
-            Refusal::NoValue(at) => at,
-            Refusal::MixedParameter(at) => at,
-            Refusal::NothingPrecedes(at) => at,
-            Refusal::UnknownOperator(at) => at,
-            Refusal::NoParameter(at) => at,
-            Refusal::OpenName(at) => at,
-            Refusal::Full => 0,
+            Refusal::TooLong | Refusal::Eof | Refusal::Full => 0,
+            Refusal::StackEmpty(at)
+            | Refusal::NoHeader(at)
+            | Refusal::NoValue(at)
+            | Refusal::MixedParameter(at)
+            | Refusal::NothingPrecedes(at)
+            | Refusal::UnknownOperator(at)
+            | Refusal::NoParameter(at)
+            | Refusal::OpenName(at) => at,
         }
     }
 }
 
-// What a turn answers: the machine for the next one, the count of a finished tape, or a refusal.
+// What a turn answers that refuses nothing: the machine for the next one, or the count of a finished tape.
 #[derive(Clone, Copy)]
 pub enum Turn {
     Next(Machine),
     Done(u32),
-    Refused(Refusal),
 }
 
-// How a run ends: with the count of a finished tape, or with a refusal.
+// What a parse answers that refuses nothing: how many tokens stand on the tape, and whether the text began with a BOM.
 #[derive(Clone, Copy)]
-pub enum Ending {
-    Done(u32),
-    Refused(Refusal),
-}
-
-// What a parse answers: how many tokens stand on the tape and whether the text began with a BOM, or why it is refused.
-#[derive(Clone, Copy)]
-pub enum Parsed {
-    Tokens { count: u32, bom: bool },
-    Refused(Refusal),
+pub struct Parsed {
+    pub count: u32,
+    pub bom: bool,
 }
 
 impl Machine {
@@ -116,14 +106,11 @@ impl Machine {
     pub fn to(self, at: usize, state: State, count: u32) -> Machine
         ensures { result ≡ to self at state count }
     {
-        let mixed = self.mixed;
-        let parent = self.parent;
         Machine {
             at,
             state,
-            parent,
-            mixed,
             count,
+            ..self
         }
     }
 
@@ -131,14 +118,7 @@ impl Machine {
     pub fn within(self, parent: u32) -> Machine
         ensures { result ≡ within self parent }
     {
-        let state = self.state;
-        Machine {
-            at: self.at,
-            state,
-            parent,
-            mixed: self.mixed,
-            count: self.count,
-        }
+        Machine { parent, ..self }
     }
 }
 
@@ -146,20 +126,14 @@ impl Machine {
 pub fn byte_at(text: &[u8], at: usize) -> u8
     ensures { result ≡ byte_at text.now at }
 {
-    if at < text.len() {
-        return text[at];
-    }
-    0
+    text.get(at).copied().unwrap_or(0)
 }
 
 // A number less some, 0 where that is less than nothing.
 pub fn less(n: u32, some: u32) -> u32
     ensures { result ≡ n - some }
 {
-    if some <= n {
-        return n - some;
-    }
-    0
+    n.saturating_sub(some)
 }
 
 // The machine with mixed on, in ArrayValue, after a MixedContainer was put in.
@@ -167,11 +141,10 @@ pub fn mixed_on(m: Machine, count: u32) -> Machine
     ensures { result ≡ mixed_on m count }
 {
     Machine {
-        at: m.at,
         state: State::ArrayValue,
-        parent: m.parent,
         mixed: true,
         count,
+        ..m
     }
 }
 
@@ -179,34 +152,19 @@ pub fn mixed_on(m: Machine, count: u32) -> Machine
 pub fn is_key(state: State) -> bool
     ensures { result ≡ is_key state }
 {
-    match state {
-        State::Key => true,
-        State::KeyValueSeparator => false,
-        State::ObjectValue => false,
-        State::ParseOpen => false,
-        State::ArrayValue => false,
-    }
+    state == State::Key
 }
 
 // Whether a state is ParseOpen.
 pub fn is_parse_open(state: State) -> bool
     ensures { result ≡ is_parse_open state }
 {
-    match state {
-        State::Key => false,
-        State::KeyValueSeparator => false,
-        State::ObjectValue => false,
-        State::ParseOpen => true,
-        State::ArrayValue => false,
-    }
+    state == State::ParseOpen
 }
 
 // The place one before another, which the refusals of operators name.
 pub fn before(at: usize) -> usize
     ensures { result ≡ at - 1 }
 {
-    if at == 0 {
-        return 0;
-    }
-    at - 1
+    at.saturating_sub(1)
 }

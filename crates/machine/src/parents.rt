@@ -8,37 +8,29 @@ use tape::token::{Container, ContainerKind};
 use tape::words;
 
 // Token i of count as a container.
-pub fn container_at(tape: &[u32], count: u32, i: u32) -> Container
+pub fn container_at(tape: &[u32], count: u32, i: u32) -> Option<Container>
     ensures { result ≡ container_at (view tape.now count) i }
 {
     words::token(tape, count, i).container()
 }
 
 // The parent that an open container names, 0 where there is none.
-pub fn parent_of(container: Container) -> u32
+pub fn parent_of(container: Option<Container>) -> u32
     ensures { result ≡ parent_of container }
 {
     match container {
-        Container::Opened {
-            kind: _,
-            link,
-            mixed: _,
-        } => link,
-        Container::Nothing => 0,
+        Some(container) => container.link,
+        None => 0,
     }
 }
 
 // A container's own kind, Object where there is none.
-pub fn own_kind(container: Container) -> ContainerKind
+pub fn own_kind(container: Option<Container>) -> ContainerKind
     ensures { result ≡ own_kind container }
 {
     match container {
-        Container::Opened {
-            kind,
-            link: _,
-            mixed: _,
-        } => kind,
-        Container::Nothing => ContainerKind::Object,
+        Some(container) => container.kind,
+        None => ContainerKind::Object,
     }
 }
 
@@ -46,46 +38,34 @@ pub fn own_kind(container: Container) -> ContainerKind
 fn state_in_object(mixed: bool) -> State
     ensures { result ≡ state_in_object mixed }
 {
-    if mixed {
-        return State::ArrayValue;
-    }
-    State::Key
+    if mixed { State::ArrayValue } else { State::Key }
 }
 
 // The state in which a container that is taken up goes on.
-fn state_in(container: Container) -> State
+fn state_in(container: Option<Container>) -> State
     ensures { result ≡ state_in container }
 {
-    let Container::Opened {
-        kind,
-        link: _,
-        mixed,
-    } = container
-    else {
+    let Some(container) = container else {
         return State::Key;
     };
-    match kind {
+    match container.kind {
         ContainerKind::Array => State::ArrayValue,
-        ContainerKind::Object => state_in_object(mixed),
+        ContainerKind::Object => state_in_object(container.mixed),
     }
 }
 
 // The flag in force in a container that is taken up.
-fn mixed_in(container: Container) -> bool
+fn mixed_in(container: Option<Container>) -> bool
     ensures { result ≡ mixed_in container }
 {
     match container {
-        Container::Opened {
-            kind: _,
-            link: _,
-            mixed,
-        } => mixed,
-        Container::Nothing => false,
+        Some(container) => container.mixed,
+        None => false,
     }
 }
 
 // The machine past a closing byte, inside a parent that is taken up.
-pub fn resumed(up: Container, parent: u32, at: usize, count: u32) -> Machine
+pub fn resumed(up: Option<Container>, parent: u32, at: usize, count: u32) -> Machine
     ensures { result ≡ resumed up parent at count }
 {
     Machine {
@@ -101,8 +81,5 @@ pub fn resumed(up: Container, parent: u32, at: usize, count: u32) -> Machine
 pub fn nothing_open(parent: u32, grand: u32) -> bool
     ensures { result ≡ nothing_open parent grand }
 {
-    if parent == 0 {
-        return grand == 0;
-    }
-    false
+    parent == 0 && grand == 0
 }

@@ -7,7 +7,7 @@ ghost use Rattle.packed.specs.Packed.{bytes_per_token, bytes_for, token_bytes, p
 
 use crate::numbers;
 use tape::token::Token;
-use tape::{codes, words};
+use tape::{token, words};
 
 // The bytes of a token's code, and of each word behind it.
 const CODE_BYTES: usize = 1;
@@ -49,11 +49,7 @@ pub fn token_of(bytes: &[u8], count: usize, i: usize) -> Token
             return token_at(bytes, i * BYTES_PER_TOKEN);
         }
     }
-    Token {
-        code: codes::NO_TOKEN,
-        a: 0,
-        b: 0,
-    }
+    token::NO_TOKEN
 }
 
 // Puts a token at a place.

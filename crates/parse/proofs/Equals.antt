@@ -1,5 +1,6 @@
 -- The usual `=` taken with the turn before it: what its own turn would do, so that a run is the same.
 -- Assumes nothing.
+use Rattle.std.specs.Prelude.{Result, Ok}
 use mathlib.Core.Path.{◌≡◌, refl, sym, ◌∙◌, ap}
 use mathlib.Core.Bool.{true, false, not, false≢true, ◌&&◌}
 use mathlib.Core.List.{List}
@@ -30,6 +31,7 @@ use Rattle.parse.specs.KeyValueSeparator.{separator_turn, separator_then}
 use Rattle.parse.specs.Parse.{state_turn, turn, run}
 use Rattle.parse.proofs.Falls.{left, turn_falls}
 use Rattle.parse.proofs.Runs.{run-turn, run-enough}
+use Rattle.machine.specs.declared.Refusal.{Refusal}
 
 -- past the end stands no `=`
 pub equals-within : (text : List ℕ) (at : ℕ) → byte_at text at ≡ equals → at < length text
@@ -107,10 +109,10 @@ module _ (text : List ℕ) (m : Machine) where
       (λ e. rw (past_equals, e))
 
 -- a turn and the `=` behind it, as the loop meets them: fewer turns are left, and the run goes on from there
-module _ (text : List ℕ) (t : Tape) (m m' r : Machine) (tape : List ℕ) (x : Turn)
-    (gave : after x tape ≡ turn text t m) (told : x ≡ Next m') (past : r ≡ past_equals text m') where
+module _ (text : List ℕ) (t : Tape) (m m' r : Machine) (tape : List ℕ) (x : Result Turn Refusal)
+    (gave : after x tape ≡ turn text t m) (told : x ≡ Ok (Next m')) (past : r ≡ past_equals text m') where
   turned : turn text t m ≡ next m' (view tape m'.count)
-  turned = sym gave ∙ ap (λ (y : Turn). after y tape) told
+  turned = sym gave ∙ ap (λ (y : Result Turn Refusal). after y tape) told
 
   turn_fell : left text m'.at m'.state < left text m.at m.state
   turn_fell = rw turned at (turn_falls text t m)

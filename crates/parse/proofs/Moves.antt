@@ -1,6 +1,7 @@
 -- What a turn may come to, whatever the room of its tape: every move of the machine, with what the text and the tokens showed, and
 -- every refusal. A property of machines and tokens that each move keeps is kept by every turn (Walk).
 -- Assumes nothing.
+use Rattle.std.specs.Prelude.{Option, Result}
 use mathlib.Core.Path.{◌≡◌}
 use mathlib.Core.Bool.{Bool, true, false}
 use mathlib.Core.List.{List, [], ◌∷◌, ◌++◌}
@@ -59,7 +60,7 @@ on_tape room ts = record { room = room; tokens = ts }
 abbrev pub token_in : List Token → ℕ → Token
 token_in ts i = get_or ts i no_token
 
-abbrev pub container_in : List Token → ℕ → Container
+abbrev pub container_in : List Token → ℕ → Option Container
 container_in ts i = container_of (token_in ts i)
 
 -- what an open container names: the one around it, 0 at top
@@ -120,7 +121,7 @@ pub data Opens (state : State) : Type 0 where
   in_array : state ≡ ArrayValue → Opens state
 
 -- the kind as which a state closes a container
-pub data Closes (state : State) (c : Container) : ContainerKind → Type 0 where
+pub data Closes (state : State) (c : Option Container) : ContainerKind → Type 0 where
   as_object : state ≡ Key → Closes state c Object
   as_own : state ≡ ArrayValue → Closes state c (own_kind c)
 

@@ -1,5 +1,6 @@
 -- What a parse leaves on a tape depends on the tape's length alone.
 -- Assumes nothing.
+use Rattle.std.specs.Prelude.{Result, Ok, Err}
 use mathlib.Core.Path.{◌≡◌, refl, sym, ◌∙◌, ap}
 use mathlib.Core.Bool.{Bool}
 use mathlib.Core.List.{List, []}
@@ -11,17 +12,15 @@ use Rattle.tape.specs.Words.{capacity, greatest_word, room_of, tokens_in, cleare
 use Rattle.tape.specs.Tape.{Room, holds, view, empty_tape}
 use Rattle.machine.specs.declared.Machine.{Machine}
 use Rattle.machine.specs.declared.Refusal.TheVariants.{TooLong}
-use Rattle.machine.specs.declared.Ending.{Ending}
-use Rattle.machine.specs.declared.Ending.TheVariants as Ended
-use Rattle.machine.specs.declared.Parsed.TheVariants.{Refused}
 use Rattle.parse.specs.After.{next}
 use Rattle.machine.specs.Start.{has_bom, start}
 use Rattle.machine.specs.Finish.{outcome, finish}
 use Rattle.parse.specs.Parse.{run, ending, enough, text_limit, answer, parse_of}
 use Rattle.parse.proofs.Moves.{on_tape}
 use Rattle.parse.proofs.Rooms.{runs_alike, told_moved, word-alike}
+use Rattle.machine.specs.declared.Refusal.{Refusal}
 
-pub parse_too_long : (text ws : List ℕ) → text_limit < length text → parse_of text (length ws) ≡ outcome (Refused TooLong) (replicate (length ws) 0)
+pub parse_too_long : (text ws : List ℕ) → text_limit < length text → parse_of text (length ws) ≡ outcome (Err TooLong) (replicate (length ws) 0)
 unfolding parse_of
 parse_too_long text ws h = rw (parse_of, lt-ltb text_limit (length text) h)
 
@@ -45,7 +44,7 @@ unfolding parse_of
 parse_runs text ws h = rw (parse_of, le-ltb text_limit (length text) h) (numbered text ws h)
 
 -- what the end of a run is made into is the answer of the run
-pub finish-answers : (ws : List ℕ) (e : Ending) (bom : Bool) → finish ws e bom ≡ answer bom (length ws) (ending e ws)
+pub finish-answers : (ws : List ℕ) (e : Result ℕ Refusal) (bom : Bool) → finish ws e bom ≡ answer bom (length ws) (ending e ws)
 unfolding finish cleared
-finish-answers ws (Ended.Done n) bom = refl
-finish-answers ws (Ended.Refused r) bom = refl
+finish-answers ws (Ok n) bom = refl
+finish-answers ws (Err r) bom = refl

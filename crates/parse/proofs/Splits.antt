@@ -1,5 +1,7 @@
 -- Case splits that hand over their equation, one for each type that a turn goes by.
 -- Assumes nothing.
+use Rattle.tape.specs.Token.{opened}
+use Rattle.std.specs.Prelude.{Some, None}
 use mathlib.Core.Path.{◌≡◌, refl}
 use mathlib.Core.Bool.{Bool}
 use Prim.Native.Nat.{ℕ}
@@ -33,10 +35,10 @@ by-sighted (Signs.TheVariants.Sign o w) f g = f o w refl
 by-sighted Signs.TheVariants.Nothing f g = g refl
 
 pub by-container : {P : Type 0} (x : Containers.Container)
-    → ((k : ContainerKind) (l : ℕ) (f : Bool) → x ≡ Containers.TheVariants.Opened k l f → P)
-    → (x ≡ Containers.TheVariants.Nothing → P) → P
-by-container (Containers.TheVariants.Opened k l b) f g = f k l b refl
-by-container Containers.TheVariants.Nothing f g = g refl
+    → ((k : ContainerKind) (l : ℕ) (f : Bool) → x ≡ opened k l f → P)
+    → (x ≡ None → P) → P
+by-container (Some container) f g = f container.kind container.link container.mixed refl
+by-container None f g = g refl
 
 pub by-standing : {P : Type 0} (x : Standings.Standing) → (x ≡ Standings.TheVariants.Unquoted → P)
     → (x ≡ Standings.TheVariants.OtherScalar → P) → (x ≡ Standings.TheVariants.End → P) → (x ≡ Standings.TheVariants.Nothing → P)

@@ -1,6 +1,7 @@
 -- One walk of the turns: whatever the room of the tape, a turn comes to one of the moves or refusals of Moves, laying down its tokens
 -- one by one where there is room. So what each move keeps is kept by every turn and every run.
 -- Assumes nothing.
+use Rattle.std.specs.Prelude.{Result, Ok, Err}
 use mathlib.Core.Path.{◌≡◌, ◌∙◌, ap}
 use mathlib.Core.Bool.{true, false}
 use mathlib.Core.List.{List, [], ◌∷◌, ◌++◌}
@@ -48,7 +49,6 @@ use Rattle.parse.specs.ObjectValue.{object_value_turn}
 use Rattle.parse.specs.ParseOpen.{settle, open_empty, open_parameter, open_brace, flag_parent, open_as, open_scalar}
 use Rattle.parse.specs.ParseOpen.{parse_open_turn}
 use Rattle.parse.specs.ArrayValue.{array_close, operator_then, after_end, unmixed_operator, array_operator, array_value_turn}
-use Rattle.machine.specs.declared.Parsed.TheVariants.{Tokens, Refused}
 use Rattle.machine.specs.Start.{has_bom, start}
 use Rattle.machine.specs.Finish.{Outcome, outcome}
 use Rattle.parse.specs.Parse.{state_turn, turn, run, enough, text_limit, answer, parse_of}
@@ -512,8 +512,8 @@ module _ (P : Machine → List Token → Type 0) (Q : ℕ → List Token → Typ
 -- ---- the parse
 -- what an outcome with tokens shows
 abbrev pub Shown : (ℕ → List Token → Type 0) → Outcome → Type 0
-Shown Q (outcome (Tokens count bom) words) = Q count (tokens_in words count)
-Shown Q (outcome (Refused r) words) = Unit {0}
+Shown Q (outcome (Ok p) words) = Q p.count (tokens_in words p.count)
+Shown Q (outcome (Err r) words) = Unit {0}
 
 module _ (P : Machine → List Token → Type 0) (Q : ℕ → List Token → Type 0) (text : List ℕ) (first : P (start (has_bom text)) [])
     (keeps : (m : Machine) (ts : List Token) → P m ts → Keeps P Q text m ts) (counted : (n : ℕ) (ts : List Token) → Q n ts → n ≡ length ts) where

@@ -1,5 +1,5 @@
 -- What a turn makes of a machine and a tape.
-use Rattle.std.specs.Prelude.{ℕ, List}
+use Rattle.std.specs.Prelude.{ℕ, List, Result, Ok, Err}
 use Rattle.tape.specs.declared.token.Token.{Token}
 use Rattle.tape.specs.Tape.{Tape, view, Laying, laid, full, lay}
 use Rattle.machine.specs.declared.State.{State}
@@ -7,7 +7,7 @@ use Rattle.machine.specs.declared.Machine.{Machine}
 use Rattle.machine.specs.declared.Refusal.{Refusal}
 use Rattle.machine.specs.declared.Refusal.TheVariants.{Full}
 use Rattle.machine.specs.declared.Turn.{Turn}
-use Rattle.machine.specs.declared.Turn.TheVariants.{Next, Done, Refused}
+use Rattle.machine.specs.declared.Turn.TheVariants.{Next, Done}
 use Rattle.machine.specs.Machine.{to}
 
 -- a machine and a tape that go on, a finished tape with its count, or a refusal
@@ -17,10 +17,10 @@ pub data After : Type 0 where
   refused : Refusal → After
 
 -- what an answer says together with the words that it leaves
-abbrev pub after : Turn → List ℕ → After
-after (Next m) ws = next m (view ws m.count)
-after (Done n) ws = done n (view ws n)
-after (Refused r) ws = refused r
+abbrev pub after : Result Turn Refusal → List ℕ → After
+after (Ok (Next m)) ws = next m (view ws m.count)
+after (Ok (Done n)) ws = done n (view ws n)
+after (Err r) ws = refused r
 
 -- what comes after a machine that goes on
 abbrev pub and_then : After → (Tape → Machine → After) → After

@@ -1,5 +1,5 @@
 -- The parse: every turn skips blanks, the state decides, and the run goes on until it is done or refused.
-use Rattle.std.specs.Prelude.{ℕ, zero, suc, ◌+◌, ◌*◌, Bool, true, false, List, ltb, length}
+use Rattle.std.specs.Prelude.{ℕ, zero, suc, ◌+◌, ◌*◌, Bool, true, false, List, ltb, length, Result, Ok, Err}
 use Rattle.cut.specs.declared.Skipped.TheVariants.{At, End}
 use Rattle.cut.specs.Blanks.{skip_ws}
 use Rattle.tape.specs.Words.{padded}
@@ -8,11 +8,8 @@ use Rattle.machine.specs.declared.State.TheVariants.{Key, KeyValueSeparator, Obj
 use Rattle.machine.specs.declared.Machine.{Machine}
 use Rattle.machine.specs.declared.Refusal.TheVariants.{TooLong, Eof}
 use Rattle.machine.specs.Start.{has_bom, start}
-use Rattle.machine.specs.declared.Ending.{Ending}
-use Rattle.machine.specs.declared.Ending.TheVariants as Ended
-use Rattle.machine.specs.declared.Parsed.TheVariants.{Tokens}
 use Rattle.machine.specs.Machine.{to}
-use Rattle.machine.specs.Finish.{Outcome, outcome, refuse}
+use Rattle.machine.specs.Finish.{Outcome, outcome, refuse, parsed}
 use Rattle.parse.specs.After.{After, next, done, refused}
 use Rattle.parse.specs.Containers.{text_end}
 use Rattle.parse.specs.Key.{key_turn}
@@ -20,6 +17,7 @@ use Rattle.parse.specs.KeyValueSeparator.{separator_turn}
 use Rattle.parse.specs.ObjectValue.{object_value_turn}
 use Rattle.parse.specs.ParseOpen.{parse_open_turn}
 use Rattle.parse.specs.ArrayValue.{array_value_turn}
+use Rattle.machine.specs.declared.Refusal.{Refusal}
 
 -- what the state makes of a byte that is no blank
 unfoldable pub state_turn : List ℕ → Tape → Machine → After
@@ -48,9 +46,9 @@ run text (suc n) (done k t) = done k t
 run text (suc n) (refused r) = refused r
 
 -- what the end of a run says together with the words that it leaves
-abbrev pub ending : Ending → List ℕ → After
-ending (Ended.Done n) ws = done n (view ws n)
-ending (Ended.Refused r) ws = refused r
+abbrev pub ending : Result ℕ Refusal → List ℕ → After
+ending (Ok n) ws = done n (view ws n)
+ending (Err r) ws = refused r
 
 -- turns enough for any text: each consumes a byte or leaves KeyValueSeparator or ParseOpen for another state
 abbrev pub enough : List ℕ → ℕ
@@ -64,7 +62,7 @@ text_limit = 16777215
 -- crates/parse/proofs/Runs.antt
 abbrev pub answer : Bool → ℕ → After → Outcome
 answer bom len (next m t) = refuse len Eof
-answer bom len (done n t) = outcome (Tokens n bom) (padded len t.tokens)
+answer bom len (done n t) = outcome (parsed n bom) (padded len t.tokens)
 answer bom len (refused r) = refuse len r
 
 -- the parse of a text on a tape of so many words: there is room for as many tokens as its length divided by 3, rounded down; 1 TooLong

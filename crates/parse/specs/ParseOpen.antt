@@ -1,13 +1,12 @@
 -- ParseOpen. `}`: empty Array, End, leave. `[`: 6 if mixed, else the opener becomes an Object and a parameter follows. `{`: if empty,
 -- drop both and stay; else mixed off, opener is an Array, ArrayValue, not consumed. Else a scalar; if mixed, the parent's stored flag
 -- is set; mixed off; skip blanks; next byte `=` `>` `<` `?` `!`: Object and KeyValueSeparator, else Array and ArrayValue.
-use Rattle.std.specs.Prelude.{ℕ, ◌+◌, ◌-◌, true, false, List, eqb}
+use Rattle.std.specs.Prelude.{ℕ, ◌+◌, ◌-◌, true, false, List, eqb, Some, None}
 use Rattle.data.specs.Bytes.{brace_close}
 use Rattle.cut.specs.declared.Skipped.TheVariants.{At, End}
 use Rattle.cut.specs.Blanks.{skip_ws}
 use Rattle.tape.specs.declared.token.ContainerKind.{ContainerKind}
 use Rattle.tape.specs.declared.token.ContainerKind.TheVariants.{Array, Object}
-use Rattle.tape.specs.declared.token.Container.TheVariants.{Opened, Nothing}
 use Rattle.tape.specs.Token.{opener_of}
 use Rattle.tape.specs.Tape.{Tape, replace}
 use Rattle.machine.specs.declared.State.{State}
@@ -59,8 +58,8 @@ unfoldable pub flag_parent : Tape → Machine → Tape
 flag_parent t m =
     elim m.mixed [
       | true ↦ elim (container_at t m.parent) [
-        | Opened kind link mixed ↦ replace t m.parent (opener_of kind link true)
-        | Nothing ↦ t
+        | Some container ↦ replace t m.parent (opener_of container.kind container.link true)
+        | None ↦ t
       ]
       | false ↦ t
     ]

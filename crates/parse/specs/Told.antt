@@ -1,6 +1,5 @@
 -- What a parse tells in document 01's numbers and values.
-use Rattle.std.specs.Prelude.{ℕ, Bool, true, false, List}
-use Rattle.machine.specs.declared.Parsed.TheVariants.{Tokens, Refused}
+use Rattle.std.specs.Prelude.{ℕ, Bool, true, false, List, Ok, Err}
 use Rattle.machine.specs.Refusals.{number, place}
 use Rattle.machine.specs.Finish.{Outcome, outcome}
 
@@ -15,5 +14,5 @@ pub data ParseTold : Type 0 where
 
 -- Success answers the count and the BOM, and has no place; a refusal has its number and place, no token, and reports no BOM
 abbrev pub tell_parse : Outcome → ParseTold
-tell_parse (outcome (Tokens count bom) words) = parse_told 0 count (bit bom) 0 words
-tell_parse (outcome (Refused r) words) = parse_told (number r) 0 0 (place r) words
+tell_parse (outcome (Ok p) words) = parse_told 0 p.count (bit p.bom) 0 words
+tell_parse (outcome (Err r) words) = parse_told (number r) 0 0 (place r) words

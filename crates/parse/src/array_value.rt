@@ -17,24 +17,23 @@ use machine::parents::{container_at, nothing_open, own_kind, parent_of};
 use machine::{Machine, Refusal, State, Turn, before, byte_at, less};
 use operator::Sighted;
 use tape::token::Standing;
-use tape::words::Pushed;
 use tape::{token, words};
 
 // `}`: closes the container that is open, in its own kind.
-fn array_close(tape: &mut [u32], m: Machine) -> Turn
+fn array_close(tape: &mut [u32], m: Machine) -> Result<Turn, Refusal>
     requires { m.at < text_limit }
     ensures { after result tape.new ≡ array_close (view tape.old m.count) m }
 {
     let container = container_at(tape, m.count, m.parent);
     let grand = parent_of(container);
     if nothing_open(m.parent, grand) {
-        return Turn::Refused(Refusal::StackEmpty(m.at));
+        return Err(Refusal::StackEmpty(m.at));
     }
     close(tape, m, own_kind(container), grand)
 }
 
 // An operator among the values of a mixed container.
-pub(crate) fn operator_then(text: &[u8], tape: &mut [u32], m: Machine) -> Turn
+pub(crate) fn operator_then(text: &[u8], tape: &mut [u32], m: Machine) -> Result<Turn, Refusal>
     requires { Here text.now m }
     ensures { after result tape.new ≡ operator_then text.now (view tape.old m.count) m }
 {
@@ -49,19 +48,19 @@ pub(crate) fn operator_then(text: &[u8], tape: &mut [u32], m: Machine) -> Turn
                 State::ArrayValue,
             )
         }
-        Sighted::Nothing => Turn::Refused(Refusal::UnknownOperator(before(at))),
+        Sighted::Nothing => Err(Refusal::UnknownOperator(before(at))),
     }
 }
 
 // An operator byte after a container: `=` belongs to an object template and is skipped.
-fn after_end(text: &[u8], m: Machine) -> Turn
+fn after_end(text: &[u8], m: Machine) -> Result<Turn, Refusal>
     requires { Here text.now m }
     ensures { (ws : List ℕ) → after result ws ≡ after_end text.now (view ws m.count) m }
 {
     if byte_at(text, m.at) == b'=' {
-        return Turn::Next(m.to(m.at + 1, State::ArrayValue, m.count));
+        return Ok(Turn::Next(m.to(m.at + 1, State::ArrayValue, m.count)));
     }
-    Turn::Refused(Refusal::NothingPrecedes(before(m.at)))
+    Err(Refusal::NothingPrecedes(before(m.at)))
 }
 
 // An operator byte that makes the container mixed: the operator itself is due.
@@ -69,8 +68,8 @@ fn mixed_operator(tape: &mut [u32], m: Machine) -> Step
     ensures { (text : List ℕ) → stepped text result tape.new m ≡ mix_then (view tape.old m.count) m (operator_then text) }
 {
     match words::insert_mixed(tape, m.count) {
-        Pushed::Laid(count) => Step::Operator(count),
-        Pushed::Full => Step::Turned(Turn::Refused(Refusal::Full)),
+        Some(count) => Step::Operator(count),
+        None => Step::Turned(Err(Refusal::Full)),
     }
 }
 
@@ -82,10 +81,9 @@ fn unmixed_operator(text: &[u8], tape: &mut [u32], m: Machine) -> Step
 {
     let last = words::token(tape, m.count, less(m.count, 1));
     match last.standing() {
-        Standing::Unquoted => mixed_operator(tape, m),
-        Standing::OtherScalar => mixed_operator(tape, m),
+        Standing::Unquoted | Standing::OtherScalar => mixed_operator(tape, m),
         Standing::End => Step::Turned(after_end(text, m)),
-        Standing::Nothing => Step::Turned(Turn::Refused(Refusal::NothingPrecedes(before(m.at)))),
+        Standing::Nothing => Step::Turned(Err(Refusal::NothingPrecedes(before(m.at)))),
     }
 }
 
@@ -95,8 +93,7 @@ fn array_operator(text: &[u8], tape: &mut [u32], m: Machine) -> Step
     ensures { stepped text.now result tape.new m
         ≡ array_operator text.now (view tape.old m.count) m }
 {
-    let mixed = m.mixed;
-    if mixed {
+    if m.mixed {
         return Step::Operator(m.count);
     }
     unmixed_operator(text, tape, m)

@@ -12,11 +12,10 @@ use crate::laying::lay;
 use machine::parents::{container_at, parent_of, resumed};
 use machine::{Machine, Refusal, State, Turn, is_key};
 use tape::token::ContainerKind;
-use tape::words::Pushed;
 use tape::{token, words};
 
 // `{` where a value is due: adds an Array, whose kind is settled in ParseOpen.
-pub(crate) fn open_then(tape: &mut [u32], m: Machine) -> Turn
+pub(crate) fn open_then(tape: &mut [u32], m: Machine) -> Result<Turn, Refusal>
     requires { m.at < text_limit }
     ensures { after result tape.new ≡ open_then (view tape.old m.count) m }
 {
@@ -36,7 +35,7 @@ pub(crate) fn close_at(
     i: u32,
     kind: ContainerKind,
     mixed: bool,
-) -> Pushed
+) -> Option<u32>
     ensures { after_push result tape.new ≡ lay (replace (view tape.old count) i (opener_of kind count mixed)) count (end_of i) }
 {
     words::put(tape, count, i, token::opener(kind, count, mixed));
@@ -44,42 +43,37 @@ pub(crate) fn close_at(
 }
 
 // Closes the container that the machine is in, as a kind with the flag in force, and takes up its parent.
-pub(crate) fn close(tape: &mut [u32], m: Machine, kind: ContainerKind, grand: u32) -> Turn
+pub(crate) fn close(tape: &mut [u32], m: Machine, kind: ContainerKind, grand: u32) -> Result<Turn, Refusal>
     requires { m.at < text_limit }
     ensures { after result tape.new ≡ close kind grand (view tape.old m.count) m }
 {
     let up = container_at(tape, m.count, grand);
-    match close_at(tape, m.count, m.parent, kind, m.mixed) {
-        Pushed::Laid(count) => Turn::Next(resumed(up, grand, m.at + 1, count)),
-        Pushed::Full => Turn::Refused(Refusal::Full),
-    }
+    let count = close_at(tape, m.count, m.parent, kind, m.mixed).ok_or(Refusal::Full)?;
+    Ok(Turn::Next(resumed(up, grand, m.at + 1, count)))
 }
 
 // The text's end in Key: one container may still be open, at top level, and is closed as an unmixed Object.
-fn key_end(tape: &mut [u32], m: Machine) -> Turn
+fn key_end(tape: &mut [u32], m: Machine) -> Result<Turn, Refusal>
     ensures { after result tape.new ≡ key_end (view tape.old m.count) m }
 {
     let parent = m.parent;
     let count = m.count;
     if parent == 0 {
-        return Turn::Done(count);
+        return Ok(Turn::Done(count));
     }
     if parent_of(container_at(tape, count, parent)) != 0 {
-        return Turn::Refused(Refusal::Eof);
+        return Err(Refusal::Eof);
     }
-    match close_at(tape, count, parent, ContainerKind::Object, false) {
-        Pushed::Laid(end) => Turn::Done(end),
-        Pushed::Full => Turn::Refused(Refusal::Full),
-    }
+    let end = close_at(tape, count, parent, ContainerKind::Object, false).ok_or(Refusal::Full)?;
+    Ok(Turn::Done(end))
 }
 
 // The text's end, which only Key may meet.
-pub(crate) fn text_end(tape: &mut [u32], m: Machine) -> Turn
+pub(crate) fn text_end(tape: &mut [u32], m: Machine) -> Result<Turn, Refusal>
     ensures { after result tape.new ≡ text_end (view tape.old m.count) m }
 {
-    let state = m.state;
-    if is_key(state) {
+    if is_key(m.state) {
         return key_end(tape, m);
     }
-    Turn::Refused(Refusal::Eof)
+    Err(Refusal::Eof)
 }

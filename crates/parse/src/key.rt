@@ -18,19 +18,19 @@ use tape::token::{ContainerKind, Standing};
 use tape::{token, words};
 
 // `}` or `]`: closes the container that is open, or is skipped, since some game files have one too many.
-fn key_close(tape: &mut [u32], m: Machine) -> Turn
+fn key_close(tape: &mut [u32], m: Machine) -> Result<Turn, Refusal>
     requires { m.at < text_limit }
     ensures { after result tape.new ≡ key_close (view tape.old m.count) m }
 {
     let grand = parent_of(container_at(tape, m.count, m.parent));
     if nothing_open(m.parent, grand) {
-        return Turn::Next(m.to(m.at + 1, State::Key, m.count));
+        return Ok(Turn::Next(m.to(m.at + 1, State::Key, m.count)));
     }
     close(tape, m, ContainerKind::Object, grand)
 }
 
 // Makes the last token a Header and opens its container.
-fn open_header(tape: &mut [u32], m: Machine, at: usize) -> Turn
+fn open_header(tape: &mut [u32], m: Machine, at: usize) -> Result<Turn, Refusal>
     ensures { after result tape.new ≡ open_header at (view tape.old m.count) m }
 {
     let last = less(m.count, 1);
@@ -46,28 +46,26 @@ fn open_header(tape: &mut [u32], m: Machine, at: usize) -> Turn
 }
 
 // A container without a key: the last token, if Unquoted, is its Header.
-fn key_header(tape: &mut [u32], m: Machine, at: usize) -> Turn
+fn key_header(tape: &mut [u32], m: Machine, at: usize) -> Result<Turn, Refusal>
     ensures { after result tape.new ≡ key_header at (view tape.old m.count) m }
 {
     let last = words::token(tape, m.count, less(m.count, 1));
     match last.standing() {
         Standing::Unquoted => open_header(tape, m, at),
-        Standing::OtherScalar => Turn::Refused(Refusal::NoHeader(at)),
-        Standing::End => Turn::Refused(Refusal::NoHeader(at)),
-        Standing::Nothing => Turn::Refused(Refusal::NoHeader(at)),
+        Standing::OtherScalar | Standing::End | Standing::Nothing => Err(Refusal::NoHeader(at)),
     }
 }
 
 // `{`: an empty pair of braces is dropped, else it is a Header's container.
-fn key_brace(text: &[u8], tape: &mut [u32], m: Machine) -> Turn
+fn key_brace(text: &[u8], tape: &mut [u32], m: Machine) -> Result<Turn, Refusal>
     requires { Here text.now m }
     ensures { after result tape.new ≡ key_brace text.now (view tape.old m.count) m }
 {
     let Skipped::At(p) = cut::skip_ws_t(text, m.at + 1) else {
-        return Turn::Refused(Refusal::Eof);
+        return Err(Refusal::Eof);
     };
     if byte_at(text, p) == b'}' {
-        return Turn::Next(m.to(p + 1, State::Key, m.count));
+        return Ok(Turn::Next(m.to(p + 1, State::Key, m.count)));
     }
     key_header(tape, m, p)
 }

@@ -6,14 +6,11 @@ ghost use Rattle.parse.specs.After.{after, lay_then};
 use machine::{Machine, Refusal, State, Turn};
 use tape::token::Token;
 use tape::words;
-use tape::words::Pushed;
 
 // Adds a token, and goes on at a place in a state.
-pub(crate) fn lay(tape: &mut [u32], m: Machine, t: Token, at: usize, state: State) -> Turn
+pub(crate) fn lay(tape: &mut [u32], m: Machine, t: Token, at: usize, state: State) -> Result<Turn, Refusal>
     ensures { after result tape.new ≡ lay_then t at state (view tape.old m.count) m }
 {
-    match words::push(tape, m.count, t) {
-        Pushed::Laid(count) => Turn::Next(m.to(at, state, count)),
-        Pushed::Full => Turn::Refused(Refusal::Full),
-    }
+    let count = words::push(tape, m.count, t).ok_or(Refusal::Full)?;
+    Ok(Turn::Next(m.to(at, state, count)))
 }

@@ -13,7 +13,7 @@ use crate::step::Step;
 use cut::Skipped;
 use machine::finish::{finish, refuse};
 use machine::start::{has_bom, start};
-use machine::{Ending, Machine, Parsed, Refusal, State, Turn, mixed_on};
+use machine::{Machine, Parsed, Refusal, State, Turn, mixed_on};
 
 mod array_value;
 mod containers;
@@ -34,8 +34,7 @@ fn state_step(text: &[u8], tape: &mut [u32], m: Machine) -> Step
     requires { Here text.now m }
     ensures { stepped text.now result tape.new m ≡ state_turn text.now (view tape.old m.count) m }
 {
-    let state = m.state;
-    match state {
+    match m.state {
         State::Key => key::key_turn(text, tape, m),
         State::KeyValueSeparator => Step::Turned(separator::separator_turn(text, tape, m)),
         State::ObjectValue => object_value::object_value_turn(text, tape, m),
@@ -45,7 +44,7 @@ fn state_step(text: &[u8], tape: &mut [u32], m: Machine) -> Step
 }
 
 // A turn of the machine's state, at a byte that is no blank.
-fn state_turn(text: &[u8], table: &[u8; data::BYTE_COUNT], tape: &mut [u32], m: Machine) -> Turn
+fn state_turn(text: &[u8], table: &[u8; data::BYTE_COUNT], tape: &mut [u32], m: Machine) -> Result<Turn, Refusal>
     requires { LentHere text.now table.now m }
     ensures { after result tape.new ≡ state_turn text.now (view tape.old m.count) m }
 {
@@ -58,19 +57,18 @@ fn state_turn(text: &[u8], table: &[u8; data::BYTE_COUNT], tape: &mut [u32], m: 
 }
 
 // A turn: skips blanks, and then the state decides.
-fn turn(text: &[u8], table: &[u8; data::BYTE_COUNT], tape: &mut [u32], m: Machine) -> Turn
+fn turn(text: &[u8], table: &[u8; data::BYTE_COUNT], tape: &mut [u32], m: Machine) -> Result<Turn, Refusal>
     requires { Lent text.now table.now }
     ensures { after result tape.new ≡ turn text.now (view tape.old m.count) m }
 {
-    let state = m.state;
     match cut::skip_ws_t(text, m.at) {
-        Skipped::At(p) => state_turn(text, table, tape, m.to(p, state, m.count)),
+        Skipped::At(p) => state_turn(text, table, tape, m.to(p, m.state, m.count)),
         Skipped::End => containers::text_end(tape, m),
     }
 }
 
 // Turns until the text is done or refused.
-fn run(text: &[u8], tape: &mut [u32], from: Machine) -> Ending
+fn run(text: &[u8], tape: &mut [u32], from: Machine) -> Result<u32, Refusal>
     requires { length text.now ≤ text_limit }
     ensures { ending result tape.new
         ≡ run text.now (enough text.now) (next from (view tape.old from.count)) }
@@ -78,17 +76,16 @@ fn run(text: &[u8], tape: &mut [u32], from: Machine) -> Ending
     let table = data::character_class();
     let mut m = from;
     loop {
-        match turn(text, &table, tape, m) {
+        match turn(text, &table, tape, m)? {
             Turn::Next(after) => m = separator::past_equals(text, after),
-            Turn::Done(count) => return Ending::Done(count),
-            Turn::Refused(refusal) => return Ending::Refused(refusal),
+            Turn::Done(count) => return Ok(count),
         }
     }
 }
 
 // Parses a text onto a lent tape, whose old contents never matter: on success the tokens stand at its front with zeros
 // behind them, and a refusal leaves it zero.
-pub fn parse(text: &[u8], tape: &mut [u32]) -> Parsed
+pub fn parse(text: &[u8], tape: &mut [u32]) -> Result<Parsed, Refusal>
     ensures { outcome result tape.new ≡ parse_of text.now (length tape.old) }
 {
     if TEXT_LIMIT < text.len() {

@@ -20,7 +20,7 @@ pub(crate) fn object_value_turn(text: &[u8], tape: &mut [u32], m: Machine) -> St
         return Step::Turned(open_then(tape, m));
     }
     if b == b'}' {
-        return Step::Turned(Turn::Refused(Refusal::NoValue(m.at)));
+        return Step::Turned(Err(Refusal::NoValue(m.at)));
     }
     Step::Scalar(State::Key)
 }

@@ -14,25 +14,22 @@ use crate::scalars::viewed;
 use cut::Skipped;
 use machine::{Machine, Refusal, State, Turn, byte_at};
 use tape::token::{ContainerKind, ScalarKind};
-use tape::words::Pushed;
 use tape::{token, words};
 
 // Opens an Object whose first key is the run from start to end.
-fn parameter_object(tape: &mut [u32], m: Machine, start: usize, end: usize, rest: usize) -> Turn
+fn parameter_object(tape: &mut [u32], m: Machine, start: usize, end: usize, rest: usize) -> Result<Turn, Refusal>
     requires { (start ≤ end) × (end ≤ text_limit) }
     ensures { after result tape.new ≡ parameter_object start end rest (view tape.old m.count) m }
 {
     let opener = token::opener(ContainerKind::Object, m.parent, false);
-    match words::push(tape, m.count, opener) {
-        Pushed::Laid(count) => lay(
-            tape,
-            m.to(rest, State::KeyValueSeparator, count).within(m.count),
-            viewed(ScalarKind::Unquoted, start, end),
-            rest,
-            State::KeyValueSeparator,
-        ),
-        Pushed::Full => Turn::Refused(Refusal::Full),
-    }
+    let count = words::push(tape, m.count, opener).ok_or(Refusal::Full)?;
+    lay(
+        tape,
+        m.to(rest, State::KeyValueSeparator, count).within(m.count),
+        viewed(ScalarKind::Unquoted, start, end),
+        rest,
+        State::KeyValueSeparator,
+    )
 }
 
 // What the byte after the run from start to end says that the run is.
@@ -43,7 +40,7 @@ fn value_or_object(
     start: usize,
     end: usize,
     rest: usize,
-) -> Turn
+) -> Result<Turn, Refusal>
     requires { (start ≤ end) × (end ≤ text_limit) × (rest ≤ text_limit) }
     ensures { after result tape.new ≡ value_or_object text.now start end rest (view tape.old m.count) m }
 {
@@ -73,16 +70,16 @@ fn parameter_value(
     table: &[u8; data::BYTE_COUNT],
     tape: &mut [u32],
     m: Machine,
-) -> Turn
+) -> Result<Turn, Refusal>
     requires { Lent text.now table.now }
     ensures { after result tape.new ≡ parameter_value text.now (view tape.old m.count) m }
 {
     let Skipped::At(start) = cut::skip_ws_t(text, m.at) else {
-        return Turn::Refused(Refusal::Eof);
+        return Err(Refusal::Eof);
     };
     let end = run_from(text, table, start);
     let Skipped::At(rest) = cut::skip_ws_t(text, end) else {
-        return Turn::Refused(Refusal::Eof);
+        return Err(Refusal::Eof);
     };
     value_or_object(text, tape, m, start, end, rest)
 }
@@ -96,19 +93,15 @@ fn parameter_named(
     kind: ScalarKind,
     start: usize,
     end: usize,
-) -> Turn
+) -> Result<Turn, Refusal>
     requires { (length text.now ≤ text_limit) × (table.now ≡ classes) × (start ≤ end) × (end ≤ length text.now) }
     ensures { after result tape.new ≡ parameter_named text.now kind start end (view tape.old m.count) m }
 {
     if byte_at(text, end) != b']' {
-        return Turn::Refused(Refusal::OpenName(end));
+        return Err(Refusal::OpenName(end));
     }
-    match words::push(tape, m.count, viewed(kind, start, end)) {
-        Pushed::Laid(count) => {
-            parameter_value(text, table, tape, m.to(end + 1, State::Key, count))
-        }
-        Pushed::Full => Turn::Refused(Refusal::Full),
-    }
+    let count = words::push(tape, m.count, viewed(kind, start, end)).ok_or(Refusal::Full)?;
+    parameter_value(text, table, tape, m.to(end + 1, State::Key, count))
 }
 
 // Reads a name that starts at a place.
@@ -119,12 +112,12 @@ fn parameter_name(
     m: Machine,
     kind: ScalarKind,
     start: usize,
-) -> Turn
+) -> Result<Turn, Refusal>
     requires { Lent text.now table.now }
     ensures { after result tape.new ≡ parameter_name text.now kind start (view tape.old m.count) m }
 {
     if text.len() <= start {
-        return Turn::Refused(Refusal::Eof);
+        return Err(Refusal::Eof);
     }
     let end = run_from(text, table, start);
     parameter_named(text, table, tape, m, kind, start, end)
@@ -134,10 +127,7 @@ fn parameter_name(
 fn name_kind(undefined: bool) -> ScalarKind
     ensures { result ≡ name_kind undefined }
 {
-    if undefined {
-        return ScalarKind::UndefinedParameter;
-    }
-    ScalarKind::Parameter
+    if undefined { ScalarKind::UndefinedParameter } else { ScalarKind::Parameter }
 }
 
 // The place of a name behind `[[` or `[[!`.
@@ -145,10 +135,7 @@ fn name_start(at: usize, undefined: bool) -> usize
     requires { at < text_limit }
     ensures { result ≡ name_start at undefined }
 {
-    if undefined {
-        return at + 3;
-    }
-    at + 2
+    if undefined { at + 3 } else { at + 2 }
 }
 
 // `[[` or `[[!` at the machine's place, with what follows it.
@@ -157,13 +144,13 @@ pub(crate) fn parameter(
     table: &[u8; data::BYTE_COUNT],
     tape: &mut [u32],
     m: Machine,
-) -> Turn
+) -> Result<Turn, Refusal>
     requires { LentHere text.now table.now m }
     ensures { after result tape.new ≡ parameter text.now (view tape.old m.count) m }
 {
     let at = m.at;
     if byte_at(text, at + 1) != b'[' {
-        return Turn::Refused(Refusal::NoParameter(at));
+        return Err(Refusal::NoParameter(at));
     }
     let undefined = byte_at(text, at + 2) == b'!';
     parameter_name(

@@ -13,8 +13,7 @@ use cut::Skipped;
 use machine::bytes::{OpenByte, follows_key, open_byte};
 use machine::parents::{container_at, resumed};
 use machine::{Machine, Refusal, State, Turn, byte_at, less};
-use tape::token::{Container, ContainerKind};
-use tape::words::Pushed;
+use tape::token::ContainerKind;
 use tape::{token, words};
 
 // Gives the opener that stands `back` tokens before the count its kind, and goes on inside it with mixed off.
@@ -25,39 +24,36 @@ fn settle(
     back: u32,
     at: usize,
     state: State,
-) -> Turn
+) -> Result<Turn, Refusal>
     ensures { after result tape.new ≡ settle kind back at state (view tape.old m.count) m }
 {
     let opener = less(m.count, back);
     words::put(tape, m.count, opener, token::opener(kind, m.parent, false));
-    Turn::Next(Machine {
+    Ok(Turn::Next(Machine {
         at,
         state,
         parent: opener,
         mixed: false,
         count: m.count,
-    })
+    }))
 }
 
 // `}`: an empty Array, and its parent is taken up.
-fn open_empty(tape: &mut [u32], m: Machine) -> Turn
+fn open_empty(tape: &mut [u32], m: Machine) -> Result<Turn, Refusal>
     requires { m.at < text_limit }
     ensures { after result tape.new ≡ open_empty (view tape.old m.count) m }
 {
     let up = container_at(tape, m.count, m.parent);
-    match close_at(tape, m.count, less(m.count, 1), ContainerKind::Array, false) {
-        Pushed::Laid(count) => Turn::Next(resumed(up, m.parent, m.at + 1, count)),
-        Pushed::Full => Turn::Refused(Refusal::Full),
-    }
+    let count = close_at(tape, m.count, less(m.count, 1), ContainerKind::Array, false).ok_or(Refusal::Full)?;
+    Ok(Turn::Next(resumed(up, m.parent, m.at + 1, count)))
 }
 
 // `[`: the container is an Object that begins with a parameter, which is due.
 fn open_parameter(tape: &mut [u32], m: Machine) -> Step
     ensures { (text : List ℕ) → stepped text result tape.new m ≡ open_parameter text (view tape.old m.count) m }
 {
-    let mixed = m.mixed;
-    if mixed {
-        return Step::Turned(Turn::Refused(Refusal::MixedParameter(m.at)));
+    if m.mixed {
+        return Step::Turned(Err(Refusal::MixedParameter(m.at)));
     }
     let opener = less(m.count, 1);
     words::put(
@@ -70,15 +66,15 @@ fn open_parameter(tape: &mut [u32], m: Machine) -> Step
 }
 
 // `{`: an empty pair of braces is dropped, else the container is an Array whose first entry is a container.
-fn open_brace(text: &[u8], tape: &mut [u32], m: Machine) -> Turn
+fn open_brace(text: &[u8], tape: &mut [u32], m: Machine) -> Result<Turn, Refusal>
     requires { Here text.now m }
     ensures { after result tape.new ≡ open_brace text.now (view tape.old m.count) m }
 {
     let Skipped::At(p) = cut::skip_ws_t(text, m.at + 1) else {
-        return Turn::Refused(Refusal::Eof);
+        return Err(Refusal::Eof);
     };
     if byte_at(text, p) == b'}' {
-        return Turn::Next(m.to(p + 1, State::ParseOpen, m.count));
+        return Ok(Turn::Next(m.to(p + 1, State::ParseOpen, m.count)));
     }
     settle(tape, m, ContainerKind::Array, 1, m.at, State::ArrayValue)
 }
@@ -87,27 +83,25 @@ fn open_brace(text: &[u8], tape: &mut [u32], m: Machine) -> Turn
 pub(crate) fn flag_parent(tape: &mut [u32], m: Machine)
     ensures { view tape.new m.count ≡ flag_parent (view tape.old m.count) m }
 {
-    let mixed = m.mixed;
-    if !mixed {
+    if !m.mixed {
         return;
     }
-    let parent = m.parent;
-    match container_at(tape, m.count, parent) {
-        Container::Opened {
-            kind,
-            link,
-            mixed: _,
-        } => { words::put(tape, m.count, parent, token::opener(kind, link, true)) }
-        Container::Nothing => {}
+    if let Some(container) = container_at(tape, m.count, m.parent) {
+        words::put(
+            tape,
+            m.count,
+            m.parent,
+            token::opener(container.kind, container.link, true),
+        );
     }
 }
 
 // The byte after the first scalar says whether the container is an Object or an Array.
-pub(crate) fn open_as(text: &[u8], tape: &mut [u32], m: Machine) -> Turn
+pub(crate) fn open_as(text: &[u8], tape: &mut [u32], m: Machine) -> Result<Turn, Refusal>
     ensures { after result tape.new ≡ open_as text.now (view tape.old m.count) m }
 {
     let Skipped::At(p) = cut::skip_ws_t(text, m.at) else {
-        return Turn::Refused(Refusal::Eof);
+        return Err(Refusal::Eof);
     };
     if follows_key(byte_at(text, p)) {
         return settle(

@@ -17,32 +17,32 @@ pub(crate) fn viewed(kind: ScalarKind, start: usize, end: usize) -> token::Token
     token::scalar(kind, start as u32, (end - start) as u32)
 }
 
-// What stands at a place as a scalar: its token and the place after it, or that the text ends in it.
+// A scalar that stands at a place: its token, and the place after it.
 #[derive(Clone, Copy)]
-pub enum Scalar {
-    Cut { token: token::Token, rest: usize },
-    End,
+pub struct Scalar {
+    pub token: token::Token,
+    pub rest: usize,
 }
 
-// The scalar at a place.
-pub(crate) fn scalar_at(text: &[u8], at: usize) -> Scalar
+// The scalar at a place; none where the text ends in it.
+pub(crate) fn scalar_at(text: &[u8], at: usize) -> Option<Scalar>
     requires { length text.now ≤ text_limit }
     ensures { result ≡ scalar_found (scalar_cut text.now at) }
 {
     match cut::scalar_at(text, at) {
-        Cut::Unquoted { start, end, rest } => Scalar::Cut {
+        Cut::Unquoted { start, end, rest } => Some(Scalar {
             token: viewed(ScalarKind::Unquoted, start, end),
             rest,
-        },
+        }),
         Cut::Quoted {
             start,
             end,
             rest,
             escaped,
-        } => Scalar::Cut {
+        } => Some(Scalar {
             token: viewed(token::quoted_kind(escaped), start, end),
             rest,
-        },
-        Cut::End => Scalar::End,
+        }),
+        Cut::End => None,
     }
 }

@@ -10,27 +10,24 @@ ghost use Rattle.parse.specs.Here.{Here};
 use crate::laying::lay;
 use machine::{Machine, Refusal, State, Turn, byte_at, mixed_on};
 use operator::{Operator, Sighted};
-use tape::words::Pushed;
 use tape::{token, words};
 
 // Puts a MixedContainer in before the last token, and goes on in ArrayValue with mixed on.
-fn mix(tape: &mut [u32], m: Machine) -> Turn
+fn mix(tape: &mut [u32], m: Machine) -> Result<Turn, Refusal>
     ensures { after result tape.new ≡ mix_then (view tape.old m.count) m (λ t m'. next m' t) }
 {
-    match words::insert_mixed(tape, m.count) {
-        Pushed::Laid(count) => Turn::Next(mixed_on(m, count)),
-        Pushed::Full => Turn::Refused(Refusal::Full),
-    }
+    let count = words::insert_mixed(tape, m.count).ok_or(Refusal::Full)?;
+    Ok(Turn::Next(mixed_on(m, count)))
 }
 
 // An operator between a key and its value; `=` is the usual one and adds no token.
-fn separator_then(tape: &mut [u32], m: Machine, operator: Operator, width: usize) -> Turn
+fn separator_then(tape: &mut [u32], m: Machine, operator: Operator, width: usize) -> Result<Turn, Refusal>
     requires { (m.at < text_limit) × (width ≤ 2) }
     ensures { after result tape.new ≡ separator_then operator width (view tape.old m.count) m }
 {
     let at = m.at + width;
     if operator.is_equal() {
-        return Turn::Next(m.to(at, State::ObjectValue, m.count));
+        return Ok(Turn::Next(m.to(at, State::ObjectValue, m.count)));
     }
     lay(
         tape,
@@ -42,7 +39,7 @@ fn separator_then(tape: &mut [u32], m: Machine, operator: Operator, width: usize
 }
 
 // A turn in KeyValueSeparator, at a byte that is no blank.
-pub(crate) fn separator_turn(text: &[u8], tape: &mut [u32], m: Machine) -> Turn
+pub(crate) fn separator_turn(text: &[u8], tape: &mut [u32], m: Machine) -> Result<Turn, Refusal>
     requires { Here text.now m }
     ensures { after result tape.new ≡ separator_turn text.now (view tape.old m.count) m }
 {
@@ -52,7 +49,7 @@ pub(crate) fn separator_turn(text: &[u8], tape: &mut [u32], m: Machine) -> Turn
         Sighted::Sign { operator, width } => separator_then(tape, m, operator, width),
         Sighted::Nothing => {
             if b == b'{' {
-                return Turn::Next(m.to(at, State::ObjectValue, m.count));
+                return Ok(Turn::Next(m.to(at, State::ObjectValue, m.count)));
             }
             mix(tape, m)
         }
@@ -63,28 +60,14 @@ pub(crate) fn separator_turn(text: &[u8], tape: &mut [u32], m: Machine) -> Turn
 fn is_separator(state: State) -> bool
     ensures { result ≡ is_separator state }
 {
-    match state {
-        State::Key => false,
-        State::KeyValueSeparator => true,
-        State::ObjectValue => false,
-        State::ParseOpen => false,
-        State::ArrayValue => false,
-    }
+    state == State::KeyValueSeparator
 }
 
 // Whether a machine in KeyValueSeparator has next the `=` that most keys have right behind them, and no second one.
 fn at_equals(text: &[u8], m: Machine) -> bool
     ensures { result ≡ at_equals text.now m }
 {
-    let state = m.state;
-    if !is_separator(state) {
-        return false;
-    }
-    let at = m.at;
-    if byte_at(text, at) != b'=' {
-        return false;
-    }
-    byte_at(text, at + 1) != b'='
+    is_separator(m.state) && byte_at(text, m.at) == b'=' && byte_at(text, m.at + 1) != b'='
 }
 
 // The machine past that `=`, which adds no token: a turn of its own would find the same. Else the machine as it is, made anew field by field.

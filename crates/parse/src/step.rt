@@ -11,13 +11,12 @@ use crate::parse_open::{flag_parent, open_as};
 use crate::scalars::{Scalar, scalar_at};
 use machine::{Machine, Refusal, State, Turn, is_parse_open};
 use tape::words;
-use tape::words::Pushed;
 
 // What a state makes of a byte: a whole turn; or that a scalar is due, and the state after it; that an operator of a mixed container is due,
 // and how many tokens stand on the tape; or that a parameter is due, and inside which parent.
 #[derive(Clone, Copy)]
 pub enum Step {
-    Turned(Turn),
+    Turned(Result<Turn, Refusal>),
     Scalar(State),
     Operator(u32),
     Parameter(u32),
@@ -25,27 +24,22 @@ pub enum Step {
 
 // After a scalar: in ParseOpen it is the container's first entry, and the byte behind it decides. Else the machine goes on as it is, made
 // anew field by field, since a copy of the whole would go through memory.
-fn entered(text: &[u8], tape: &mut [u32], m: Machine) -> Turn
+fn entered(text: &[u8], tape: &mut [u32], m: Machine) -> Result<Turn, Refusal>
     ensures { after result tape.new ≡ entered text.now (view tape.old m.count) m }
 {
-    let state = m.state;
-    if !is_parse_open(state) {
-        return Turn::Next(m.to(m.at, state, m.count));
+    if !is_parse_open(m.state) {
+        return Ok(Turn::Next(m.to(m.at, m.state, m.count)));
     }
     flag_parent(tape, m);
     open_as(text, tape, m)
 }
 
 // Takes the scalar that is due, and goes on past it in a state.
-pub(crate) fn entry(text: &[u8], tape: &mut [u32], m: Machine, state: State) -> Turn
+pub(crate) fn entry(text: &[u8], tape: &mut [u32], m: Machine, state: State) -> Result<Turn, Refusal>
     requires { length text.now ≤ text_limit }
     ensures { after result tape.new ≡ entry text.now state (view tape.old m.count) m }
 {
-    let Scalar::Cut { token, rest } = scalar_at(text, m.at) else {
-        return Turn::Refused(Refusal::Eof);
-    };
-    match words::push(tape, m.count, token) {
-        Pushed::Laid(count) => entered(text, tape, m.to(rest, state, count)),
-        Pushed::Full => Turn::Refused(Refusal::Full),
-    }
+    let Scalar { token, rest } = scalar_at(text, m.at).ok_or(Refusal::Eof)?;
+    let count = words::push(tape, m.count, token).ok_or(Refusal::Full)?;
+    entered(text, tape, m.to(rest, state, count))
 }

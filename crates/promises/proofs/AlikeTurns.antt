@@ -1,5 +1,6 @@
 -- Each turn answers alike with room for k tokens and with no bound, and pays for its tokens with its bytes.
 -- Assumes nothing.
+use Rattle.std.specs.Prelude.{Option, None, Result}
 use mathlib.Core.Path.{◌≡◌, refl, sym, ◌∙◌, ap, subst}
 use mathlib.Core.Bool.{true, false}
 use mathlib.Core.List.{List, [], ◌∷◌, ◌++◌}
@@ -17,7 +18,7 @@ use Rattle.tape.specs.declared.token.ContainerKind.{ContainerKind}
 use Rattle.tape.specs.declared.token.ContainerKind.TheVariants.{Array, Object}
 use Rattle.tape.specs.declared.token.Standing as Standing
 use Rattle.operator.specs.Operators.{number_of}
-use Rattle.tape.specs.Token.{mixed_container_token, end_of, opener_of, operator_of, headed}
+use Rattle.tape.specs.Token.{mixed_container_token, end_of, opener_of, operator_of, headed, opened}
 use Rattle.tape.specs.Tape.{Tape, holds, unbounded, before_last, token_at, replace}
 use Rattle.machine.specs.declared.State.{State}
 use Rattle.machine.specs.declared.State.TheVariants.{Key, KeyValueSeparator, ObjectValue, ParseOpen, ArrayValue}
@@ -126,11 +127,11 @@ and_one-few c false = omega arith
 
 -- ---- what each move pays
 -- a parent that is taken up
-resumed-mixes : (up : Container) → Mixes (state_in up) (mixed_in up)
+resumed-mixes : (up : Option Container) → Mixes (state_in up) (mixed_in up)
 resumed-mixes (Container.Opened Array link mixed) = tt
 resumed-mixes (Container.Opened Object link true) = tt
 resumed-mixes (Container.Opened Object link false) = refl
-resumed-mixes Container.Nothing = refl
+resumed-mixes None = refl
 
 settles-mixes : {kind : ContainerKind} {state : State} → Settles kind state → Mixes state false
 settles-mixes with_key = refl
@@ -188,10 +189,10 @@ module _ (text : List ℕ) (budget : ℕ) (m : Machine) (ts : List Token) (sized
       let x : Token = headed (token_in ts (m.count - 1)) in
       (refl, added_sized (set ts (m.count - 1) x) m.count unsettled (length-set ts (m.count - 1) x ∙ sized), tt, omega arith)
   move_pays (closes {kind} s e) =
-      let up : Container = container_in ts (above ts m.parent) in
+      let up : Option Container = container_in ts (above ts m.parent) in
       (refl, closed-sized m.parent _ ts m.count sized, resumed-mixes up, omega (arith, spare-few (state_in up)))
   move_pays (empties e) =
-      let up : Container = container_in ts m.parent in
+      let up : Option Container = container_in ts m.parent in
       (refl, closed-sized (m.count - 1) _ ts m.count sized, resumed-mixes up, omega (arith, spare-few (state_in up)))
   move_pays (settles e) = (omega arith, length-set ts _ _ ∙ sized, tt, omega arith)
   move_pays (begins {x} {rest} {at} {kind} {state} e taken h s) =

@@ -1,5 +1,6 @@
 -- Demand 1: a refused parse leaves every word of the lent tape zero, and one that succeeds every word past its tokens.
 -- Assumes nothing.
+use Rattle.std.specs.Prelude.{Result, Ok, Err}
 use mathlib.Core.Path.{◌≡◌, refl, sym, subst}
 use mathlib.Core.Bool.{Bool}
 use mathlib.Core.List.{List}
@@ -18,10 +19,9 @@ use Rattle.machine.specs.declared.Refusal.{Refusal}
 use Rattle.machine.specs.declared.Parsed.{Parsed}
 use Rattle.machine.specs.Refusals.{number}
 use Rattle.parse.specs.Told.{tell_parse}
-use Rattle.machine.specs.declared.Parsed.TheVariants.{Tokens, Refused}
 use Rattle.parse.specs.After.{After, next, done, refused}
 use Rattle.machine.specs.Start.{has_bom}
-use Rattle.machine.specs.Finish.{Outcome, outcome}
+use Rattle.machine.specs.Finish.{Outcome, outcome, parsed}
 use Rattle.parse.specs.Parse.{answer, text_limit, parse_of}
 use Rattle.parse.proofs.parse.Reads as parse
 use Rattle.promises.specs.Demand1.{Laid_out, Demand1}
@@ -30,8 +30,8 @@ use Rattle.promises.proofs.Room.{Fitting, run_fits, parse_within, parse_over}
 
 -- what an outcome leaves of so many words
 abbrev Leaves : ℕ → Outcome → Type 0
-Leaves len (outcome (Tokens n bom) ws) = Laid_out len n ws
-Leaves len (outcome (Refused r) ws) = ws ≡ replicate len 0
+Leaves len (outcome (Ok p) ws) = Laid_out len p.count ws
+Leaves len (outcome (Err r) ws) = ws ≡ replicate len 0
 
 padded_out : (len n : ℕ) (ts : List Token) → length ts ≡ n → n ≤ capacity len → Laid_out len n (padded len ts)
 unfolding padded
@@ -57,7 +57,7 @@ parse_left text len =
     (answer-left (has_bom text) len (run_in (holds (capacity len)) text) (run_fits text (capacity len))))
 
 -- a success leaves every word past its tokens zero
-pub success_zeroes_past : (text : List ℕ) (len n : ℕ) (bom : Bool) (ws : List ℕ) → outcome (Tokens n bom) ws ≡ parse_of text len → Laid_out len n ws
+pub success_zeroes_past : (text : List ℕ) (len n : ℕ) (bom : Bool) (ws : List ℕ) → outcome (parsed n bom) ws ≡ parse_of text len → Laid_out len n ws
 success_zeroes_past text len n bom ws e = rw (← e) at (parse_left text len)
 
 -- ---- told by document 01's numbers
@@ -76,12 +76,12 @@ numbered (Refusals.TheVariants.OpenName p) e = omega arith
 numbered Refusals.TheVariants.Full e = omega arith
 
 told-left : (len : ℕ) (x : Outcome) → Leaves len x → Demand1 len (tell_parse x)
-told-left len (outcome (Tokens n bom) ws) h = record { parsed = λ e. h; refused = λ some. absurd (some refl) }
-told-left len (outcome (Refused r) ws) h =
+told-left len (outcome (Ok p) ws) h = record { parsed = λ e. h; refused = λ some. absurd (some refl) }
+told-left len (outcome (Err r) ws) h =
     record { parsed = λ e. absurd (numbered r e); refused = λ some. record { zero_all = h; no_token = refl; no_bom = refl } }
 
 -- whatever answer and tape the contract of `parse` allows
-pub parse_zeroes : (κs : _) (args : _) (r : Parsed) (xs : _) → parse.Post κs args r xs
+pub parse_zeroes : (κs : _) (args : _) (r : Result Parsed Refusal) (xs : _) → parse.Post κs args r xs
     → let tape_lent : List ℕ = args.1.0.now in
     let tape_left : List ℕ = xs.1.0.now in
     Demand1 (length tape_lent) (tell_parse (outcome r tape_left))

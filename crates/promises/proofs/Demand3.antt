@@ -1,5 +1,6 @@
 -- Demand 3, as specs/Demand3 states it.
 -- Assumes nothing.
+use Rattle.std.specs.Prelude.{Result, Ok, Err}
 use mathlib.Core.Path.{◌≡◌, refl, sym}
 use mathlib.Core.Bool.{Bool, true}
 use mathlib.Core.List.{List}
@@ -10,8 +11,7 @@ use Rattle.sheet.specs.Sound.{Sound}
 use Rattle.sheet.proofs.check.Reads as check
 use Rattle.machine.specs.declared.Refusal.TheVariants.{Full}
 use Rattle.machine.specs.declared.Parsed.{Parsed}
-use Rattle.machine.specs.declared.Parsed.TheVariants.{Tokens, Refused}
-use Rattle.machine.specs.Finish.{outcome}
+use Rattle.machine.specs.Finish.{outcome, parsed}
 use Rattle.parse.specs.Parse.{parse_of}
 use Rattle.parse.specs.Told.{tell_parse}
 use Rattle.tape.specs.Words.{capacity, words_for}
@@ -23,8 +23,9 @@ use Rattle.promises.proofs.Demand1.{numbered, success_zeroes_past}
 use Rattle.promises.proofs.Full.{full-told, parse_full-exactly}
 use Rattle.promises.proofs.Links.Parse.{parse_tied}
 use Rattle.promises.proofs.Rising.{parse_viewed}
+use Rattle.machine.specs.declared.Refusal.{Refusal}
 
-pub parse_sound : (text : List ℕ) (len count : ℕ) (bom : Bool) (words : List ℕ) → parse_of text len ≡ outcome (Tokens count bom) words
+pub parse_sound : (text : List ℕ) (len count : ℕ) (bom : Bool) (words : List ℕ) → parse_of text len ≡ outcome (parsed count bom) words
     → Sound (length text) words count
 parse_sound text len count bom words e =
     let out = success_zeroes_past text len count bom words (sym e) in
@@ -47,16 +48,16 @@ parse_sound text len count bom words e =
     }
 
 -- ---- of the contracts of `parse` and `check` themselves
-told-passes : (text : List ℕ) (len : ℕ) (r : Parsed) (words : List ℕ) → outcome r words ≡ parse_of text len
-    → (words_for (most_tokens (length text)) ≤ len → r ≡ Refused Full → ⊥)
+told-passes : (text : List ℕ) (len : ℕ) (r : Result Parsed Refusal) (words : List ℕ) → outcome r words ≡ parse_of text len
+    → (words_for (most_tokens (length text)) ≤ len → r ≡ Err Full → ⊥)
     → Demand3 text len (tell_parse (outcome r words))
-told-passes text len (Tokens count bom) words e room =
-    record { sound = λ z. parse_sound text len count bom words (sym e); never_full = λ h f. absurd (omega arith) }
-told-passes text len (Refused r) words e room =
-    record { sound = λ z. absurd (numbered r z); never_full = λ h f. room h (full-told (Refused r) words f) }
+told-passes text len (Ok p) words e room =
+    record { sound = λ z. parse_sound text len p.count p.bom words (sym e); never_full = λ h f. absurd (omega arith) }
+told-passes text len (Err r) words e room =
+    record { sound = λ z. absurd (numbered r z); never_full = λ h f. room h (full-told (Err r) words f) }
 
 -- whatever answer and tape the contract of `parse` allows
-pub parse_passes : (κs : _) (args : _) (r : Parsed) (xs : _) → parse.Post κs args r xs
+pub parse_passes : (κs : _) (args : _) (r : Result Parsed Refusal) (xs : _) → parse.Post κs args r xs
     → let text_lent : List ℕ = args.0.now in
     let tape_lent : List ℕ = args.1.0.now in
     let tape_left : List ℕ = xs.1.0.now in
@@ -71,10 +72,10 @@ parse_passes κs args r xs p =
     omega (arith, laid-most text_lent))
 
 -- and asked of the text's length, those words and that count, any answer that the contract of `check` allows is yes
-pub check_says_yes : (κs : _) (args : _) (count : ℕ) (bom : Bool) (xs : _) → parse.Post κs args (Tokens count bom) xs
+pub check_says_yes : (κs : _) (args : _) (count : ℕ) (bom : Bool) (xs : _) → parse.Post κs args (parsed count bom) xs
     → let text_lent : List ℕ = args.0.now in
     let tape_left : List ℕ = xs.1.0.now in
     (ls : _) (asked : _) (said : Bool) (ys : _) → check.Post ls asked said ys
     → asked.0 ≡ length text_lent → asked.1.0.now ≡ tape_left → asked.1.1.0 ≡ count → said ≡ true
 check_says_yes κs args count bom xs p ls asked said ys q same_length same_words same_count =
-    q.1 (rw (same_length, same_words, same_count) ((parse_passes κs args (Tokens count bom) xs p).sound refl))
+    q.1 (rw (same_length, same_words, same_count) ((parse_passes κs args (parsed count bom) xs p).sound refl))

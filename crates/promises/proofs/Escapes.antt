@@ -1,5 +1,6 @@
 -- Which quoted runs hold an escape, as specs/Escapes states it: a scalar's kind is its cut's, and no move changes a quoted token.
 -- Assumes nothing.
+use Rattle.std.specs.Prelude.{Result, Ok, Err}
 use mathlib.Core.Path.{◌≡◌, refl, sym}
 use mathlib.Core.Bool.{Bool, true, false, false≢true}
 use mathlib.Core.List.{List, [], ◌∷◌, ◌++◌}
@@ -19,10 +20,9 @@ use Rattle.tape.specs.Words.{token_in, tokens_in}
 use Rattle.tape.specs.Tape.{before_last, token_at, replace}
 use Rattle.machine.specs.declared.Machine.{Machine}
 use Rattle.machine.specs.declared.Parsed.{Parsed}
-use Rattle.machine.specs.declared.Parsed.TheVariants.{Tokens, Refused}
 use Rattle.machine.specs.Machine.{to}
 use Rattle.machine.specs.Start.{has_bom, start}
-use Rattle.machine.specs.Finish.{outcome}
+use Rattle.machine.specs.Finish.{outcome, parsed}
 use Rattle.parse.specs.ParseOpen.{flag_parent}
 use Rattle.parse.specs.Parse.{parse_of}
 use Rattle.parse.specs.Told.{tell_parse}
@@ -39,6 +39,7 @@ use Rattle.promises.specs.Each.{Each}
 use Rattle.promises.proofs.Each.{each-add, each_set, each-before_last, each_at}
 use Rattle.promises.proofs.Rising.{start-kept}
 use Rattle.promises.proofs.Rising.Turns.{Risen, RisenWhole, turn_keeps}
+use Rattle.machine.specs.declared.Refusal.{Refusal}
 
 module _ (text : List ℕ) where
   -- each of some tokens; it is not looked into, so that lists may be left for the checker to find
@@ -175,7 +176,7 @@ module _ (text : List ℕ) where
         finishes = λ {n} {x} by. both x (k.finishes by) (end_says m ts h.1 by);
       }
 
-  parse_says : (len count : ℕ) (bom : Bool) (words : List ℕ) → parse_of text len ≡ outcome (Tokens count bom) words
+  parse_says : (len count : ℕ) (bom : Bool) (words : List ℕ) → parse_of text len ≡ outcome (parsed count bom) words
       → (i : ℕ) → Says text (token_in words count i)
   unfolding token_in Saying
   parse_says len count bom words e i =
@@ -184,13 +185,13 @@ module _ (text : List ℕ) where
       each_at (Says text) (tokens_in words count) i (silent no_token (λ c. omega arith) (λ c. omega arith)) ended.1
 
 -- ---- of the contract of `parse` itself
-told_says : (text : List ℕ) (len : ℕ) (r : Parsed) (words : List ℕ) → outcome r words ≡ parse_of text len
+told_says : (text : List ℕ) (len : ℕ) (r : Result Parsed Refusal) (words : List ℕ) → outcome r words ≡ parse_of text len
     → EscapesTold text (tell_parse (outcome r words))
-told_says text len (Tokens count bom) words e = λ z. parse_says text len count bom words (sym e)
-told_says text len (Refused r) words e = λ z. absurd (numbered r z)
+told_says text len (Ok p) words e = λ z. parse_says text len p.count p.bom words (sym e)
+told_says text len (Err r) words e = λ z. absurd (numbered r z)
 
 -- whatever answer and tape it allows
-pub parse_tells : (κs : _) (args : _) (r : Parsed) (xs : _) → parse.Post κs args r xs
+pub parse_tells : (κs : _) (args : _) (r : Result Parsed Refusal) (xs : _) → parse.Post κs args r xs
     → let text_lent : List ℕ = args.0.now in
     let tape_left : List ℕ = xs.1.0.now in
     EscapesTold text_lent (tell_parse (outcome r tape_left))

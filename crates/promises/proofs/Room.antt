@@ -1,5 +1,6 @@
 -- The parse with room for k tokens is Full exactly when the one with no bound lays down more than k, and otherwise answers the same.
 -- Assumes nothing.
+use Rattle.std.specs.Prelude.{Result, Ok, Err}
 use mathlib.Core.Path.{◌≡◌, refl, sym, ◌∙◌, ap}
 use mathlib.Core.Bool.{Bool, true, false}
 use mathlib.Core.List.{List, []}
@@ -16,7 +17,6 @@ use Rattle.machine.specs.declared.Machine.{Machine}
 use Rattle.machine.specs.declared.Refusal.{Refusal}
 use Rattle.machine.specs.declared.Refusal.TheVariants.{TooLong, Full}
 use Rattle.machine.specs.declared.Parsed.{Parsed}
-use Rattle.machine.specs.declared.Parsed.TheVariants.{Tokens, Refused}
 use Rattle.machine.specs.Refusals.{number}
 use Rattle.parse.specs.After.{After, next, done, refused}
 use Rattle.machine.specs.Start.{has_bom, start}
@@ -189,8 +189,8 @@ run_fits text k =
 
 -- what is refused, and for another reason than room
 abbrev OtherThanFull : Outcome → Type 0
-OtherThanFull (outcome (Tokens n bom) ws) = Unit {0}
-OtherThanFull (outcome (Refused r) ws) = number r < 11
+OtherThanFull (outcome (Ok p) ws) = Unit {0}
+OtherThanFull (outcome (Err r) ws) = number r < 11
 
 answered-other : (text : List ℕ) (budget : ℕ) (bom : Bool) (len : ℕ) (x : After) → Known text budget x → OtherThanFull (answer bom len x)
 answered-other text budget bom len (next m t) h = omega arith
@@ -204,26 +204,26 @@ unbounded-other text len =
     (λ e. rw (unbounded-within text len e) (answered-other text (2 * length text) (has_bom text) len (run_in unbounded text) (run-alike text 0).known))
 
 -- the parse with no bound is never refused for room
-pub unbounded-never_full : (text : List ℕ) (len : ℕ) (ws : List ℕ) → outcome (Refused Full) ws ≡ unbounded_parse text len → ⊥
+pub unbounded-never_full : (text : List ℕ) (len : ℕ) (ws : List ℕ) → outcome (Err Full) ws ≡ unbounded_parse text len → ⊥
 unbounded-never_full text len ws e =
     let no : number Full < 11 = rw (← e) at (unbounded-other text len) in
     omega arith
 
 -- Whatever answer and tape the contract of `parse` allows, the answer is Full exactly when the parse with no bound lays down more tokens
 -- than the tape has room for.
-pub full-exactly : (text : List ℕ) (len : ℕ) (r : Parsed) (ws : List ℕ) → outcome r ws ≡ parse_of text len
-    → (r ≡ Refused Full) ↔ (capacity len < laid_down text)
+pub full-exactly : (text : List ℕ) (len : ℕ) (r : Result Parsed Refusal) (ws : List ℕ) → outcome r ws ≡ parse_of text len
+    → (r ≡ Err Full) ↔ (capacity len < laid_down text)
 full-exactly text len r ws e = (
   λ f. by_bool (ltb (capacity len) (laid_down text))
       (λ g. ltb-true _ _ g)
       (λ g. absurd (unbounded-never_full text len ws
-      (ap (λ (x : Parsed). outcome x ws) (sym f) ∙ e ∙ same_with_room text len (ltb-false _ _ g)))),
+      (ap (λ (x : Result Parsed Refusal). outcome x ws) (sym f) ∙ e ∙ same_with_room text len (ltb-false _ _ g)))),
   λ h. let g : parse_of text len ≡ refuse len Full = full-past-room text len h in
       cc,
 )
 
 -- and any other answer is that of the parse with no bound
-pub same_otherwise : (text : List ℕ) (len : ℕ) (r : Parsed) (ws : List ℕ) → outcome r ws ≡ parse_of text len → (r ≡ Refused Full → ⊥)
+pub same_otherwise : (text : List ℕ) (len : ℕ) (r : Result Parsed Refusal) (ws : List ℕ) → outcome r ws ≡ parse_of text len → (r ≡ Err Full → ⊥)
     → outcome r ws ≡ unbounded_parse text len
 same_otherwise text len r ws e n =
     by_bool (ltb (capacity len) (laid_down text))

@@ -1,6 +1,6 @@
 -- The cases marked P in document 01, 'Both sides of each edge', and those of code 11: a quoted run with an escape and without, and a
 -- parameter's run, which is unquoted: a text, how many tokens the tape has room for, and what the parse answers.
-use Rattle.std.specs.Prelude.{ℕ, Bool, true, false, List, [], ◌∷◌}
+use Rattle.std.specs.Prelude.{ℕ, Bool, true, false, List, [], ◌∷◌, Ok, Err}
 use Prim.Native.Char.{code}
 use Prim.Native.String.{String}
 use Prim.Native.String as Strings
@@ -9,9 +9,8 @@ use Rattle.tape.specs.declared.token.ContainerKind.TheVariants.{Array}
 use Rattle.tape.specs.declared.token.ScalarKind.TheVariants.{Unquoted, Quoted, Header, QuotedEscape}
 use Rattle.tape.specs.Token.{opener_of, end_of, scalar_of, operator_of, mixed_container_token}
 use Rattle.tape.specs.Words.{words_for, token_in, tokens_in}
-use Rattle.machine.specs.declared.Parsed.TheVariants.{Tokens, Refused}
 use Rattle.machine.specs.Refusals.{number, place}
-use Rattle.machine.specs.Finish.{Outcome, outcome}
+use Rattle.machine.specs.Finish.{Outcome, outcome, parsed}
 use Rattle.parse.specs.Parse.{parse_of}
 
 infixl 20 refusal◌at◌
@@ -36,14 +35,14 @@ pub record Case : Type 0 where
 
 -- what an outcome answers, told as a line of the table tells it
 unfoldable pub told : Answer → Outcome → Answer
-told (tokens n b) (outcome (Tokens count bom) ws) = tokens count bom
-told (tokens_with n i t b) (outcome (Tokens count bom) ws) = tokens_with count i (token_in ws count i) bom
-told (these ts b) (outcome (Tokens count bom) ws) = these (tokens_in ws count) bom
-told (refusal n at p) (outcome (Tokens count bom) ws) = tokens count bom
-told (tokens n b) (outcome (Refused r) ws) = refusal (number r) at (place r)
-told (tokens_with n i t b) (outcome (Refused r) ws) = refusal (number r) at (place r)
-told (these ts b) (outcome (Refused r) ws) = refusal (number r) at (place r)
-told (refusal n at p) (outcome (Refused r) ws) = refusal (number r) at (place r)
+told (tokens n b) (outcome (Ok p) ws) = tokens p.count p.bom
+told (tokens_with n i t b) (outcome (Ok p) ws) = tokens_with p.count i (token_in ws p.count i) p.bom
+told (these ts b) (outcome (Ok p) ws) = these (tokens_in ws p.count) p.bom
+told (refusal n at p) (outcome (Ok p') ws) = tokens p'.count p'.bom
+told (tokens n b) (outcome (Err r) ws) = refusal (number r) at (place r)
+told (tokens_with n i t b) (outcome (Err r) ws) = refusal (number r) at (place r)
+told (these ts b) (outcome (Err r) ws) = refusal (number r) at (place r)
+told (refusal n at p) (outcome (Err r) ws) = refusal (number r) at (place r)
 
 -- what the parse answers to the text of a line
 unfoldable pub parsed : Case → Answer

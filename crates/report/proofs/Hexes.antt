@@ -1,5 +1,6 @@
 -- Bytes in hexadecimal, one at a time, the line of a check, the lines of a text that was written, and those of a view.
 -- Assumes nothing.
+use Rattle.std.specs.Prelude.{Option, None}
 use mathlib.Core.Path.{◌≡◌, sym, ap, subst, ◌∙◌}
 use mathlib.Core.Bool.{Bool, true}
 use mathlib.Core.Logic.{◌↔◌}
@@ -9,9 +10,7 @@ use native.Mathlib.Numerals.{add-one}
 use lib.ListN.{length, get_or, drop, drop_of_length-le}
 use lib.Seq.{drop-cons}
 use Rattle.data.specs.Bytes.{line_feed}
-use Rattle.sheet.specs.declared.views.Viewed.{Viewed}
-use Rattle.sheet.specs.declared.views.Viewed.TheVariants.{At, NoScalar}
-use Rattle.sheet.specs.Views.{refusal_of, part_of}
+use Rattle.sheet.specs.Views.{refusal_of, part_of, seen}
 use Rattle.report.specs.Digits.{decimal, hex}
 use Rattle.put.specs.Append.{Wrote, append}
 use Rattle.sheet.specs.Decided.{Decided}
@@ -20,6 +19,7 @@ use Rattle.writer.specs.declared.Written.{Written}
 use Rattle.writer.specs.Write.{Left, left}
 use Rattle.report.specs.Sheets.{verdict, Judged, hex_bytes, view_text, written_text, reported, report_written}
 use Rattle.report.specs.Words as words
+use Rattle.sheet.specs.declared.views.View.{View}
 
 -- the digits of the byte at an index stand before those of the bytes after it
 pub hex-on : (bytes : List ℕ) (i : ℕ) → i < length bytes → hex_bytes (drop i bytes) ≡ hex 2 (get_or bytes i 0) ++ hex_bytes (drop (i + 1) bytes)
@@ -47,13 +47,13 @@ written_as answer out at {buffer = buffer} {scratch = scratch} d told e line =
     (ap (λ (p : Wrote). reported p buffer scratch) (e ∙ ap (append out at) (line ∙ ap (λ (x : Written). written_text x buffer) (sym told))))
 
 -- the line of a view that lies in the text, and of one that is refused
-pub view-shown : (text part : List ℕ) (found v : Viewed) (offset size : ℕ) → found ≡ v → found ≡ At offset size → part ≡ part_of text v
+pub view-shown : (text part : List ℕ) (found v : Option View) (offset size : ℕ) → found ≡ v → found ≡ seen offset size → part ≡ part_of text v
     → words.view ++ hex_bytes part ++ (line_feed ∷ []) ≡ view_text text v
 view-shown text part found v offset size e told p =
     let is = sym e ∙ told in
     ap (λ (l : List ℕ). words.view ++ hex_bytes l ++ (line_feed ∷ [])) (p ∙ ap (part_of text) is) ∙ sym (ap (view_text text) is)
 
-pub view-refused : (text : List ℕ) (n : ℕ) (found v : Viewed) → found ≡ v → found ≡ NoScalar → n ≡ refusal_of found
+pub view-refused : (text : List ℕ) (n : ℕ) (found v : Option View) → found ≡ v → found ≡ None → n ≡ refusal_of found
     → words.refused ++ decimal n ++ (line_feed ∷ []) ≡ view_text text v
 view-refused text n found v e told r =
     ap (λ (k : ℕ). words.refused ++ decimal k ++ (line_feed ∷ [])) (r ∙ ap refusal_of told) ∙ sym (ap (view_text text) (sym e ∙ told))

@@ -1,5 +1,6 @@
 -- How long the lines are that answer for a scalar and for a sheet.
 -- Assumes nothing.
+use Rattle.std.specs.Prelude.{Option, Some, None}
 use mathlib.Core.Path.{◌≡◌, refl, ◌∙◌, ap}
 use mathlib.Core.Bool.{Bool, true, false}
 use mathlib.Core.List.{List, [], ◌∷◌}
@@ -36,13 +37,11 @@ use Rattle.scalar.specs.declared.whole.I64Part.{I64Part}
 use Rattle.scalar.specs.declared.whole.I64Read.TheVariants as I64
 use Rattle.scalar.specs.declared.whole.I64Read.{I64Read}
 use Rattle.scalar.proofs.Wholes.{by_part, by_size, rest-within}
-use Rattle.sheet.specs.declared.views.Viewed.{Viewed}
 use Rattle.writer.specs.declared.Refusal.{Refusal}
 use Rattle.writer.specs.declared.Refusal.TheVariants.{NotSound, TooDeep, TooLong, NoRoom, ReadsOtherwise, OtherForm}
 use Rattle.writer.specs.declared.Written.{Written}
 use Rattle.writer.specs.declared.Written.TheVariants.{Text, Refused}
 use Rattle.writer.specs.Refusals.{number}
-use Rattle.sheet.specs.declared.views.Viewed.TheVariants.{At, NoScalar}
 use Rattle.report.proofs.Room.{decimal-short, bit-short, number_short}
 use Rattle.report.specs.Dates.{year_month_day, date_text, date_line, day_line}
 use Rattle.report.specs.Digits.{decimal, hex_by, most_hex, hex}
@@ -50,6 +49,7 @@ use Rattle.report.specs.Dump.{field}
 use Rattle.report.specs.Readings.{integer, bool_text, u64_text, i64_text, f64_text, exact_of, readings_of, left_text, leading_of}
 use Rattle.report.specs.Room.{most_input}
 use Rattle.report.specs.Sheets.{verdict, hex_bytes, view_text, written_text}
+use Rattle.sheet.specs.declared.views.View.{View}
 
 -- a refusal of a reading has two digits
 pub two_short : (n : ℕ) → n < 100 → length (decimal n) ≤ 2
@@ -215,11 +215,11 @@ pub verdict-short : (sound : Bool) → length (verdict sound) ≤ 8
 verdict-short true = omega arith
 verdict-short false = omega arith
 
-pub view-short : (text : List ℕ) (v : Viewed) → length (view_text text v) ≤ 2 * length text + 11
-view-short text (At offset size) =
+pub view-short : (text : List ℕ) (v : Option View) → length (view_text text v) ≤ 2 * length text + 11
+view-short text (Some v) =
     simp length-append
-    (omega (arith, hex_bytes-short (take size (drop offset text)), length-take size (drop offset text), length-drop offset text))
-view-short text NoScalar = simp length-append (omega (arith, two_short 12 (omega arith)))
+    (omega (arith, hex_bytes-short (take v.length (drop v.offset text)), length-take v.length (drop v.offset text), length-drop v.offset text))
+view-short text None = simp length-append (omega (arith, two_short 12 (omega arith)))
 
 -- a text that was written stands in its buffer, and a refusal has a number of two digits
 refusal_two : (r : Refusal) → number r < 100

@@ -1,5 +1,6 @@
 -- The lines of a dump, one at a time.
 -- Assumes nothing.
+use Rattle.std.specs.Prelude.{Result, Err}
 use mathlib.Core.Path.{◌≡◌, refl, sym}
 use mathlib.Core.Bool.{Bool}
 use mathlib.Core.List.{List, [], ◌++◌}
@@ -12,9 +13,8 @@ use Rattle.tape.specs.declared.token.Token.{Token}
 use Rattle.tape.specs.Token.{no_token}
 use Rattle.tape.specs.Words.{tokens_in, token_in}
 use Rattle.machine.specs.declared.Parsed.{Parsed}
-use Rattle.machine.specs.declared.Parsed.TheVariants.{Tokens, Refused}
 use Rattle.machine.specs.declared.Refusal.{Refusal}
-use Rattle.machine.specs.Finish.{outcome}
+use Rattle.machine.specs.Finish.{outcome, parsed}
 use Rattle.parse.specs.Parse.{parse_of}
 use Rattle.machine.specs.declared.Refusal.TheVariants.{TooLong, Eof, StackEmpty, NoHeader, NoValue, MixedParameter, Full}
 use Rattle.machine.specs.declared.Refusal.TheVariants.{NothingPrecedes, UnknownOperator, NoParameter, OpenName}
@@ -36,13 +36,13 @@ lines_none ts i all e h =
     rw (drop_of_length-le ts past)
 
 -- the dump of a text that parses, and of one that is refused
-pub dump-tokens : (text ws : List ℕ) (len count : ℕ) (bom : Bool) (p : Parsed) → outcome p ws ≡ parse_of text len → p ≡ Tokens count bom
+pub dump-tokens : (text ws : List ℕ) (len count : ℕ) (bom : Bool) (p : Result Parsed Refusal) → outcome p ws ≡ parse_of text len → p ≡ parsed count bom
     → header_of count (bit bom) ++ lines_from 0 (tokens_in ws count) ≡ dump_of text len
 unfolding dump_of lines_of
 dump-tokens text ws len count bom p e told = rw (dump_of, ← e, told)
 
 -- no refusal has the number of none
-refusal_told : (r : Refusal) (ws : List ℕ) → lines_of (tell_parse (outcome (Refused r) ws)) ≡ refused_of (number r) (place r)
+refusal_told : (r : Refusal) (ws : List ℕ) → lines_of (tell_parse (outcome (Err r) ws)) ≡ refused_of (number r) (place r)
 unfolding lines_of
 refusal_told TooLong ws = refl
 refusal_told Eof ws = refl
@@ -56,7 +56,7 @@ refusal_told (NoParameter p) ws = refl
 refusal_told (OpenName p) ws = refl
 refusal_told Full ws = refl
 
-pub dump-refused : (text ws : List ℕ) (len n at : ℕ) (r : Refusal) (p : Parsed) → outcome p ws ≡ parse_of text len → p ≡ Refused r
+pub dump-refused : (text ws : List ℕ) (len n at : ℕ) (r : Refusal) (p : Result Parsed Refusal) → outcome p ws ≡ parse_of text len → p ≡ Err r
     → n ≡ number r → at ≡ place r → refused_of n at ≡ dump_of text len
 unfolding dump_of
 dump-refused text ws len n at r p e told numbered placed = rw (numbered, placed, dump_of, ← e, told) (sym (refusal_told r ws))

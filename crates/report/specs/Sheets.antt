@@ -1,8 +1,6 @@
 -- The answers about a sheet as lines: whether it is sound, and the view of a token.
-use Rattle.std.specs.Prelude.{ℕ, Bool, true, false, List, [], ◌∷◌, ◌++◌, take, drop}
+use Rattle.std.specs.Prelude.{ℕ, Bool, true, false, List, [], ◌∷◌, ◌++◌, take, drop, Option, Some, None}
 use Rattle.data.specs.Bytes.{line_feed}
-use Rattle.sheet.specs.declared.views.Viewed.{Viewed}
-use Rattle.sheet.specs.declared.views.Viewed.TheVariants.{At, NoScalar}
 use Rattle.sheet.specs.Views.{refusal_of}
 use Rattle.sheet.specs.Decided.{Decided}
 use Rattle.writer.specs.declared.Written.{Written}
@@ -12,6 +10,7 @@ use Rattle.writer.specs.Write.{Left, left}
 use Rattle.put.specs.Append.{Wrote, append}
 use Rattle.report.specs.Digits.{decimal, hex}
 use Rattle.report.specs.Words as words
+use Rattle.sheet.specs.declared.views.View.{View}
 
 -- the verdict on a sheet
 abbrev pub verdict : Bool → List ℕ
@@ -28,9 +27,9 @@ hex_bytes [] = []
 hex_bytes (b ∷ bs) = hex 2 b ++ hex_bytes bs
 
 -- a token's part of the text, or the refusal
-abbrev pub view_text : List ℕ → Viewed → List ℕ
-view_text text (At offset size) = words.view ++ hex_bytes (take size (drop offset text)) ++ (line_feed ∷ [])
-view_text text NoScalar = words.refused ++ decimal (refusal_of NoScalar) ++ (line_feed ∷ [])
+abbrev pub view_text : List ℕ → Option View → List ℕ
+view_text text (Some v) = words.view ++ hex_bytes (take v.length (drop v.offset text)) ++ (line_feed ∷ [])
+view_text text None = words.refused ++ decimal (refusal_of None) ++ (line_feed ∷ [])
 
 -- the text that was written, which stands at the front of its buffer, or the refusal
 abbrev pub written_text : Written → List ℕ → List ℕ

@@ -12,7 +12,6 @@ ghost use Rattle.report.specs.Room.{most_input, most_tokens, Held};
 use crate::limits::{DUMP_BYTES, MOST_INPUT, TAPE_WORDS};
 use crate::numbers::put_decimal;
 use crate::tokens::{put_header, put_refused, put_tokens};
-use machine::Parsed;
 use put::{put_byte, put_bytes};
 
 // Parses a text onto a lent tape, and puts the header and a line for each token, or the refusal.
@@ -22,11 +21,11 @@ pub fn put_dump(out: &mut [u8], at: usize, text: &[u8], tape: &mut [u32]) -> usi
     ensures held { Held (dump_of text.now (length tape.old)) (length tape.old) }
 {
     match parse::parse(text, tape) {
-        Parsed::Tokens { count, bom } => {
-            let next = put_header(out, at, count, bom);
-            put_tokens(out, next, tape, count)
+        Ok(parsed) => {
+            let next = put_header(out, at, parsed.count, parsed.bom);
+            put_tokens(out, next, tape, parsed.count)
         }
-        Parsed::Refused(refusal) => {
+        Err(refusal) => {
             let number = refusal.number() as u64;
             let place = refusal.place() as u64;
             put_refused(out, at, number, place)

@@ -10,7 +10,6 @@ ghost use Rattle.report.specs.Sheets.{Judged, hex_bytes, view_text, reported, re
 
 use crate::numbers::{put_decimal, put_hex};
 use put::{front, put_byte, put_bytes};
-use sheet::views::Viewed;
 use writer::Written;
 
 // Puts whether the first count tokens of the words are a sound sheet for a text of a length.
@@ -56,17 +55,14 @@ pub fn put_view(
 {
     let found = sheet::views::view_of(text, words, count, index);
     match found {
-        Viewed::At {
-            offset: _,
-            length: _,
-        } => {
+        Some(_) => {
             let word = put_bytes(out, at, b"view ");
             let bytes = put_hex_bytes(out, word, sheet::views::view(text, words, count, index));
             put_byte(out, bytes, b'\n')
         }
-        Viewed::NoScalar => {
+        None => {
             let word = put_bytes(out, at, b"refused ");
-            let number = put_decimal(out, word, found.refusal() as u64);
+            let number = put_decimal(out, word, sheet::views::refusal(found) as u64);
             put_byte(out, number, b'\n')
         }
     }

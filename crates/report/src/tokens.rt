@@ -8,7 +8,7 @@ ghost use Rattle.report.specs.Dump.{name_of, field, line_of, lines_from, header_
 
 use crate::numbers::put_decimal;
 use put::{put_byte, put_bytes};
-use tape::token::{ScalarKind, ScalarNamed, Token};
+use tape::token::{ContainerKind, ScalarKind, Token};
 use tape::{codes, token, words};
 
 // Puts the name of the scalars of a kind.
@@ -29,10 +29,10 @@ fn put_scalar_name(out: &mut [u8], at: usize, kind: ScalarKind) -> usize
 pub fn put_name(out: &mut [u8], at: usize, code: u32) -> usize
     ensures { wrote result out.new ≡ append out.old at (name_of code) }
 {
-    if code == codes::ARRAY {
+    if code == ContainerKind::Array as u32 {
         return put_bytes(out, at, b"Array");
     }
-    if code == codes::OBJECT {
+    if code == ContainerKind::Object as u32 {
         return put_bytes(out, at, b"Object");
     }
     if code == codes::MIXED_CONTAINER {
@@ -45,8 +45,8 @@ pub fn put_name(out: &mut [u8], at: usize, code: u32) -> usize
         return put_bytes(out, at, b"End");
     }
     match token::scalar_named(code) {
-        ScalarNamed::Kind(kind) => put_scalar_name(out, at, kind),
-        ScalarNamed::Nothing => at,
+        Some(kind) => put_scalar_name(out, at, kind),
+        None => at,
     }
 }
 

@@ -2,6 +2,7 @@
 -- the tape holds. On every text within the limit the same is so of the Rust's parser when it cuts its unquoted runs as we do.
 -- Said of the contract of `parse` itself: of the text and the tape as they are lent, and of the tape as it is left.
 -- Assumes nothing.
+use Rattle.std.specs.Prelude.{Result, Err}
 use Prim.Native.Nat.{ℕ, ◌≤◌, ◌<◌}
 use mathlib.Core.Path.{◌≡◌, ◌∙◌, ap}
 use mathlib.Core.List.{List}
@@ -11,7 +12,6 @@ use Rattle.cut.specs.Runs.{unquoted_run}
 use Rattle.tape.specs.Words.{capacity}
 use Rattle.machine.specs.declared.Refusal.TheVariants.{Full}
 use Rattle.machine.specs.declared.Parsed.{Parsed}
-use Rattle.machine.specs.declared.Parsed.TheVariants.{Refused}
 use Rattle.machine.specs.Refusals.{number}
 use Rattle.machine.specs.Finish.{Outcome, outcome}
 use Rattle.parse.proofs.parse.Reads as parse
@@ -23,8 +23,9 @@ use Rattle.rust_tape.specs.Answers.{as_rust}
 use Rattle.rust_tape.specs.Demand2.{SpokenOf, AnswersBy, Demand2, ByOurCut, RunsBy}
 use Rattle.promises.proofs.Full.{parse_full-exactly, parse_same-otherwise, full-told}
 use Rattle.rust_tape.proofs.RustParse.{runs_by_our_cut, rust_runs}
+use Rattle.machine.specs.declared.Refusal.{Refusal}
 
-module _ (κs : _) (args : _) (r : Parsed) (xs : _) (post : parse.Post κs args r xs) where
+module _ (κs : _) (args : _) (r : Result Parsed Refusal) (xs : _) (post : parse.Post κs args r xs) where
   -- the text and the tape as they are lent, the tape as it is left, and what is told of it
   abbrev text_lent : List ℕ
   text_lent = args.0.now
@@ -41,8 +42,8 @@ module _ (κs : _) (args : _) (r : Parsed) (xs : _) (post : parse.Post κs args 
   -- the answer that the contract of `parse` allows is that of the Rust's parser by a cut, where it runs as our parse with no bound on tokens does
   runs_answer : (cut : List ℕ → ℕ) → RunsBy cut text_lent → AnswersBy cut text_lent (length tape_lent) told
   runs_answer cut runs =
-      let room : (r ≡ Refused Full) ↔ (capacity (length tape_lent) < laid_down text_lent) = parse_full-exactly κs args r xs post in
-      let tells : r ≡ Refused Full → refusal_told told ≡ number Full = λ e. ap (λ (s : Parsed). refusal_told (tell_parse (outcome s tape_left))) e in
+      let room : (r ≡ Err Full) ↔ (capacity (length tape_lent) < laid_down text_lent) = parse_full-exactly κs args r xs post in
+      let tells : r ≡ Err Full → refusal_told told ≡ number Full = λ e. ap (λ (s : Result Parsed Refusal). refusal_told (tell_parse (outcome s tape_left))) e in
       record {
         full = (λ e. rw runs.laid (room.0 (full-told r tape_left e)), λ h. tells (room.1 (rw runs.laid at h)));
         otherwise = λ other.

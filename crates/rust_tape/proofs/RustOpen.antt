@@ -1,5 +1,6 @@
 -- The Rust's turn in ParseOpen is ours.
 -- Assumes nothing.
+use Rattle.std.specs.Prelude.{None}
 use Prim.Native.Nat.{ℕ, ◌+◌, ◌-◌, ◌≤◌, ◌<◌}
 use mathlib.Core.Path.{◌≡◌, refl, sym, ◌∙◌, ap}
 use mathlib.Core.Bool.{Bool, true, false}
@@ -18,7 +19,7 @@ use Rattle.tape.specs.declared.token.Token.{Token}
 use Rattle.tape.specs.declared.token.ContainerKind.TheVariants.{Array, Object}
 use Rattle.tape.specs.declared.token.ScalarKind.TheVariants.{Unquoted}
 use Rattle.tape.specs.declared.token.Container as Containers
-use Rattle.tape.specs.Token.{opener_of, scalar_of, quoted_kind, container_of}
+use Rattle.tape.specs.Token.{opener_of, scalar_of, quoted_kind, container_of, opened}
 use Rattle.tape.specs.Tape.{Tape, unbounded, token_at, replace, add, lay}
 use Rattle.sheet.specs.Sound.{nth}
 use Rattle.machine.specs.declared.State.TheVariants.{ParseOpen}
@@ -44,11 +45,11 @@ use Rattle.rust_tape.proofs.RustReads.{container-read, mode_same, state-same}
 use Rattle.rust_tape.proofs.RustTurns.{parser_of, Same}
 use Rattle.rust_tape.proofs.RustParameter.{located, parameter-same}
 
-by-opened : {P : Type 0} (c : Containers.Container) → ((link : ℕ) (flag : Bool) → c ≡ Containers.TheVariants.Opened Array link flag → P)
-    → ((link : ℕ) (flag : Bool) → c ≡ Containers.TheVariants.Opened Object link flag → P) → (c ≡ Containers.TheVariants.Nothing → P) → P
+by-opened : {P : Type 0} (c : Containers.Container) → ((link : ℕ) (flag : Bool) → c ≡ opened Array link flag → P)
+    → ((link : ℕ) (flag : Bool) → c ≡ opened Object link flag → P) → (c ≡ None → P) → P
 by-opened (Containers.TheVariants.Opened Array link flag) f g h = f link flag refl
 by-opened (Containers.TheVariants.Opened Object link flag) f g h = g link flag refl
-by-opened Containers.TheVariants.Nothing f g h = h refl
+by-opened None f g h = h refl
 
 -- ---- the flag of the parent: our tokens behind it are the Rust's, as many as before
 pub record Flagged (text : List ℕ) (state : ParseState) (ts : List Token) (m : Machine) : Type 0 where

@@ -1,5 +1,6 @@
 -- Our tokens as the Rust has them: what is laid down, changed and read off is the same, from what holds of every machine that a run reaches.
 -- Assumes nothing.
+use Rattle.std.specs.Prelude.{Option, Some, None}
 use Prim.Native.Nat.{ℕ, zero, suc, ◌+◌, ◌-◌, ◌≤◌, ◌<◌}
 use mathlib.Core.Path.{◌≡◌, refl, sym, ◌∙◌, ap}
 use mathlib.Core.Bool.{Bool, true, false, ◌&&◌}
@@ -16,11 +17,10 @@ use Rattle.tape.specs.declared.token.ContainerKind.{ContainerKind}
 use Rattle.tape.specs.declared.token.ContainerKind.TheVariants.{Array, Object}
 use Rattle.tape.specs.declared.token.ScalarKind.{ScalarKind}
 use Rattle.tape.specs.declared.token.ScalarKind.TheVariants.{Unquoted, Quoted, Parameter, UndefinedParameter, Header, QuotedEscape}
-use Rattle.tape.specs.declared.token.ScalarNamed.{ScalarNamed}
 use Rattle.tape.specs.declared.token.Container as Containers
 use Rattle.tape.specs.declared.token.Standing as Standings
 use Rattle.tape.specs.declared.shape.Link.TheVariants.{ToOpener}
-use Rattle.tape.specs.Token.{array_code, object_code, mixed_container_code, unquoted_code, quoted_code, parameter_code}
+use Rattle.tape.specs.Token.{array_code, object_code, mixed_container_code, unquoted_code, quoted_code, parameter_code, opened}
 use Rattle.tape.specs.Token.{undefined_parameter_code, operator_code, end_code, header_code, quoted_escape_code, container_code, scalar_named, named_among}
 use Rattle.tape.specs.Token.{is_scalar_code, quoted_kind, no_token, mixed_container_token, opener_of, end_of, scalar_of, operator_of, headed}
 use Rattle.tape.specs.Token.{container_of, standing_of}
@@ -204,7 +204,7 @@ get-read match missing ts i =
 -- a code that is none of the scalars' names none
 names-none : (code : ℕ) → eqb code unquoted_code ≡ false → eqb code quoted_code ≡ false → eqb code parameter_code ≡ false
     → eqb code undefined_parameter_code ≡ false → eqb code header_code ≡ false → eqb code quoted_escape_code ≡ false
-    → scalar_named code ≡ ScalarNamed.Nothing
+    → scalar_named code ≡ None
 unfolding scalar_named
 names-none code a b c d e f = rw (scalar_named, named_among, a, b, c, d, e, f)
 
@@ -214,7 +214,7 @@ by_code : {P : Type 0} (t : Token)
     → (t.code ≡ quoted_code → P) → (t.code ≡ parameter_code → P) → (t.code ≡ undefined_parameter_code → P)
     → (t.code ≡ operator_code → P)
     → (t.code ≡ end_code → P) → (t.code ≡ header_code → P) → (t.code ≡ quoted_escape_code → P)
-    → (container_of t ≡ Containers.TheVariants.Nothing → standing_of t ≡ Standings.TheVariants.Nothing → token_as_rust t ≡ none → P) → P
+    → (container_of t ≡ None → standing_of t ≡ Standings.TheVariants.Nothing → token_as_rust t ≡ none → P) → P
 unfolding container_of standing_of token_as_rust
 by_code t f1 f2 f3 f4 f5 f6 f7 f8 f9 f10 f11 other =
     by_bool (eqb t.code array_code) (λ e. f1 (eqb-true _ _ e)) (λ e1.
@@ -250,7 +250,7 @@ by_number n f g =
 abbrev pub as_container : Containers.Container → Rust.Container
 as_container (Containers.TheVariants.Opened Array link mixed) = Rust.AnArray link mixed
 as_container (Containers.TheVariants.Opened Object link mixed) = Rust.AnObject link mixed
-as_container Containers.TheVariants.Nothing = Rust.Neither
+as_container None = Rust.Neither
 
 token_container : (t : Token) → Rust.container (some (read t)) ≡ as_container (container_of t)
 unfolding read token_as_rust container_of
@@ -268,24 +268,24 @@ container-read ts i = get-read Rust.container refl ts i ∙ token_container (nth
 pub ends_same : (c : Containers.Container) → Rust.its_end (as_container c) ≡ parent_of c
 ends_same (Containers.TheVariants.Opened Array end mixed) = refl
 ends_same (Containers.TheVariants.Opened Object end mixed) = refl
-ends_same Containers.TheVariants.Nothing = refl
+ends_same None = refl
 
 pub mode_same : (c : Containers.Container) → Rust.mode_in (as_container c) ≡ mixed_in c
 mode_same (Containers.TheVariants.Opened Array end mixed) = refl
 mode_same (Containers.TheVariants.Opened Object end mixed) = refl
-mode_same Containers.TheVariants.Nothing = refl
+mode_same None = refl
 
 pub state-same : (c : Containers.Container) → Rust.state_in (as_container c) ≡ as_state (state_in c)
 state-same (Containers.TheVariants.Opened Array end mixed) = refl
 state-same (Containers.TheVariants.Opened Object end true) = refl
 state-same (Containers.TheVariants.Opened Object end false) = refl
-state-same Containers.TheVariants.Nothing = refl
+state-same None = refl
 
 pub kind-same : (c : Containers.Container) (end : ℕ) (mixed : Bool)
     → Rust.closed_as (Rust.is_array (as_container c)) end mixed ≡ opener_as (own_kind c) end mixed
 kind-same (Containers.TheVariants.Opened Array link flag) end mixed = refl
 kind-same (Containers.TheVariants.Opened Object link flag) end mixed = refl
-kind-same Containers.TheVariants.Nothing end mixed = refl
+kind-same None end mixed = refl
 
 -- ---- what stands last: an Unquoted, another scalar, an End, or none of these
 -- what stands is told by its code alone
@@ -373,13 +373,13 @@ closing-form t (scalar offset size v) e =
 closing-form t (operator number low high q) e = let z : t.code ≡ operator_code = ap (λ (x : Token). x.code) q in absurd (omega arith)
 closing-form t (closing opener q) e = q ∙ ap end_of (sym (ap (λ (x : Token). x.a) q))
 
-is-opened : (kind : ContainerKind) (link : ℕ) (mixed : Bool) → Rust.is_container (as_container (Containers.TheVariants.Opened kind link mixed)) ≡ true
+is-opened : (kind : ContainerKind) (link : ℕ) (mixed : Bool) → Rust.is_container (as_container (opened kind link mixed)) ≡ true
 is-opened Array link mixed = refl
 is-opened Object link mixed = refl
 
 module _ (ts : List Token) {p : ℕ} (s : Kept ts p) where
   -- token 0 opens nothing
-  pub top-nothing : container_of (nth ts 0) ≡ Containers.TheVariants.Nothing
+  pub top-nothing : container_of (nth ts 0) ≡ None
   top-nothing = by-container (container_of (nth ts 0)) (λ k l f c. absurd (s.links.top l (reads-opener ts s 0 c))) (λ c. c)
 
   -- where something is open, the parent is one of the tokens
@@ -395,7 +395,7 @@ module _ (ts : List Token) {p : ℕ} (s : Kept ts p) where
   pub end-opens : (j : ℕ) → j < length ts → (nth ts j).code ≡ end_code
       → Rust.is_container (Rust.container (Rust.get (rust_tape ts) (nth ts j).a)) ≡ true
   end-opens j h e =
-      let named : link_at ts j ≡ ToOpener (nth ts j).a = end-link (nth ts j) (closing-form (nth ts j) (s.row.forms j h) e) in
+      let named : link_at ts j ≡ Some (ToOpener (nth ts j)).a = end-link (nth ts j) (closing-form (nth ts j) (s.row.forms j h) e) in
       let o = link-container (nth ts (nth ts j).a) (s.links.opened j (nth ts j).a named).1 in
       ap Rust.is_container (container-read ts (nth ts j).a ∙ ap as_container o.2) ∙ is-opened o.0 j o.1
 

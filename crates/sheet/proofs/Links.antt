@@ -1,5 +1,6 @@
 -- What reading a token's link tells of openers and Ends.
 -- Assumes nothing.
+use Rattle.std.specs.Prelude.{Option, Some, None}
 use mathlib.Core.Path.{◌≡◌, refl, sym, ◌∙◌, ap, subst}
 use mathlib.Core.Bool.{Bool, true, false, false≢true}
 use mathlib.Core.List.{List}
@@ -34,25 +35,25 @@ pub told-equal : (a b : ℕ) {P : Type 0} → (a ≡ b → P) → (P → a ≡ b
 told-equal a b yes-case back = (λ e. yes-case (eqb-true a b e), λ p. eq-eqb a b (back p))
 
 -- ---- the link that was read is that of the token
-pub read-link : (ws : List ℕ) (n i : ℕ) {t : Token} {r l : Link} → t ≡ token_in ws n i → r ≡ link_of t → r ≡ l
+pub read-link : (ws : List ℕ) (n i : ℕ) {t : Token} {r l : Option Link} → t ≡ token_in ws n i → r ≡ link_of t → r ≡ l
     → link_of (nth (tokens_in ws n) i) ≡ l
 unfolding token_in
 read-link ws n i e f g = ap link_of (sym e) ∙ sym f ∙ g
 
 -- ---- no token names in two ways
-pub end_not_none : {l : Link} {end : ℕ} → l ≡ ToEnd end → l ≡ Link.Nothing → ⊥
+pub end_not_none : {l : Option Link} {end : ℕ} → l ≡ Some (ToEnd end) → l ≡ None → ⊥
 end_not_none e f = let z : ◌≡◌ {A = ℕ} 0 1 = cc in omega arith
 
-pub opener_not_none : {l : Link} {opener : ℕ} → l ≡ ToOpener opener → l ≡ Link.Nothing → ⊥
+pub opener_not_none : {l : Option Link} {opener : ℕ} → l ≡ Some (ToOpener opener) → l ≡ None → ⊥
 opener_not_none e f = let z : ◌≡◌ {A = ℕ} 0 1 = cc in omega arith
 
-pub end_not_opener : {l : Link} {end opener : ℕ} → l ≡ ToEnd end → l ≡ ToOpener opener → ⊥
+pub end_not_opener : {l : Option Link} {end opener : ℕ} → l ≡ Some (ToEnd end) → l ≡ Some (ToOpener opener) → ⊥
 end_not_opener e f = let z : ◌≡◌ {A = ℕ} 0 1 = cc in omega arith
 
-pub same_end : {l : Link} {a b : ℕ} → l ≡ ToEnd a → l ≡ ToEnd b → a ≡ b
+pub same_end : {l : Option Link} {a b : ℕ} → l ≡ Some (ToEnd a) → l ≡ Some (ToEnd b) → a ≡ b
 same_end e f = cc
 
-pub same-opener : {l : Link} {a b : ℕ} → l ≡ ToOpener a → l ≡ ToOpener b → a ≡ b
+pub same-opener : {l : Option Link} {a b : ℕ} → l ≡ Some (ToOpener a) → l ≡ Some (ToOpener b) → a ≡ b
 same-opener e f = cc
 
 -- a container has one End
@@ -67,13 +68,13 @@ end-opens_not t o e = end_not_opener (opens-link t o) (end-link t e)
 pub closes_late : (t : Token) (i end : ℕ) → end ≤ i → (false ≡ true) ↔ ((i < end) × (t ≡ end_of i))
 closes_late t i end h = told-no (λ p. let (l, e) = p in omega arith)
 
-pub closes-opener : (t : Token) (i end : ℕ) {other : ℕ} → link_of t ≡ ToEnd other → (false ≡ true) ↔ ((i < end) × (t ≡ end_of i))
+pub closes-opener : (t : Token) (i end : ℕ) {other : ℕ} → link_of t ≡ Some (ToEnd other) → (false ≡ true) ↔ ((i < end) × (t ≡ end_of i))
 closes-opener t i end l = told-no (λ p. end_not_opener l (end-link t p.1))
 
-pub closes-none : (t : Token) (i end : ℕ) → link_of t ≡ Link.Nothing → (false ≡ true) ↔ ((i < end) × (t ≡ end_of i))
+pub closes-none : (t : Token) (i end : ℕ) → link_of t ≡ None → (false ≡ true) ↔ ((i < end) × (t ≡ end_of i))
 closes-none t i end l = told-no (λ p. opener_not_none (end-link t p.1) l)
 
-pub closes-end : (t : Token) (i end opener : ℕ) → i < end → link_of t ≡ ToOpener opener → (eqb opener i ≡ true) ↔ ((i < end) × (t ≡ end_of i))
+pub closes-end : (t : Token) (i end opener : ℕ) → i < end → link_of t ≡ Some (ToOpener opener) → (eqb opener i ≡ true) ↔ ((i < end) × (t ≡ end_of i))
 closes-end t i end opener h l =
     told-equal opener i
     (λ e. (h, subst (λ (k : ℕ). t ≡ end_of k) e (link-made t l)))
@@ -83,24 +84,24 @@ closes-end t i end opener h l =
 pub opened_late : (t : Token) (i opener : ℕ) → i ≤ opener → (false ≡ true) ↔ ((opener < i) × Opens t i)
 opened_late t i opener h = told-no (λ p. let (l, e) = p in omega arith)
 
-pub opened-opener : (t : Token) (i opener end : ℕ) → opener < i → link_of t ≡ ToEnd end → (eqb end i ≡ true) ↔ ((opener < i) × Opens t i)
+pub opened-opener : (t : Token) (i opener end : ℕ) → opener < i → link_of t ≡ Some (ToEnd end) → (eqb end i ≡ true) ↔ ((opener < i) × Opens t i)
 opened-opener t i opener end h l =
     told-equal end i
     (λ e. (h, subst (λ (k : ℕ). Opens t k) e (link-made t l)))
     (λ p. same_end l (opens-link t p.1))
 
-pub opened-end : (t : Token) (i opener : ℕ) {other : ℕ} → link_of t ≡ ToOpener other → (false ≡ true) ↔ ((opener < i) × Opens t i)
+pub opened-end : (t : Token) (i opener : ℕ) {other : ℕ} → link_of t ≡ Some (ToOpener other) → (false ≡ true) ↔ ((opener < i) × Opens t i)
 opened-end t i opener l = told-no (λ p. end_not_opener (opens-link t p.1) l)
 
-pub opened-none : (t : Token) (i opener : ℕ) → link_of t ≡ Link.Nothing → (false ≡ true) ↔ ((opener < i) × Opens t i)
+pub opened-none : (t : Token) (i opener : ℕ) → link_of t ≡ None → (false ≡ true) ↔ ((opener < i) × Opens t i)
 opened-none t i opener l = told-no (λ p. end_not_none (opens-link t p.1) l)
 
 -- ---- whether a container opens
-pub opens-opener : (t : Token) {end : ℕ} → link_of t ≡ ToEnd end → (true ≡ true) ↔ ((end : ℕ) × Opens t end)
+pub opens-opener : (t : Token) {end : ℕ} → link_of t ≡ Some (ToEnd end) → (true ≡ true) ↔ ((end : ℕ) × Opens t end)
 opens-opener t {end} l = told-yes (end, link-made t l)
 
-pub opens-end : (t : Token) {other : ℕ} → link_of t ≡ ToOpener other → (false ≡ true) ↔ ((end : ℕ) × Opens t end)
+pub opens-end : (t : Token) {other : ℕ} → link_of t ≡ Some (ToOpener other) → (false ≡ true) ↔ ((end : ℕ) × Opens t end)
 opens-end t l = told-no (λ p. end_not_opener (opens-link t p.1) l)
 
-pub opens-none : (t : Token) → link_of t ≡ Link.Nothing → (false ≡ true) ↔ ((end : ℕ) × Opens t end)
+pub opens-none : (t : Token) → link_of t ≡ None → (false ≡ true) ↔ ((end : ℕ) × Opens t end)
 opens-none t l = told-no (λ p. end_not_none (opens-link t p.1) l)

@@ -1,6 +1,7 @@
 -- What a walk through a container has shown on the way: the containers that open before the place that it has come to, end
 -- before it.
 -- Assumes nothing.
+use Rattle.std.specs.Prelude.{Some, None}
 use mathlib.Core.Path.{◌≡◌, sym, ◌∙◌, subst}
 use mathlib.Core.Bool.{Bool, true, false, false≢true}
 use mathlib.Core.List.{List}
@@ -51,7 +52,7 @@ module _ (ts : List Token) (i end : ℕ) (w : Walkable ts i end) where
   pub walk_ahead : i < end
   walk_ahead = (w.linked.closed i end w.opener).0
 
-  pub jump_ahead : (at : ℕ) {inner : ℕ} → link_of (nth ts at) ≡ ToEnd inner → at < inner
+  pub jump_ahead : (at : ℕ) {inner : ℕ} → link_of (nth ts at) ≡ Some (ToEnd inner) → at < inner
   jump_ahead at {inner} l = (w.linked.closed at inner (link-made (nth ts at) l)).0
 
   pub come_first : Come ts i end (i + 1)
@@ -64,7 +65,7 @@ module _ (ts : List Token) (i end : ℕ) (w : Walkable ts i end) where
 
   module _ (at : ℕ) (c : Come ts i end at) (before : at < end) where
     -- over a container
-    pub come_over : {inner : ℕ} → link_of (nth ts at) ≡ ToEnd inner → Come ts i end (inner + 1)
+    pub come_over : {inner : ℕ} → link_of (nth ts at) ≡ Some (ToEnd inner) → Come ts i end (inner + 1)
     come_over {inner} l =
         let o : Opens (nth ts at) inner = link-made (nth ts at) l in
         let ends = w.linked.closed at inner o in
@@ -87,7 +88,7 @@ module _ (ts : List Token) (i end : ℕ) (w : Walkable ts i end) where
             (λ m. absurd (omega arith)))
 
     -- over a token that is neither an opener nor an End
-    pub come_on : link_of (nth ts at) ≡ Link.Nothing → Come ts i end (at + 1)
+    pub come_on : link_of (nth ts at) ≡ None → Come ts i end (at + 1)
     come_on l =
         record {
           past = omega (arith, c.past);
@@ -103,7 +104,7 @@ module _ (ts : List Token) (i end : ℕ) (w : Walkable ts i end) where
             (λ m. absurd (omega arith))
 
     -- an End is met: its opener stands before i, and i's container crosses that one
-    pub come_crossed : {opener : ℕ} → link_of (nth ts at) ≡ ToOpener opener → Walked ts i false
+    pub come_crossed : {opener : ℕ} → link_of (nth ts at) ≡ Some (ToOpener opener) → Walked ts i false
     come_crossed {opener} l =
         record { nests = λ e. absurd (false≢true e); passes = λ n. absurd (crossed n) }
       where
@@ -151,14 +152,14 @@ module _ (ts : List Token) (i : ℕ) (some : 0 < i) (from : NestedFrom ts i) whe
       }
 
   -- a token that opens nothing
-  pub nested-end : {opener : ℕ} → link_of (nth ts (i - 1)) ≡ ToOpener opener → NestedFrom ts (i - 1)
+  pub nested-end : {opener : ℕ} → link_of (nth ts (i - 1)) ≡ Some (ToOpener opener) → NestedFrom ts (i - 1)
   nested-end l = nested-more (λ end j inner o. absurd (end-opens_not (nth ts (i - 1)) o (link-made (nth ts (i - 1)) l)))
 
-  pub nested-none : link_of (nth ts (i - 1)) ≡ Link.Nothing → NestedFrom ts (i - 1)
+  pub nested-none : link_of (nth ts (i - 1)) ≡ None → NestedFrom ts (i - 1)
   nested-none l = nested-more (λ end j inner o. absurd (unlinked-opens (nth ts (i - 1)) l o))
 
   -- one that does can be walked
-  pub walkable : {end : ℕ} → Linked ts → link_of (nth ts (i - 1)) ≡ ToEnd end → Walkable ts (i - 1) end
+  pub walkable : {end : ℕ} → Linked ts → link_of (nth ts (i - 1)) ≡ Some (ToEnd end) → Walkable ts (i - 1) end
   walkable links l = record { linked = links; opener = link-made (nth ts (i - 1)) l; later = λ k h. from.each k (omega arith) }
 
 -- a walk that does not come out

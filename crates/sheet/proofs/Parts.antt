@@ -1,5 +1,6 @@
 -- What a token's view is, by the tests that lead to it, and that it lies in the text.
 -- Assumes nothing.
+use Rattle.std.specs.Prelude.{Option, Some, None}
 use mathlib.Core.Path.{◌≡◌, refl, sym, ◌∙◌, ap}
 use mathlib.Core.Bool.{Bool, true, false}
 use mathlib.Core.List.{List, []}
@@ -15,51 +16,50 @@ use Rattle.tape.specs.declared.shape.Shape.{Shape}
 use Rattle.tape.specs.declared.shape.Shape.TheVariants.{Opener, MixedContainer, Scalar, Operator, End}
 use Rattle.tape.specs.Shape.{shape_of}
 use Rattle.tape.specs.Words.{words_for, token_in}
-use Rattle.sheet.specs.declared.views.Viewed.{Viewed}
-use Rattle.sheet.specs.declared.views.Viewed.TheVariants.{At, NoScalar}
-use Rattle.sheet.specs.Views.{past_text, placed, viewed, part_of, place_of}
+use Rattle.sheet.specs.Views.{past_text, placed, viewed, part_of, place_of, seen}
+use Rattle.sheet.specs.declared.views.View.{View}
 
-refused_not : {r : Viewed} {offset size : ℕ} → r ≡ NoScalar → r ≡ At offset size → ⊥
+refused_not : {r : Option View} {offset size : ℕ} → r ≡ None → r ≡ seen offset size → ⊥
 refused_not e f = let z : ◌≡◌ {A = ℕ} 0 1 = cc in omega arith
 
-same_sum : {a b c d : ℕ} → At a b ≡ At c d → c + d ≡ a + b
+same_sum : {a b c d : ℕ} → seen a b ≡ seen c d → c + d ≡ a + b
 same_sum e = cc
 
 -- ---- a view that is placed lies in the text
-placed-within : (L : ℕ) (s : Shape) {offset size : ℕ} → placed L s ≡ At offset size → offset + size ≤ L
+placed-within : (L : ℕ) (s : Option Shape) {offset size : ℕ} → placed L s ≡ seen offset size → offset + size ≤ L
 unfolding placed
-placed-within L (Scalar kind o l) {offset} {size} e =
+placed-within L (Some (Scalar kind o l)) {offset} {size} e =
     by_bool (past_text L o l)
-    (λ t. absurd (refused_not {r = placed L (Scalar kind o l)} (rw (placed, t)) e))
+    (λ t. absurd (refused_not {r = placed L (Some (Scalar kind o l))} (rw (placed, t)) e))
     (λ t.
-    let same : At o l ≡ At offset size = rw (placed, t) at e in
+    let same : seen o l ≡ seen offset size = rw (placed, t) at e in
     let sums : offset + size ≡ o + l = same_sum same in
     omega (arith, ltb-false))
-placed-within L (Opener end) e = absurd (refused_not refl e)
-placed-within L MixedContainer e = absurd (refused_not refl e)
-placed-within L (Operator number) e = absurd (refused_not refl e)
-placed-within L (End opener) e = absurd (refused_not refl e)
-placed-within L Shape.Nothing e = absurd (refused_not refl e)
+placed-within L (Some (Opener end)) e = absurd (refused_not refl e)
+placed-within L (Some MixedContainer) e = absurd (refused_not refl e)
+placed-within L (Some (Operator number)) e = absurd (refused_not refl e)
+placed-within L (Some (End opener)) e = absurd (refused_not refl e)
+placed-within L None e = absurd (refused_not refl e)
 
 module _ (L : ℕ) (ws : List ℕ) (n i : ℕ) where
   -- ---- the answer, by the tests that lead to it
-  pub view-past : n ≤ i → NoScalar ≡ viewed L ws n i
+  pub view-past : n ≤ i → None ≡ viewed L ws n i
   unfolding viewed
   view-past h = rw (viewed, le-ltb i n h)
 
-  pub view-short : {r : Bool} → i < n → r ≡ leb (words_for n) (length ws) → r ≡ false → NoScalar ≡ viewed L ws n i
+  pub view-short : {r : Bool} → i < n → r ≡ leb (words_for n) (length ws) → r ≡ false → None ≡ viewed L ws n i
   unfolding viewed
   view-short h e f = rw (viewed, lt-ltb i n h, sym e ∙ f)
 
-  pub view-placed : {r : Bool} {t : Token} {s : Shape} → i < n → r ≡ leb (words_for n) (length ws) → r ≡ true
+  pub view-placed : {r : Bool} {t : Token} {s : Option Shape} → i < n → r ≡ leb (words_for n) (length ws) → r ≡ true
       → t ≡ token_in ws n i → s ≡ shape_of t → placed L s ≡ viewed L ws n i
   unfolding viewed
   view-placed h e f g k =
       rw (viewed, lt-ltb i n h, sym e ∙ f)
-      (ap (λ (x : Shape). placed L x) k ∙ ap (λ (x : Token). placed L (shape_of x)) g)
+      (ap (λ (x : Option Shape). placed L x) k ∙ ap (λ (x : Token). placed L (shape_of x)) g)
 
   -- ---- it lies in the text
-  pub viewed-within : {offset size : ℕ} → viewed L ws n i ≡ At offset size → offset + size ≤ L
+  pub viewed-within : {offset size : ℕ} → viewed L ws n i ≡ seen offset size → offset + size ≤ L
   unfolding viewed
   viewed-within e =
       by_bool (ltb i n)
@@ -70,11 +70,11 @@ module _ (L : ℕ) (ws : List ℕ) (n i : ℕ) where
 
 -- ---- the part that an answer names, by its bytes and by its place
 module _ (text : List ℕ) (start : ℕ × ℕ) where
-  pub part-here : {r : Viewed} {offset size : ℕ} → r ≡ At offset size
+  pub part-here : {r : Option View} {offset size : ℕ} → r ≡ seen offset size
       → (take (offset + size - offset) (drop offset text) ≡ part_of text r) × ((start.0, offset + start.1) ≡ place_of start r)
   part-here {r} {offset} {size} e =
       let whole : offset + size - offset ≡ size = omega arith in
       (rw (e, whole), rw e (ap (λ (n : ℕ). (start.0, n)) (add_comm offset start.1)))
 
-  pub part_none : {r : Viewed} → r ≡ NoScalar → ([] ≡ part_of text r) × (start ≡ place_of start r)
+  pub part_none : {r : Option View} → r ≡ None → ([] ≡ part_of text r) × (start ≡ place_of start r)
   part_none e = (rw e, rw e)

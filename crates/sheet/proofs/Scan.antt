@@ -1,6 +1,7 @@
 -- What the look at the tokens from the first on has shown after some of them: each holds by itself, each view is past those
 -- before it, and the floor is where the last of them ends.
 -- Assumes nothing.
+use Rattle.std.specs.Prelude.{Option, Some, None}
 use mathlib.Core.Path.{◌≡◌, refl, sym, ◌∙◌, ap, subst}
 use mathlib.Core.Bool.{Bool, true, false, false≢true}
 use mathlib.Core.List.{List}
@@ -20,8 +21,6 @@ use Rattle.tape.specs.Shape.{shape_of}
 use Rattle.tape.specs.Words.{words_for, tokens_in}
 use Rattle.tape.proofs.Shapes.{shape-made}
 use Rattle.tape.proofs.Views.{tokens-counted}
-use Rattle.sheet.specs.declared.stands.Floor.{Floor}
-use Rattle.sheet.specs.declared.stands.Floor.TheVariants.{At, Passed}
 use Rattle.sheet.specs.Sound.{nth, Views}
 use Rattle.sheet.specs.Steps.{Held, Spaced, AllStand, past, floor_after}
 use Rattle.sheet.proofs.Links.{told-yes, told-no}
@@ -41,36 +40,36 @@ past-least offset size later h k =
     (λ e. rw (past, e) (omega arith))
 
 -- ---- a shape is a scalar's, or leaves the floor as it is
-abbrev pub ScalarOr : Shape → Type 0
-ScalarOr s = ((kind : ScalarKind) × (offset : ℕ) × (size : ℕ) × (s ≡ Scalar kind offset size)) ⊎ NotScalar s
+abbrev pub ScalarOr : Option Shape → Type 0
+ScalarOr s = ((kind : ScalarKind) × (offset : ℕ) × (size : ℕ) × (s ≡ Some (Scalar kind offset size))) ⊎ NotScalar s
 
-pub scalar_or : (s : Shape) → ScalarOr s
-scalar_or (Opener end) = inr tt
-scalar_or MixedContainer = inr tt
-scalar_or (Scalar kind offset size) = inl (kind, offset, size, refl)
-scalar_or (Operator number) = inr tt
-scalar_or (End opener) = inr tt
-scalar_or Shape.Nothing = inr tt
+pub scalar_or : (s : Option Shape) → ScalarOr s
+scalar_or (Some (Opener end)) = inr tt
+scalar_or (Some MixedContainer) = inr tt
+scalar_or (Some (Scalar kind offset size)) = inl (kind, offset, size, refl)
+scalar_or (Some (Operator number)) = inr tt
+scalar_or (Some (End opener)) = inr tt
+scalar_or None = inr tt
 
-floor-kept : (s : Shape) (floor : ℕ) → NotScalar s → floor_after s floor ≡ At floor
+floor-kept : (s : Option Shape) (floor : ℕ) → NotScalar s → floor_after s floor ≡ Some floor
 unfolding floor_after
-floor-kept (Opener end) floor n = refl
-floor-kept MixedContainer floor n = refl
-floor-kept (Scalar kind offset size) floor n = absurd n
-floor-kept (Operator number) floor n = refl
-floor-kept (End opener) floor n = refl
-floor-kept Shape.Nothing floor n = refl
+floor-kept (Some (Opener end)) floor n = refl
+floor-kept (Some MixedContainer) floor n = refl
+floor-kept (Some (Scalar kind offset size)) floor n = absurd n
+floor-kept (Some (Operator number)) floor n = refl
+floor-kept (Some (End opener)) floor n = refl
+floor-kept None floor n = refl
 
-same-floor : {f : Floor} {a b : ℕ} → f ≡ At a → f ≡ At b → a ≡ b
+same-floor : {f : Option ℕ} {a b : ℕ} → f ≡ Some a → f ≡ Some b → a ≡ b
 same-floor e g = cc
 
-not_passed : {f : Floor} {a : ℕ} → f ≡ At a → f ≡ Passed → ⊥
+not_passed : {f : Option ℕ} {a : ℕ} → f ≡ Some a → f ≡ None → ⊥
 not_passed e g = let z : ◌≡◌ {A = ℕ} 0 1 = cc in omega arith
 
-same-offset : {s : Shape} {k l : ScalarKind} {a b c d : ℕ} → s ≡ Scalar k a b → s ≡ Scalar l c d → a ≡ c
+same-offset : {s : Option Shape} {k l : ScalarKind} {a b c d : ℕ} → s ≡ Some (Scalar k a b) → s ≡ Some (Scalar l c d) → a ≡ c
 same-offset e f = cc
 
-same_size : {s : Shape} {k l : ScalarKind} {a b c d : ℕ} → s ≡ Scalar k a b → s ≡ Scalar l c d → b ≡ d
+same_size : {s : Option Shape} {k l : ScalarKind} {a b c d : ℕ} → s ≡ Some (Scalar k a b) → s ≡ Some (Scalar l c d) → b ≡ d
 same_size e f = cc
 
 -- ---- what has been shown
@@ -97,7 +96,7 @@ scanned_all L ts s h = record { held = λ i k. s.held i (omega arith); spaced = 
 -- ---- one token more
 module _ (L : ℕ) (ts : List Token) (j floor : ℕ) (before : Scanned L ts j floor) where
   -- a scalar that starts at the floor or over it
-  scalar-more : (kind : ScalarKind) (offset size : ℕ) → shape_of (nth ts j) ≡ Scalar kind offset size → floor ≤ offset → Held L ts j
+  scalar-more : (kind : ScalarKind) (offset size : ℕ) → shape_of (nth ts j) ≡ Some (Scalar kind offset size) → floor ≤ offset → Held L ts j
       → Scanned L ts (j + 1) (past offset size)
   scalar-more kind offset size e h here =
       record {
@@ -133,19 +132,19 @@ module _ (L : ℕ) (ts : List Token) (j floor : ℕ) (before : Scanned L ts j fl
       later (inl z) = inl z
       later (inr f) = inr (f.0, f.1, f.2, omega (arith, f.3), f.4, f.5)
 
-  by-floor : {next : ℕ} → ScalarOr (shape_of (nth ts j)) → Held L ts j → floor_after (shape_of (nth ts j)) floor ≡ At next
+  by-floor : {next : ℕ} → ScalarOr (shape_of (nth ts j)) → Held L ts j → floor_after (shape_of (nth ts j)) floor ≡ Some next
       → Scanned L ts (j + 1) next
   unfolding floor_after
   by-floor {next} (inl (kind, offset, size, e)) here f =
-      let g : floor_after (Scalar kind offset size) floor ≡ At next = ap (λ (s : Shape). floor_after s floor) (sym e) ∙ f in
+      let g : floor_after (Some (Scalar kind offset size)) floor ≡ Some next = ap (λ (s : Option Shape). floor_after s floor) (sym e) ∙ f in
       by_bool (ltb offset floor)
       (λ t. absurd (not_passed g (rw (floor_after, t))))
       (λ t.
-      let same : past offset size ≡ next = same-floor {f = floor_after (Scalar kind offset size) floor} (rw (floor_after, t)) g in
+      let same : past offset size ≡ next = same-floor {f = floor_after (Some (Scalar kind offset size)) floor} (rw (floor_after, t)) g in
       subst (λ (k : ℕ). Scanned L ts (j + 1) k) same (scalar-more kind offset size e (ltb-false _ _ t) here))
   by-floor {next} (inr n) here f = subst (λ (k : ℕ). Scanned L ts (j + 1) k) (same-floor (floor-kept (shape_of (nth ts j)) floor n) f) (other-more n here)
 
-  pub scanned_more : {next : ℕ} → Held L ts j → floor_after (shape_of (nth ts j)) floor ≡ At next → Scanned L ts (j + 1) next
+  pub scanned_more : {next : ℕ} → Held L ts j → floor_after (shape_of (nth ts j)) floor ≡ Some next → Scanned L ts (j + 1) next
   scanned_more here f = by-floor (scalar_or (shape_of (nth ts j))) here f
 
   -- a scalar that starts under the floor starts before the end of one before it
@@ -155,22 +154,22 @@ module _ (L : ℕ) (ts : List Token) (j floor : ℕ) (before : Scanned L ts j fl
       let p = s i o l offset size k v w in
       omega (arith, past-least o l offset p.0 p.1)
 
-  by-passed : ScalarOr (shape_of (nth ts j)) → floor_after (shape_of (nth ts j)) floor ≡ Passed → Spaced ts j → ⊥
+  by-passed : ScalarOr (shape_of (nth ts j)) → floor_after (shape_of (nth ts j)) floor ≡ None → Spaced ts j → ⊥
   unfolding floor_after
   by-passed (inl (kind, offset, size, e)) f s =
-      let g : floor_after (Scalar kind offset size) floor ≡ Passed = ap (λ (x : Shape). floor_after x floor) (sym e) ∙ f in
+      let g : floor_after (Some (Scalar kind offset size)) floor ≡ None = ap (λ (x : Option Shape). floor_after x floor) (sym e) ∙ f in
       by_bool (ltb offset floor)
       (λ t. under-floor offset size (kind, shape-made (nth ts j) e) (ltb-true _ _ t) s before.floored)
-      (λ t. not_passed {f = floor_after (Scalar kind offset size) floor} {a = past offset size} (rw (floor_after, t)) g)
+      (λ t. not_passed {f = floor_after (Some (Scalar kind offset size)) floor} {a = past offset size} (rw (floor_after, t)) g)
   by-passed (inr n) f s = not_passed (floor-kept (shape_of (nth ts j)) floor n) f
 
-  pub scanned_passed : floor_after (shape_of (nth ts j)) floor ≡ Passed → Spaced ts j → ⊥
+  pub scanned_passed : floor_after (shape_of (nth ts j)) floor ≡ None → Spaced ts j → ⊥
   scanned_passed f s = by-passed (scalar_or (shape_of (nth ts j))) f s
 
 -- ---- what the look from the first on answers, over words
-pub read-floor : (t : Token) {s : Shape} {r f : Floor} (floor : ℕ) → s ≡ shape_of t → r ≡ floor_after s floor → r ≡ f
+pub read-floor : (t : Token) {s : Option Shape} {r f : Option ℕ} (floor : ℕ) → s ≡ shape_of t → r ≡ floor_after s floor → r ≡ f
     → floor_after (shape_of t) floor ≡ f
-read-floor t floor e g h = ap (λ (x : Shape). floor_after x floor) (sym e) ∙ sym g ∙ h
+read-floor t floor e g h = ap (λ (x : Option Shape). floor_after x floor) (sym e) ∙ sym g ∙ h
 
 module _ (L : ℕ) (ws : List ℕ) (n : ℕ) (fits : words_for n ≤ length ws) where
   -- yes after the last
@@ -184,6 +183,6 @@ module _ (L : ℕ) (ws : List ℕ) (n : ℕ) (fits : words_for n ≤ length ws) 
 
   -- no at a view that starts too early
   pub stand_passed : (j : ℕ) {floor : ℕ} → j < n → Scanned L (tokens_in ws n) j floor
-      → floor_after (shape_of (nth (tokens_in ws n) j)) floor ≡ Passed → (false ≡ true) ↔ AllStand L (tokens_in ws n)
+      → floor_after (shape_of (nth (tokens_in ws n) j)) floor ≡ None → (false ≡ true) ↔ AllStand L (tokens_in ws n)
   stand_passed j {floor} h before f =
       told-no (λ s. scanned_passed L (tokens_in ws n) j floor before f (s.spaced j (omega (arith, tokens-counted ws n fits))))

@@ -1,5 +1,6 @@
 -- What follows from what a sound sheet is: document 01's last two sentences on it, and sheets that are made of tokens.
 -- Assumes nothing.
+use Rattle.std.specs.Prelude.{Some, None}
 use mathlib.Core.Path.{◌≡◌, refl, sym, ◌∙◌, ap, subst}
 use mathlib.Core.Bool.{Bool, true, false, false≢true}
 use mathlib.Core.List.{List}
@@ -14,7 +15,6 @@ use Rattle.tape.specs.declared.token.Token.{Token}
 use Rattle.tape.specs.declared.token.ScalarKind.TheVariants.{Header}
 use Rattle.tape.specs.Words.{words_for, tokens_in, token_in, padded}
 use Rattle.tape.proofs.Views.{tokens-first, padded-length, padded-tokens, tokens-length}
-use Rattle.sheet.specs.declared.views.Viewed.TheVariants.{At, NoScalar}
 use Rattle.sheet.specs.Sound.{Sheet, Sound}
 use Rattle.sheet.specs.Views.{viewed}
 use Rattle.sheet.specs.Laws.{NoneSound, LaterIgnored, CheckIgnores, ViewIgnores, RefusedPlace}
@@ -78,8 +78,8 @@ view_ignores L words others count i fits fits' same =
 
 -- refusal 12 stands at 0
 pub refused-place : RefusedPlace
-refused-place (At offset size) e = refl
-refused-place NoScalar e = refl
+refused-place (Some v) e = refl
+refused-place None e = refl
 
 -- tokens that are sound are a sound sheet, laid down with zeros behind them
 pub padded-sound : (L len : ℕ) (ts : List Token) → words_for (length ts) ≤ len → Sheet L ts → Sound L (padded len ts) (length ts)

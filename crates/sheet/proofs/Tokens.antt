@@ -1,5 +1,6 @@
 -- What a token of each shape owes by itself.
 -- Assumes nothing.
+use Rattle.std.specs.Prelude.{Option, Some, None}
 use mathlib.Core.Path.{◌≡◌, sym, ◌∙◌, ap, subst}
 use mathlib.Core.Bool.{Bool, true, false, false≢true}
 use mathlib.Core.List.{List}
@@ -25,60 +26,60 @@ use Rattle.sheet.specs.Steps.{Suited, Held}
 use Rattle.sheet.proofs.Links.{told-yes, told-no, told_through, one_end}
 
 -- the shape that was read is that of the token
-pub read-shape : (ws : List ℕ) (n i : ℕ) {t : Token} {r : Shape} → t ≡ token_in ws n i → r ≡ shape_of t → r ≡ shape_of (nth (tokens_in ws n) i)
+pub read-shape : (ws : List ℕ) (n i : ℕ) {t : Token} {r : Option Shape} → t ≡ token_in ws n i → r ≡ shape_of t → r ≡ shape_of (nth (tokens_in ws n) i)
 unfolding token_in
 read-shape ws n i e f = f ∙ ap shape_of e
 
 -- ---- no token has two shapes
-abbrev pub NotOpener : Shape → Type 0
-NotOpener (Opener end) = ⊥
-NotOpener MixedContainer = Unit
-NotOpener (Scalar kind offset size) = Unit
-NotOpener (Operator number) = Unit
-NotOpener (End opener) = Unit
-NotOpener Shape.Nothing = Unit
+abbrev pub NotOpener : Option Shape → Type 0
+NotOpener (Some (Opener end)) = ⊥
+NotOpener (Some MixedContainer) = Unit
+NotOpener (Some (Scalar kind offset size)) = Unit
+NotOpener (Some (Operator number)) = Unit
+NotOpener (Some (End opener)) = Unit
+NotOpener None = Unit
 
-abbrev pub NotEnd : Shape → Type 0
-NotEnd (Opener end) = Unit
-NotEnd MixedContainer = Unit
-NotEnd (Scalar kind offset size) = Unit
-NotEnd (Operator number) = Unit
-NotEnd (End opener) = ⊥
-NotEnd Shape.Nothing = Unit
+abbrev pub NotEnd : Option Shape → Type 0
+NotEnd (Some (Opener end)) = Unit
+NotEnd (Some MixedContainer) = Unit
+NotEnd (Some (Scalar kind offset size)) = Unit
+NotEnd (Some (Operator number)) = Unit
+NotEnd (Some (End opener)) = ⊥
+NotEnd None = Unit
 
-abbrev pub NotScalar : Shape → Type 0
-NotScalar (Opener end) = Unit
-NotScalar MixedContainer = Unit
-NotScalar (Scalar kind offset size) = ⊥
-NotScalar (Operator number) = Unit
-NotScalar (End opener) = Unit
-NotScalar Shape.Nothing = Unit
+abbrev pub NotScalar : Option Shape → Type 0
+NotScalar (Some (Opener end)) = Unit
+NotScalar (Some MixedContainer) = Unit
+NotScalar (Some (Scalar kind offset size)) = ⊥
+NotScalar (Some (Operator number)) = Unit
+NotScalar (Some (End opener)) = Unit
+NotScalar None = Unit
 
-abbrev pub IsNothing : Shape → Type 0
-IsNothing (Opener end) = ⊥
-IsNothing MixedContainer = ⊥
-IsNothing (Scalar kind offset size) = ⊥
-IsNothing (Operator number) = ⊥
-IsNothing (End opener) = ⊥
-IsNothing Shape.Nothing = Unit
+abbrev pub IsNothing : Option Shape → Type 0
+IsNothing (Some (Opener end)) = ⊥
+IsNothing (Some MixedContainer) = ⊥
+IsNothing (Some (Scalar kind offset size)) = ⊥
+IsNothing (Some (Operator number)) = ⊥
+IsNothing (Some (End opener)) = ⊥
+IsNothing None = Unit
 
-pub views-shape : (t : Token) {offset size : ℕ} (v : Views t offset size) → shape_of t ≡ Scalar v.0 offset size
+pub views-shape : (t : Token) {offset size : ℕ} (v : Views t offset size) → shape_of t ≡ Some (Scalar v.0 offset size)
 views-shape t {offset} {size} v = ap shape_of v.1 ∙ scalar-shape v.0 offset size
 
-pub ends-shape : (t : Token) {opener : ℕ} → t ≡ end_of opener → shape_of t ≡ End opener
+pub ends-shape : (t : Token) {opener : ℕ} → t ≡ end_of opener → shape_of t ≡ Some (End opener)
 ends-shape t {opener} e = ap shape_of e ∙ end-shape opener
 
-pub opens_not : (t : Token) {s : Shape} → shape_of t ≡ s → NotOpener s → {end : ℕ} → Opens t end → ⊥
+pub opens_not : (t : Token) {s : Option Shape} → shape_of t ≡ s → NotOpener s → {end : ℕ} → Opens t end → ⊥
 opens_not t e n o = subst NotOpener (sym e ∙ opens-shape t o) n
 
-pub ends_not : (t : Token) {s : Shape} → shape_of t ≡ s → NotEnd s → {opener : ℕ} → t ≡ end_of opener → ⊥
+pub ends_not : (t : Token) {s : Option Shape} → shape_of t ≡ s → NotEnd s → {opener : ℕ} → t ≡ end_of opener → ⊥
 ends_not t e n o = subst NotEnd (sym e ∙ ends-shape t o) n
 
-pub views_not : (t : Token) {s : Shape} → shape_of t ≡ s → NotScalar s → {offset size : ℕ} → Views t offset size → ⊥
+pub views_not : (t : Token) {s : Option Shape} → shape_of t ≡ s → NotScalar s → {offset size : ℕ} → Views t offset size → ⊥
 views_not t e n v = subst NotScalar (sym e ∙ views-shape t v) n
 
 -- words that no token has have no form
-formless : (t : Token) → shape_of t ≡ Shape.Nothing → Form t → ⊥
+formless : (t : Token) → shape_of t ≡ None → Form t → ⊥
 formless t e (container end o) = subst IsNothing (sym e ∙ opens-shape t o) tt
 formless t e (mixed_container q) = subst IsNothing (sym e ∙ ap shape_of q ∙ mixed_container-shape) tt
 formless t e (scalar offset size v) = subst IsNothing (sym e ∙ views-shape t v) tt
@@ -86,7 +87,7 @@ formless t e (operator number low high q) = subst IsNothing (sym e ∙ ap shape_
 formless t e (closing opener q) = subst IsNothing (sym e ∙ ends-shape t q) tt
 
 -- where a token of a shape stands, there is one
-pub stands_in : (ts : List Token) (i : ℕ) {s : Shape} → shape_of (nth ts i) ≡ s → (IsNothing s → ⊥) → i < length ts
+pub stands_in : (ts : List Token) (i : ℕ) {s : Option Shape} → shape_of (nth ts i) ≡ s → (IsNothing s → ⊥) → i < length ts
 stands_in ts i {s} e n =
     by_bool (ltb i (length ts))
     (λ t. ltb-true _ _ t)
@@ -105,7 +106,7 @@ view_in ts i v = stands_in ts i (views-shape (nth ts i) v) (λ n. n)
 
 -- ---- what each shape owes
 module _ (L : ℕ) (ts : List Token) (i : ℕ) where
-  held-opener : {end : ℕ} → shape_of (nth ts i) ≡ Opener end → (i ≡ 0 → ⊥) → (i < end) × (nth ts end ≡ end_of i) → Held L ts i
+  held-opener : {end : ℕ} → shape_of (nth ts i) ≡ Some (Opener end) → (i ≡ 0 → ⊥) → (i < end) × (nth ts end ≡ end_of i) → Held L ts i
   held-opener {end} e n c =
       record {
         form = container end (shape-made (nth ts i) e);
@@ -119,7 +120,7 @@ module _ (L : ℕ) (ts : List Token) (i : ℕ) where
         headed = λ offset size q. absurd (views_not (nth ts i) e tt (Header, q));
       }
 
-  held-end : {opener : ℕ} → shape_of (nth ts i) ≡ End opener → (opener < i) × Opens (nth ts opener) i → Held L ts i
+  held-end : {opener : ℕ} → shape_of (nth ts i) ≡ Some (End opener) → (opener < i) × Opens (nth ts opener) i → Held L ts i
   held-end {opener} e c =
       record {
         form = closing opener (shape-made (nth ts i) e);
@@ -131,10 +132,10 @@ module _ (L : ℕ) (ts : List Token) (i : ℕ) where
         headed = λ offset size q. absurd (views_not (nth ts i) e tt (Header, q));
       }
     where
-      same-opener : {a b : ℕ} → End a ≡ End b → a ≡ b
+      same-opener : {a b : ℕ} → Some (End a) ≡ Some (End b) → a ≡ b
       same-opener q = cc
 
-  held-scalar : {kind : ScalarKind} {offset size : ℕ} → shape_of (nth ts i) ≡ Scalar kind offset size → Suited L ts (i + 1) kind offset size
+  held-scalar : {kind : ScalarKind} {offset size : ℕ} → shape_of (nth ts i) ≡ Some (Scalar kind offset size) → Suited L ts (i + 1) kind offset size
       → Held L ts i
   held-scalar {kind} {offset} {size} e c =
       record {
@@ -147,22 +148,22 @@ module _ (L : ℕ) (ts : List Token) (i : ℕ) where
         headed = λ other more q. c.headed (ap is_header (same_kind (sym e ∙ views-shape (nth ts i) (Header, q))));
       }
     where
-      same_kind : {k : ScalarKind} {a b : ℕ} → Scalar kind offset size ≡ Scalar k a b → kind ≡ k
+      same_kind : {k : ScalarKind} {a b : ℕ} → Some (Scalar kind offset size) ≡ Some (Scalar k a b) → kind ≡ k
       same_kind q = cc
 
-      same-offset : {k : ScalarKind} {a b : ℕ} → Scalar kind offset size ≡ Scalar k a b → offset ≡ a
+      same-offset : {k : ScalarKind} {a b : ℕ} → Some (Scalar kind offset size) ≡ Some (Scalar k a b) → offset ≡ a
       same-offset q = cc
 
-      same_size : {k : ScalarKind} {a b : ℕ} → Scalar kind offset size ≡ Scalar k a b → size ≡ b
+      same_size : {k : ScalarKind} {a b : ℕ} → Some (Scalar kind offset size) ≡ Some (Scalar k a b) → size ≡ b
       same_size q = cc
 
-      same-within : {k : ScalarKind} {a b : ℕ} → Scalar kind offset size ≡ Scalar k a b → InText L a b
+      same-within : {k : ScalarKind} {a b : ℕ} → Some (Scalar kind offset size) ≡ Some (Scalar k a b) → InText L a b
       same-within q = omega (arith, c.within, same-offset q, same_size q)
 
-      same-filled : {k : ScalarKind} {a : ℕ} → Scalar kind offset size ≡ Scalar k a 0 → may_be_empty k ≡ true
+      same-filled : {k : ScalarKind} {a : ℕ} → Some (Scalar kind offset size) ≡ Some (Scalar k a 0) → may_be_empty k ≡ true
       same-filled q = sym (ap may_be_empty (same_kind q)) ∙ c.filled (same_size q)
 
-  held_plain : {s : Shape} → shape_of (nth ts i) ≡ s → Form (nth ts i) → NotOpener s → NotEnd s → NotScalar s → Held L ts i
+  held_plain : {s : Option Shape} → shape_of (nth ts i) ≡ s → Form (nth ts i) → NotOpener s → NotEnd s → NotScalar s → Held L ts i
   held_plain e f o d v =
       record {
         form = f;
@@ -175,29 +176,29 @@ module _ (L : ℕ) (ts : List Token) (i : ℕ) where
       }
 
   -- ---- the answer for each shape tells whether the token holds
-  pub first-opens : {end : ℕ} → shape_of (nth ts i) ≡ Opener end → i ≡ 0 → (false ≡ true) ↔ Held L ts i
+  pub first-opens : {end : ℕ} → shape_of (nth ts i) ≡ Some (Opener end) → i ≡ 0 → (false ≡ true) ↔ Held L ts i
   first-opens {end} e z = told-no (λ h. h.top z end (shape-made (nth ts i) e))
 
-  pub opener-held : {r : Bool} {end : ℕ} → shape_of (nth ts i) ≡ Opener end → (i ≡ 0 → ⊥)
+  pub opener-held : {r : Bool} {end : ℕ} → shape_of (nth ts i) ≡ Some (Opener end) → (i ≡ 0 → ⊥)
       → (r ≡ true) ↔ ((i < end) × (nth ts end ≡ end_of i)) → (r ≡ true) ↔ Held L ts i
   opener-held {r} {end} e n c =
       told_through c
       (held-opener e n)
       (λ h. let links = h.closed end (shape-made (nth ts i) e) in (links.0, links.2))
 
-  pub mixed_container-held : shape_of (nth ts i) ≡ MixedContainer → (true ≡ true) ↔ Held L ts i
+  pub mixed_container-held : shape_of (nth ts i) ≡ (Some MixedContainer) → (true ≡ true) ↔ Held L ts i
   mixed_container-held e = told-yes (held_plain e (mixed_container (shape-made (nth ts i) e)) tt tt tt)
 
-  pub operator-held : {number : ℕ} → shape_of (nth ts i) ≡ Operator number → (true ≡ true) ↔ Held L ts i
+  pub operator-held : {number : ℕ} → shape_of (nth ts i) ≡ Some (Operator number) → (true ≡ true) ↔ Held L ts i
   operator-held {number} e =
       let m = shape-made (nth ts i) e in
       told-yes (held_plain e (operator number m.0 m.1 m.2) tt tt tt)
 
-  pub end-held : {r : Bool} {opener : ℕ} → shape_of (nth ts i) ≡ End opener → (r ≡ true) ↔ ((opener < i) × Opens (nth ts opener) i)
+  pub end-held : {r : Bool} {opener : ℕ} → shape_of (nth ts i) ≡ Some (End opener) → (r ≡ true) ↔ ((opener < i) × Opens (nth ts opener) i)
       → (r ≡ true) ↔ Held L ts i
   end-held {r} {opener} e c = told_through c (held-end e) (λ h. h.opened opener (shape-made (nth ts i) e))
 
-  pub scalar-held : {r : Bool} {kind : ScalarKind} {offset size : ℕ} → shape_of (nth ts i) ≡ Scalar kind offset size
+  pub scalar-held : {r : Bool} {kind : ScalarKind} {offset size : ℕ} → shape_of (nth ts i) ≡ Some (Scalar kind offset size)
       → (r ≡ true) ↔ Suited L ts (i + 1) kind offset size → (r ≡ true) ↔ Held L ts i
   scalar-held {r} {kind} {offset} {size} e c =
       told_through c
@@ -210,7 +211,7 @@ module _ (L : ℕ) (ts : List Token) (i : ℕ) where
         headed = λ q. h.headed offset size (made ∙ ap (λ (k : ScalarKind). scalar_of k offset size) (header-told kind q));
       })
 
-  pub nothing-held : shape_of (nth ts i) ≡ Shape.Nothing → (false ≡ true) ↔ Held L ts i
+  pub nothing-held : shape_of (nth ts i) ≡ None → (false ≡ true) ↔ Held L ts i
   nothing-held e = told-no (λ h. formless (nth ts i) e h.form)
 
 -- ---- whether a scalar may be as long as it is

@@ -1,13 +1,11 @@
 -- What the parts of the check tell: of one token, of the views in order, of the links.
-use Rattle.std.specs.Prelude.{ℕ, ◌+◌, ◌≤◌, ◌<◌, Bool, true, false, ◌≡◌, List, eqb, ltb, length}
+use Rattle.std.specs.Prelude.{ℕ, ◌+◌, ◌≤◌, ◌<◌, Bool, true, false, ◌≡◌, List, eqb, ltb, length, Option, Some, None}
 use Rattle.tape.specs.declared.token.Token.{Token}
 use Rattle.tape.specs.declared.token.ScalarKind.{ScalarKind}
 use Rattle.tape.specs.declared.shape.Shape.{Shape}
 use Rattle.tape.specs.declared.shape.Shape.TheVariants.{Opener, MixedContainer, Scalar, Operator, End}
 use Rattle.tape.specs.Token.{may_be_empty, is_header}
 use Rattle.tape.specs.Shape.{Opens}
-use Rattle.sheet.specs.declared.stands.Floor.{Floor}
-use Rattle.sheet.specs.declared.stands.Floor.TheVariants.{At, Passed}
 use Rattle.sheet.specs.Sound.{nth, Views, Form, Closed, Opened, Nested, InText, Within, Filled, Headed}
 
 -- what can be said of token i by itself
@@ -47,13 +45,13 @@ abbrev pub past : ℕ → ℕ → ℕ
 past offset size = elim (eqb size 0) [ true ↦ offset + 1 | false ↦ offset + size ]
 
 -- the same after a token of a shape, unless that starts too early
-unfoldable pub floor_after : Shape → ℕ → Floor
-floor_after (Scalar kind offset size) floor = elim (ltb offset floor) [ true ↦ Passed | false ↦ At (past offset size) ]
-floor_after (Opener end) floor = At floor
-floor_after MixedContainer floor = At floor
-floor_after (Operator number) floor = At floor
-floor_after (End opener) floor = At floor
-floor_after Shape.Nothing floor = At floor
+unfoldable pub floor_after : Option Shape → ℕ → Option ℕ
+floor_after (Some (Scalar kind offset size)) floor = elim (ltb offset floor) [ true ↦ None | false ↦ Some (past offset size) ]
+floor_after (Some (Opener end)) floor = Some floor
+floor_after (Some MixedContainer) floor = Some floor
+floor_after (Some (Operator number)) floor = Some floor
+floor_after (Some (End opener)) floor = Some floor
+floor_after None floor = Some floor
 
 -- what a scalar's view and what follows it owe
 pub record Suited (text_length : ℕ) (ts : List Token) (next : ℕ) (kind : ScalarKind) (offset size : ℕ) : Type 0 where

@@ -18,10 +18,7 @@ fn opens(t: Token) -> bool
     requires { Form t }
     ensures { (result ≡ true) ↔ Opens t t.a }
 {
-    if t.code == codes::ARRAY {
-        return true;
-    }
-    t.code == codes::OBJECT
+    t.container().is_some()
 }
 
 // Whether a token in its form is an End.
@@ -40,10 +37,8 @@ pub(crate) fn nest_onto(bytes: &[u8], words: &mut [u32], count: usize) -> bool
     ensures laid { result ≡ true → tokens_in words.new count ≡ tokens_in (words_packed bytes.now) count }
     ensures size { length words.new ≡ length words.old }
 {
-    let mut i: usize = 0;
     let mut inner: u32 = 0;
-    while i < count {
-        let next = i + 1;
+    for i in 0..count {
         let n = i as u32;
         let t = tokens::token_of(bytes, count, i);
         words::put_words(words, n, t);
@@ -56,7 +51,6 @@ pub(crate) fn nest_onto(bytes: &[u8], words: &mut [u32], count: usize) -> bool
             }
             inner = words::relink(words, inner, n);
         }
-        i = next;
     }
     true
 }

@@ -25,12 +25,9 @@ pub mod views;
 fn check_source(text_length: usize, words: &[u32], bytes: &[u8], count: usize) -> bool
     ensures { (result ≡ true) ↔ Sound text_length (behind words.now bytes.now) count }
 {
-    if source::holds(words, bytes, count) {
-        if stands::all_stand(text_length, words, bytes, count) {
-            return nests::nest(words, bytes, count);
-        }
-    }
-    false
+    source::holds(words, bytes, count)
+        && stands::all_stand(text_length, words, bytes, count)
+        && nests::nest(words, bytes, count)
 }
 
 // Whether the first count tokens of the words are a sound sheet for a text of a length.
@@ -52,10 +49,7 @@ pub fn check_packed(text_length: usize, bytes: &[u8], count: usize) -> bool
 fn has_room(words: &[u32], count: usize) -> bool
     ensures { result ≡ leb count (room_of words.now) }
 {
-    if (u32::MAX as usize) < count {
-        return false;
-    }
-    words::holds(words, count)
+    count <= u32::MAX as usize && words::holds(words, count)
 }
 
 // The same of tokens that words have room for: where they are sound, they are laid down.
@@ -66,12 +60,9 @@ fn lay_sound(text_length: usize, bytes: &[u8], count: usize, words: &mut [u32]) 
     ensures size { length words.new ≡ length words.old }
 {
     let none = [0u32; 1];
-    if source::holds(&none[..0], bytes, count) {
-        if stands::all_stand(text_length, &none[..0], bytes, count) {
-            return lays::nest_onto(bytes, words, count);
-        }
-    }
-    false
+    source::holds(&none[..0], bytes, count)
+        && stands::all_stand(text_length, &none[..0], bytes, count)
+        && lays::nest_onto(bytes, words, count)
 }
 
 // The same of tokens that stand in bytes, which are laid down where they are sound and the words have room for them, with zeros behind

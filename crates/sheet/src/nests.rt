@@ -21,15 +21,9 @@ fn walk(words: &[u32], bytes: &[u8], count: usize, i: usize, end: usize) -> bool
     let mut at = i + 1;
     while at < end {
         match shape::link_of(source::token_of(words, bytes, count, at)) {
-            Link::ToEnd(inner) => {
-                at = (inner as usize) + 1;
-            }
-            Link::ToOpener(_) => {
-                return false;
-            }
-            Link::Nothing => {
-                at += 1;
-            }
+            Some(Link::ToEnd(inner)) => at = (inner as usize) + 1,
+            Some(Link::ToOpener(_)) => return false,
+            None => at += 1,
         }
     }
     at == end
@@ -40,17 +34,11 @@ pub(crate) fn nest(words: &[u32], bytes: &[u8], count: usize) -> bool
     requires { Linked (tokens_in (behind words.now bytes.now) count) }
     ensures { (result ≡ true) ↔ ((i : ℕ) → Nested (tokens_in (behind words.now bytes.now) count) i) }
 {
-    let mut i = count;
-    while 0 < i {
-        i -= 1;
-        match shape::link_of(source::token_of(words, bytes, count, i)) {
-            Link::ToEnd(end) => {
-                if !walk(words, bytes, count, i, end as usize) {
-                    return false;
-                }
+    for i in (0..count).rev() {
+        if let Some(Link::ToEnd(end)) = shape::link_of(source::token_of(words, bytes, count, i)) {
+            if !walk(words, bytes, count, i, end as usize) {
+                return false;
             }
-            Link::ToOpener(_) => {}
-            Link::Nothing => {}
         }
     }
     true

@@ -12,13 +12,6 @@ use tape::shape::{Link, Shape};
 use tape::token::ScalarKind;
 use tape::{shape, token};
 
-// The least start that the next scalar may have, or that one came too early.
-#[derive(Clone, Copy)]
-pub(crate) enum Floor {
-    At(usize),
-    Passed,
-}
-
 // Whether the End of an opener at i stands after it and names it.
 fn closes(words: &[u32], bytes: &[u8], count: usize, i: usize, end: u32) -> bool
     ensures { (result ≡ true) ↔ ((i < end) × (nth (tokens_in (behind words.now bytes.now) count) end ≡ end_of i)) }
@@ -28,9 +21,8 @@ fn closes(words: &[u32], bytes: &[u8], count: usize, i: usize, end: u32) -> bool
         return false;
     }
     match shape::link_of(source::token_of(words, bytes, count, at)) {
-        Link::ToEnd(_) => false,
-        Link::ToOpener(opener) => (opener as usize) == i,
-        Link::Nothing => false,
+        Some(Link::ToOpener(opener)) => (opener as usize) == i,
+        Some(Link::ToEnd(_)) | None => false,
     }
 }
 
@@ -43,9 +35,8 @@ fn opened(words: &[u32], bytes: &[u8], count: usize, i: usize, opener: u32) -> b
         return false;
     }
     match shape::link_of(source::token_of(words, bytes, count, at)) {
-        Link::ToEnd(end) => (end as usize) == i,
-        Link::ToOpener(_) => false,
-        Link::Nothing => false,
+        Some(Link::ToEnd(end)) => (end as usize) == i,
+        Some(Link::ToOpener(_)) | None => false,
     }
 }
 
@@ -54,9 +45,8 @@ fn opens(words: &[u32], bytes: &[u8], count: usize, at: usize) -> bool
     ensures { (result ≡ true) ↔ ((end : ℕ) × Opens (nth (tokens_in (behind words.now bytes.now) count) at) end) }
 {
     match shape::link_of(source::token_of(words, bytes, count, at)) {
-        Link::ToEnd(_) => true,
-        Link::ToOpener(_) => false,
-        Link::Nothing => false,
+        Some(Link::ToEnd(_)) => true,
+        Some(Link::ToOpener(_)) | None => false,
     }
 }
 
@@ -64,10 +54,7 @@ fn opens(words: &[u32], bytes: &[u8], count: usize, at: usize) -> bool
 fn fills(kind: ScalarKind, length: u32) -> bool
     ensures { (result ≡ true) ↔ (length ≡ 0 → may_be_empty kind ≡ true) }
 {
-    if length == 0 {
-        return token::may_be_empty(kind);
-    }
-    true
+    length != 0 || token::may_be_empty(kind)
 }
 
 // Whether a scalar's view ends within the text, whether it may be as long as it is, and whether what follows suits it.
@@ -102,25 +89,19 @@ fn token_stands(
     bytes: &[u8],
     count: usize,
     i: usize,
-    s: Shape,
+    shape: Option<Shape>,
 ) -> bool
     requires { (words_for count ≤ length (behind words.now bytes.now)) × (i < count)
-        × (s ≡ shape_of (nth (tokens_in (behind words.now bytes.now) count) i)) }
+        × (shape ≡ shape_of (nth (tokens_in (behind words.now bytes.now) count) i)) }
     ensures { (result ≡ true) ↔ Held text_length (tokens_in (behind words.now bytes.now) count) i }
 {
-    match s {
-        Shape::Opener { end } => {
-            if i == 0 {
-                return false;
-            }
-            closes(words, bytes, count, i, end)
-        }
-        Shape::MixedContainer => true,
-        Shape::Scalar {
+    match shape {
+        Some(Shape::Opener { end }) => i != 0 && closes(words, bytes, count, i, end),
+        Some(Shape::Scalar {
             kind,
             offset,
             length,
-        } => suits(
+        }) => suits(
             text_length,
             words,
             bytes,
@@ -130,37 +111,24 @@ fn token_stands(
             offset,
             length,
         ),
-        Shape::Operator { number: _ } => true,
-        Shape::End { opener } => opened(words, bytes, count, i, opener),
-        Shape::Nothing => false,
+        Some(Shape::End { opener }) => opened(words, bytes, count, i, opener),
+        Some(Shape::MixedContainer) | Some(Shape::Operator { .. }) => true,
+        None => false,
     }
 }
 
-// The floor for the scalars after a token of a shape: past its start, and past its end.
-fn raised(s: Shape, floor: usize) -> Floor
-    ensures { result ≡ floor_after s floor }
+// The least start that the scalars after a token of a shape may have: past its start, and past its end. None where it came too early.
+fn raised(shape: Option<Shape>, floor: usize) -> Option<usize>
+    ensures { result ≡ floor_after shape floor }
 {
-    match s {
-        Shape::Scalar {
-            kind: _,
-            offset,
-            length,
-        } => {
-            let start = offset as usize;
-            if start < floor {
-                return Floor::Passed;
-            }
-            if length == 0 {
-                return Floor::At(start + 1);
-            }
-            Floor::At(start + (length as usize))
-        }
-        Shape::Opener { end: _ } => Floor::At(floor),
-        Shape::MixedContainer => Floor::At(floor),
-        Shape::Operator { number: _ } => Floor::At(floor),
-        Shape::End { opener: _ } => Floor::At(floor),
-        Shape::Nothing => Floor::At(floor),
+    let Some(Shape::Scalar { offset, length, .. }) = shape else {
+        return Some(floor);
+    };
+    let start = offset as usize;
+    if start < floor {
+        return None;
     }
+    Some(start + (length as usize).max(1))
 }
 
 // Whether every token stands as it should, but for how containers nest.
@@ -168,18 +136,16 @@ pub(crate) fn all_stand(text_length: usize, words: &[u32], bytes: &[u8], count: 
     requires { words_for count ≤ length (behind words.now bytes.now) }
     ensures { (result ≡ true) ↔ AllStand text_length (tokens_in (behind words.now bytes.now) count) }
 {
-    let mut i = 0;
     let mut floor: usize = 0;
-    while i < count {
-        let s = shape::shape_of(source::token_of(words, bytes, count, i));
-        if !token_stands(text_length, words, bytes, count, i, s) {
+    for i in 0..count {
+        let shape = shape::shape_of(source::token_of(words, bytes, count, i));
+        if !token_stands(text_length, words, bytes, count, i, shape) {
             return false;
         }
-        let Floor::At(next) = raised(s, floor) else {
+        let Some(next) = raised(shape, floor) else {
             return false;
         };
         floor = next;
-        i += 1;
     }
     true
 }

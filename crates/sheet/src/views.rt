@@ -6,25 +6,23 @@ ghost use Rattle.sheet.specs.Views.{refusal_of, code_in, link_in, placed, viewed
 use tape::shape::{Link, Shape};
 use tape::{shape, words};
 
-// Where a token's view lies, or refusal 12.
+// Where a token's view lies.
 #[derive(Clone, Copy)]
-pub enum Viewed {
-    At { offset: usize, length: usize },
-    NoScalar,
+pub struct View {
+    pub offset: usize,
+    pub length: usize,
 }
 
-impl Viewed {
-    // Document 01's number for the refusal, 0 where there is none.
-    pub fn refusal(self) -> u32
-        ensures { result ≡ refusal_of self }
-    {
-        match self {
-            Viewed::At {
-                offset: _,
-                length: _,
-            } => 0,
-            Viewed::NoScalar => 12,
-        }
+// Document 01's number for the refusal of a view that is not there.
+pub const NO_SCALAR: u32 = 12;
+
+// The refusal's number of a view, 0 where there is one.
+pub fn refusal(view: Option<View>) -> u32
+    ensures { result ≡ refusal_of view }
+{
+    match view {
+        Some(_) => 0,
+        None => NO_SCALAR,
     }
 }
 
@@ -40,49 +38,34 @@ pub fn link(words: &[u32], count: usize, index: usize) -> u32
     ensures { result ≡ link_in words.now count index }
 {
     match shape::link_of(words::token_of(words, count, index)) {
-        Link::ToEnd(end) => end,
-        Link::ToOpener(opener) => opener,
-        Link::Nothing => 0,
+        Some(Link::ToEnd(other)) | Some(Link::ToOpener(other)) => other,
+        None => 0,
     }
 }
 
 // Where the view of a token of a shape lies in a text of a length.
-fn place(text_length: usize, s: Shape) -> Viewed
-    ensures { result ≡ placed text_length s }
+fn place(text_length: usize, shape: Option<Shape>) -> Option<View>
+    ensures { result ≡ placed text_length shape }
 {
-    match s {
-        Shape::Scalar {
-            kind: _,
-            offset,
-            length,
-        } => {
-            let start = offset as usize;
-            let size = length as usize;
-            if text_length < start + size {
-                return Viewed::NoScalar;
-            }
-            Viewed::At {
-                offset: start,
-                length: size,
-            }
-        }
-        Shape::Opener { end: _ } => Viewed::NoScalar,
-        Shape::MixedContainer => Viewed::NoScalar,
-        Shape::Operator { number: _ } => Viewed::NoScalar,
-        Shape::End { opener: _ } => Viewed::NoScalar,
-        Shape::Nothing => Viewed::NoScalar,
+    let Some(Shape::Scalar { offset, length, .. }) = shape else {
+        return None;
+    };
+    let view = View {
+        offset: offset as usize,
+        length: length as usize,
+    };
+    if text_length < view.offset + view.length {
+        return None;
     }
+    Some(view)
 }
 
 // Whether token `index` has a view, and where it lies.
-pub fn view_of(text: &[u8], words: &[u32], count: usize, index: usize) -> Viewed
+pub fn view_of(text: &[u8], words: &[u32], count: usize, index: usize) -> Option<View>
     ensures { result ≡ viewed (length text.now) words.now count index }
 {
-    if count <= index {
-        return Viewed::NoScalar;
-    }
-    if !words::holds(words, count) {
-        return Viewed::NoScalar;
+    if count <= index || !words::holds(words, count) {
+        return None;
     }
     place(
         text.len(),
@@ -96,10 +79,10 @@ pub fn view<'a, 'b>(text: &'a [u8], words: &'b [u32], count: usize, index: usize
     ensures place { result.ref_ptr ≡ place_of text.entry.ref_ptr (viewed (length text.now) words.now count index) }
 {
     match view_of(text, words, count, index) {
-        Viewed::At { offset, length } => {
+        Some(View { offset, length }) => {
             let end = offset + length;
             &text[offset..end]
         }
-        Viewed::NoScalar => &text[..0],
+        None => &text[..0],
     }
 }

@@ -7,7 +7,7 @@
 
 use input::read_full;
 use sheet::views;
-use sheet::views::Viewed;
+use sheet::views::View;
 use std::io;
 
 // The numbers of a line.
@@ -70,13 +70,13 @@ fn print_view(
 ) -> io::Result<()> {
     let answer = views::view_of(text, words, count, index);
     match answer {
-        Viewed::At { offset, length } => {
+        Some(View { offset, length }) => {
             print_number(rt, offset)?;
             print_number(rt, length)?;
         }
-        Viewed::NoScalar => {
+        None => {
             print!(rt; "refused ")?;
-            print_number(rt, answer.refusal() as usize)?;
+            print_number(rt, views::refusal(answer) as usize)?;
         }
     }
     print!(rt; "[")?;

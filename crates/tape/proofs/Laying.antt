@@ -1,5 +1,6 @@
 -- What the calls on the words leave, seen as a tape: the equation on the words says the equation on the tokens.
 -- Assumes nothing.
+use Rattle.std.specs.Prelude.{Option, Some, None}
 use mathlib.Core.Path.{◌≡◌, refl, sym, ◌∙◌, ap}
 use mathlib.Core.Bool.{Bool, true, false, false≢true}
 use mathlib.Core.List.{List, ◌++◌, append-nil}
@@ -12,8 +13,6 @@ use lib.Seq.{set_out, drop-length}
 use borrow.Rule.Slice.PartMut.{mid_of, put_mid, mid_len, Post-is}
 use Rattle.data.proofs.Cases.{by_bool}
 use Rattle.tape.specs.declared.token.Token.{Token}
-use Rattle.tape.specs.declared.words.Pushed.{Pushed}
-use Rattle.tape.specs.declared.words.Pushed.TheVariants.{Laid, Full}
 use Rattle.tape.specs.Token.{mixed_container_token}
 use Rattle.tape.specs.Words.{words_for, capacity, last_word, greatest_word, room_of}
 use Rattle.tape.specs.Words.{tokens_in, token_in, put_words, put_in, Written, written, push_words, insert_words, padded, cleared}
@@ -58,6 +57,21 @@ unfolding cleared
 zeros-over-whole ws zs n h e =
     zeros-over ws zs (capacity (length ws)) (omega arith) e
     ∙ sym (ap (λ (ts : List Token). padded (length ws) ts) (tokens-whole ws n h))
+
+-- so zeros laid over all words behind the tokens that stand there clear them
+pub zeros-behind : (ws zs : List ℕ) (n k : ℕ) → k ≡ length (tokens_in ws n)
+    → zs ≡ replicate (length (mid_of (words_for k) (length ws - words_for k) ws)) 0
+    → put_mid (words_for k) (length ws - words_for k) ws zs ≡ cleared ws n
+zeros-behind ws zs n k h e =
+    by_bool (ltb n (capacity (length ws)))
+    (λ f.
+    let few : n < capacity (length ws) = ltb-true _ _ f in
+    let same : k ≡ n = omega (arith, h, tokens-length ws n) in
+    rw same (zeros-over ws zs n (omega arith) (rw same at e)))
+    (λ f.
+    let many : capacity (length ws) ≤ n = ltb-false _ _ f in
+    let same : k ≡ capacity (length ws) = omega (arith, h, tokens-length ws n) in
+    rw same (zeros-over-whole ws zs n many (rw same at e)))
 
 -- two tapes are equal by their room and their tokens
 same-tape : {k l : ℕ} {ts us : List Token} → k ≡ l → ts ≡ us
@@ -123,20 +137,20 @@ put-past ws n i t h =
     (exact, ap (λ (x : List ℕ). view x n) exact ∙ put-seen ws n i t)
 
 pub push-full : (ws : List ℕ) (n : ℕ) (t : Token) → ltb n (room_of ws) ≡ false
-    → (written Full ws ≡ push_words ws n t) × (full ≡ lay (view ws n) n t)
+    → (written None ws ≡ push_words ws n t) × (full ≡ lay (view ws n) n t)
 unfolding push_words
 push-full ws n t e =
-    let exact : written Full ws ≡ push_words ws n t = rw (push_words, e) in
+    let exact : written None ws ≡ push_words ws n t = rw (push_words, e) in
     (exact, ap seen_of exact ∙ push-seen ws n t)
 
 pub push-laid : (ws : List ℕ) (n : ℕ) (t : Token) {us : List ℕ} → ltb n (room_of ws) ≡ true → us ≡ put_words ws n t
-    → (written (Laid (n + 1)) us ≡ push_words ws n t) × (laid (n + 1) (view us (n + 1)) ≡ lay (view ws n) n t)
+    → (written (Some (n + 1)) us ≡ push_words ws n t) × (laid (n + 1) (view us (n + 1)) ≡ lay (view ws n) n t)
 unfolding push_words
 push-laid ws n t {us} e f =
-    let exact : written (Laid (n + 1)) us ≡ push_words ws n t = rw (push_words, e, f) in
+    let exact : written (Some (n + 1)) us ≡ push_words ws n t = rw (push_words, e, f) in
     (exact, ap seen_of exact ∙ push-seen ws n t)
 
-pub insert-first : (ws : List ℕ) (n : ℕ) (m : Token) {r : Pushed} {us : List ℕ} → n ≡ 0 → m ≡ mixed_container_token
+pub insert-first : (ws : List ℕ) (n : ℕ) (m : Token) {r : Option ℕ} {us : List ℕ} → n ≡ 0 → m ≡ mixed_container_token
     → written r us ≡ push_words ws 0 m
     → (written r us ≡ insert_words ws n) × (after_push r us ≡ lay_mixed (view ws n) n)
 unfolding insert_words
@@ -145,61 +159,61 @@ insert-first ws n m {r} {us} z e f =
     (exact, ap seen_of exact ∙ insert-seen ws n)
 
 insert-full : (ws : List ℕ) (n : ℕ) → (n ≡ 0 → ⊥) → ltb n (room_of ws) ≡ false
-    → (written Full ws ≡ insert_words ws n) × (full ≡ lay_mixed (view ws n) n)
+    → (written None ws ≡ insert_words ws n) × (full ≡ lay_mixed (view ws n) n)
 unfolding insert_words
 insert-full ws zero some e = absurd (some refl)
 insert-full ws (suc n) some e =
-    let exact : written Full ws ≡ insert_words ws (suc n) = rw (insert_words, e) in
+    let exact : written None ws ≡ insert_words ws (suc n) = rw (insert_words, e) in
     (exact, ap seen_of exact ∙ insert-seen ws (suc n))
 
 insert-laid : (ws : List ℕ) (n : ℕ) (m last : Token) {us vs : List ℕ} → (n ≡ 0 → ⊥) → ltb n (room_of ws) ≡ true
     → last ≡ token_in ws n (n - 1) → us ≡ put_words ws n last → m ≡ mixed_container_token → vs ≡ put_words us (n - 1) m
-    → (written (Laid (n + 1)) vs ≡ insert_words ws n) × (laid (n + 1) (view vs (n + 1)) ≡ lay_mixed (view ws n) n)
+    → (written (Some (n + 1)) vs ≡ insert_words ws n) × (laid (n + 1) (view vs (n + 1)) ≡ lay_mixed (view ws n) n)
 unfolding insert_words
 insert-laid ws zero m last some e l f g h = absurd (some refl)
 insert-laid ws (suc n) m last {us} {vs} some e l f g h =
     let before : suc n - 1 ≡ n = omega arith in
-    let exact : written (Laid (suc n + 1)) vs ≡ insert_words ws (suc n) = rw (insert_words, e, h, before, g, f, l, before) in
+    let exact : written (Some (suc n + 1)) vs ≡ insert_words ws (suc n) = rw (insert_words, e, h, before, g, f, l, before) in
     (exact, ap seen_of exact ∙ insert-seen ws (suc n))
 
 -- ---- what an answer of a push tells of it
 abbrev laid_count : Written → ℕ
-laid_count (written (Laid k) ws) = k
-laid_count (written Full ws) = 0
+laid_count (written (Some k) ws) = k
+laid_count (written None ws) = 0
 
 abbrev left_words : Written → List ℕ
 left_words (written r ws) = ws
 
 abbrev is_laid : Written → Bool
-is_laid (written (Laid k) ws) = true
-is_laid (written Full ws) = false
+is_laid (written (Some k) ws) = true
+is_laid (written None ws) = false
 
-module _ (ws : List ℕ) (n : ℕ) (t : Token) {r : Pushed} {us : List ℕ} (pushed : written r us ≡ push_words ws n t) where
-  push_was_laid : (k : ℕ) → r ≡ Laid k → (ltb n (room_of ws) ≡ true) × (k ≡ n + 1) × (us ≡ put_words ws n t)
+module _ (ws : List ℕ) (n : ℕ) (t : Token) {r : Option ℕ} {us : List ℕ} (pushed : written r us ≡ push_words ws n t) where
+  push_was_laid : (k : ℕ) → r ≡ Some k → (ltb n (room_of ws) ≡ true) × (k ≡ n + 1) × (us ≡ put_words ws n t)
   unfolding push_words
   push_was_laid k e =
-      let same : written (Laid k) us ≡ push_words ws n t = rw e at pushed in
+      let same : written (Some k) us ≡ push_words ws n t = rw e at pushed in
       by_bool (ltb n (room_of ws))
       (λ h. let f = rw (push_words, h) at same in (h, ap laid_count f, ap left_words f))
       (λ h. let f = rw (push_words, h) at same in absurd (false≢true (sym (ap is_laid f))))
 
-  push_was_full : r ≡ Full → (ltb n (room_of ws) ≡ false) × (us ≡ ws)
+  push_was_full : r ≡ None → (ltb n (room_of ws) ≡ false) × (us ≡ ws)
   unfolding push_words
   push_was_full e =
-      let same : written Full us ≡ push_words ws n t = rw e at pushed in
+      let same : written None us ≡ push_words ws n t = rw e at pushed in
       by_bool (ltb n (room_of ws))
       (λ h. let f = rw (push_words, h) at same in absurd (false≢true (ap is_laid f)))
       (λ h. let f = rw (push_words, h) at same in (h, ap left_words f))
 
-module _ (ws : List ℕ) (n : ℕ) (last : Token) {r : Pushed} {us : List ℕ} (some : n ≡ 0 → ⊥) (l : last ≡ token_in ws n (n - 1))
+module _ (ws : List ℕ) (n : ℕ) (last : Token) {r : Option ℕ} {us : List ℕ} (some : n ≡ 0 → ⊥) (l : last ≡ token_in ws n (n - 1))
     (pushed : written r us ≡ push_words ws n last) where
-  pub insert_pushed : (k : ℕ) (m : Token) {vs : List ℕ} → r ≡ Laid k → m ≡ mixed_container_token → vs ≡ put_words us (n - 1) m
-      → (written (Laid k) vs ≡ insert_words ws n) × (laid k (view vs k) ≡ lay_mixed (view ws n) n)
+  pub insert_pushed : (k : ℕ) (m : Token) {vs : List ℕ} → r ≡ Some k → m ≡ mixed_container_token → vs ≡ put_words us (n - 1) m
+      → (written (Some k) vs ≡ insert_words ws n) × (laid k (view vs k) ≡ lay_mixed (view ws n) n)
   insert_pushed k m e g h =
       let was = push_was_laid ws n last pushed k e in
       rw was.1 (insert-laid ws n m last some was.0 l was.2 g h)
 
-  pub insert-none : r ≡ Full → (written Full us ≡ insert_words ws n) × (full ≡ lay_mixed (view ws n) n)
+  pub insert-none : r ≡ None → (written None us ≡ insert_words ws n) × (full ≡ lay_mixed (view ws n) n)
   insert-none e =
       let was = push_was_full ws n last pushed e in
       rw was.1 (insert-full ws n some was.0)

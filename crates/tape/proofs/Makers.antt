@@ -1,6 +1,7 @@
 -- What each maker makes is read back as what it was made of: its code, as a container, as what stands before another token; and
 -- a token that was changed.
 -- Assumes nothing.
+use Rattle.std.specs.Prelude.{Some, None}
 use mathlib.Core.Path.{◌≡◌, refl, sym, ◌∙◌, ap}
 use mathlib.Core.Bool.{Bool, true, false, false≢true}
 use Prim.Native.Nat.{ℕ}
@@ -12,19 +13,15 @@ use Rattle.tape.specs.declared.token.ContainerKind.{ContainerKind}
 use Rattle.tape.specs.declared.token.ContainerKind.TheVariants.{Array, Object}
 use Rattle.tape.specs.declared.token.ScalarKind.{ScalarKind}
 use Rattle.tape.specs.declared.token.ScalarKind.TheVariants.{Unquoted, Quoted, Parameter, UndefinedParameter, Header, QuotedEscape}
-use Rattle.tape.specs.declared.token.ScalarNamed.{ScalarNamed}
-use Rattle.tape.specs.declared.token.ScalarNamed.TheVariants.{Kind}
-use Rattle.tape.specs.declared.token.Container.{Container}
-use Rattle.tape.specs.declared.token.Container.TheVariants.{Opened}
 use Rattle.tape.specs.declared.token.Standing as Standings
-use Rattle.tape.specs.Token.{array_code, object_code, unquoted_code, end_code, header_code}
+use Rattle.tape.specs.Token.{array_code, object_code, unquoted_code, end_code, header_code, opened}
 use Rattle.tape.specs.Token.{scalar_code, scalar_named, names_scalar, is_scalar_code, is_header, may_be_empty, quoted_kind}
 use Rattle.tape.specs.Token.{relinked, reflagged, rekinded}
 use Rattle.tape.specs.Token.{opener_of, end_of, scalar_of, operator_of, mixed_container_token, no_token, container_of, standing_of}
 
 -- ---- the codes of scalars
 -- a kind's code names it
-pub code-names : (kind : ScalarKind) → scalar_named (scalar_code kind) ≡ Kind kind
+pub code-names : (kind : ScalarKind) → scalar_named (scalar_code kind) ≡ Some kind
 unfolding scalar_named
 code-names Unquoted = refl
 code-names Quoted = refl
@@ -33,7 +30,7 @@ code-names UndefinedParameter = refl
 code-names Header = refl
 code-names QuotedEscape = refl
 
-pub code-named : (code : ℕ) (kind : ScalarKind) → code ≡ scalar_code kind → Kind kind ≡ scalar_named code
+pub code-named : (code : ℕ) (kind : ScalarKind) → code ≡ scalar_code kind → Some kind ≡ scalar_named code
 code-named code kind e = sym (ap scalar_named e ∙ code-names kind)
 
 -- so it is a scalar's
@@ -58,10 +55,10 @@ unfolding scalar_named
 none_uncoded = refl
 
 -- a code that names no kind is none of theirs
-pub unnamed : (code : ℕ) (kind : ScalarKind) → scalar_named code ≡ ScalarNamed.Nothing → eqb code (scalar_code kind) ≡ false
+pub unnamed : (code : ℕ) (kind : ScalarKind) → scalar_named code ≡ None → eqb code (scalar_code kind) ≡ false
 unnamed code kind n =
     by_bool (eqb code (scalar_code kind))
-    (λ e. let no : Kind kind ≡ ScalarNamed.Nothing = code-named code kind (eqb-true code (scalar_code kind) e) ∙ n in cc)
+    (λ e. let no : Some kind ≡ None = code-named code kind (eqb-true code (scalar_code kind) e) ∙ n in cc)
     (λ e. e)
 
 -- a quoted run may be empty, with an escape or without, and is no Header
@@ -76,14 +73,14 @@ quoted_headless false = refl
 -- a kind is a Header where it is told to be one
 pub header-told : (kind : ScalarKind) → is_header kind ≡ true → kind ≡ Header
 header-told kind h =
-    let same : Kind Header ≡ Kind kind = code-named (scalar_code kind) Header (eqb-true (scalar_code kind) header_code h) ∙ code-names kind in cc
+    let same : Some Header ≡ Some kind = code-named (scalar_code kind) Header (eqb-true (scalar_code kind) header_code h) ∙ code-names kind in cc
 
 -- and its code is a Header's only then
 pub header_coded : (kind : ScalarKind) → scalar_code kind ≡ header_code → is_header kind ≡ true
 header_coded kind e = eq-eqb (scalar_code kind) header_code e
 
 -- ---- as a container
-pub opener-container : (kind : ContainerKind) (link : ℕ) (mixed : Bool) → container_of (opener_of kind link mixed) ≡ Opened kind link mixed
+pub opener-container : (kind : ContainerKind) (link : ℕ) (mixed : Bool) → container_of (opener_of kind link mixed) ≡ opened kind link mixed
 unfolding container_of
 opener-container Array link true = refl
 opener-container Array link false = refl
@@ -91,7 +88,7 @@ opener-container Object link true = refl
 opener-container Object link false = refl
 
 -- a code of scalars is no container's
-coded_container : (t : Token) → is_scalar_code t.code ≡ true → container_of t ≡ Container.Nothing
+coded_container : (t : Token) → is_scalar_code t.code ≡ true → container_of t ≡ None
 unfolding container_of scalar_named
 coded_container t s =
     by_bool (eqb t.code array_code)
@@ -100,7 +97,7 @@ coded_container t s =
     (λ f. absurd (false≢true (sym (ap is_scalar_code (eqb-true t.code object_code f)) ∙ s)))
     (λ f. rw (container_of, e, f)))
 
-pub scalar-container : (kind : ScalarKind) (offset size : ℕ) → container_of (scalar_of kind offset size) ≡ Container.Nothing
+pub scalar-container : (kind : ScalarKind) (offset size : ℕ) → container_of (scalar_of kind offset size) ≡ None
 scalar-container kind offset size = coded_container (scalar_of kind offset size) (scalar_coded kind)
 
 -- ---- as what stands before another token
@@ -138,7 +135,7 @@ unquoted_coded t e =
     (λ h. let no : Standings.TheVariants.Nothing ≡ Standings.TheVariants.Unquoted = rw (standing_of, f, g, h) at e in cc)))
 
 -- ---- the same opener with another link, flag or kind, of any token that is read as an opener
-module _ (kind : ContainerKind) (link : ℕ) (mixed : Bool) (t : Token) (e : container_of t ≡ Opened kind link mixed) where
+module _ (kind : ContainerKind) (link : ℕ) (mixed : Bool) (t : Token) (e : container_of t ≡ opened kind link mixed) where
   pub relinked-read : (other : ℕ) → relinked t other ≡ opener_of kind other mixed
   unfolding relinked
   relinked-read other = rw (relinked, e)

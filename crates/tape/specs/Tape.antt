@@ -1,8 +1,6 @@
 -- A tape as the tokens that stand on it and the room that it has: what the states speak of, with no word in sight.
-use Rattle.std.specs.Prelude.{ℕ, ◌+◌, Bool, true, false, List, [], ◌∷◌, ◌++◌, ltb, set}
+use Rattle.std.specs.Prelude.{ℕ, ◌+◌, Bool, true, false, List, [], ◌∷◌, ◌++◌, ltb, set, Option, Some, None}
 use Rattle.tape.specs.declared.token.Token.{Token}
-use Rattle.tape.specs.declared.words.Pushed.{Pushed}
-use Rattle.tape.specs.declared.words.Pushed.TheVariants.{Laid, Full}
 use Rattle.tape.specs.Token.{mixed_container_token, nth}
 use Rattle.tape.specs.Words.{capacity, room_of, tokens_in}
 
@@ -63,6 +61,6 @@ unfoldable pub lay_mixed : Tape → ℕ → Laying
 lay_mixed t n = elim (has_room t.room n) [ true ↦ laid (n + 1) (add_before_last t mixed_container_token) | false ↦ full ]
 
 -- what an answer and the words that it leaves say
-abbrev pub after_push : Pushed → List ℕ → Laying
-after_push (Laid n) ws = laid n (view ws n)
-after_push Full ws = full
+abbrev pub after_push : Option ℕ → List ℕ → Laying
+after_push (Some n) ws = laid n (view ws n)
+after_push None ws = full

@@ -1,14 +1,11 @@
 -- A token's code and two words: document 01, 'Three words to a token', and code 11, quoted with an escape, whose words are as Quoted's.
-use Rattle.std.specs.Prelude.{ℕ, Bool, true, false, ◌||◌, List, [], ◌∷◌, eqb, get_or}
+use Rattle.std.specs.Prelude.{ℕ, Bool, true, false, ◌||◌, List, [], ◌∷◌, eqb, get_or, Option, Some, None}
 use Rattle.tape.specs.declared.token.Token.{Token}
 use Rattle.tape.specs.declared.token.ContainerKind.{ContainerKind}
 use Rattle.tape.specs.declared.token.ContainerKind.TheVariants.{Array, Object}
 use Rattle.tape.specs.declared.token.ScalarKind.{ScalarKind}
 use Rattle.tape.specs.declared.token.ScalarKind.TheVariants.{Unquoted, Quoted, Parameter, UndefinedParameter, Header, QuotedEscape}
-use Rattle.tape.specs.declared.token.ScalarNamed.{ScalarNamed}
-use Rattle.tape.specs.declared.token.ScalarNamed.TheVariants.{Kind}
 use Rattle.tape.specs.declared.token.Container.{Container}
-use Rattle.tape.specs.declared.token.Container.TheVariants.{Opened}
 use Rattle.tape.specs.declared.token.Standing.{Standing}
 use Rattle.tape.specs.declared.token.Standing.TheVariants.{End, OtherScalar}
 
@@ -70,18 +67,18 @@ abbrev pub scalar_kinds : List ScalarKind
 scalar_kinds = Unquoted ∷ Quoted ∷ Parameter ∷ UndefinedParameter ∷ Header ∷ QuotedEscape ∷ []
 
 -- the first of some kinds that has a code, or none
-abbrev pub named_among : List ScalarKind → ℕ → ScalarNamed
-named_among [] code = ScalarNamed.Nothing
-named_among (kind ∷ kinds) code = elim (eqb code (scalar_code kind)) [ true ↦ Kind kind | false ↦ named_among kinds code ]
+abbrev pub named_among : List ScalarKind → ℕ → Option ScalarKind
+named_among [] code = None
+named_among (kind ∷ kinds) code = elim (eqb code (scalar_code kind)) [ true ↦ Some kind | false ↦ named_among kinds code ]
 
 -- the kind of scalar that a code names, or none
-unfoldable pub scalar_named : ℕ → ScalarNamed
+unfoldable pub scalar_named : ℕ → Option ScalarKind
 scalar_named code = named_among scalar_kinds code
 
 -- whether a code names a kind of scalar
-abbrev pub names_scalar : ScalarNamed → Bool
-names_scalar (Kind kind) = true
-names_scalar ScalarNamed.Nothing = false
+abbrev pub names_scalar : Option ScalarKind → Bool
+names_scalar (Some kind) = true
+names_scalar None = false
 
 abbrev pub is_scalar_code : ℕ → Bool
 is_scalar_code code = names_scalar (scalar_named code)
@@ -136,14 +133,26 @@ abbrev pub nth : List Token → ℕ → Token
 nth ts i = get_or ts i no_token
 
 -- ---- what a token is
+-- a container of a kind, with its link and its flag
+abbrev pub opened : ContainerKind → ℕ → Bool → Option Container
+opened kind link mixed = Some (record { kind = kind; link = link; mixed = mixed })
+
+-- the kind of container that a code names, or none
+unfoldable pub container_named : ℕ → Option ContainerKind
+container_named code =
+    elim (eqb code array_code) [
+      | true ↦ Some Array
+      | false ↦ elim (eqb code object_code) [ true ↦ Some Object | false ↦ None ]
+    ]
+
 -- an opener with its kind, link and stored flag, or none
-unfoldable pub container_of : Token → Container
+unfoldable pub container_of : Token → Option Container
 container_of t =
     elim (eqb t.code array_code) [
-      | true ↦ Opened Array t.a (flag_of t.b)
+      | true ↦ opened Array t.a (flag_of t.b)
       | false ↦ elim (eqb t.code object_code) [
-        | true ↦ Opened Object t.a (flag_of t.b)
-        | false ↦ Container.Nothing
+        | true ↦ opened Object t.a (flag_of t.b)
+        | false ↦ None
       ]
     ]
 
@@ -164,17 +173,17 @@ abbrev pub headed : Token → Token
 headed t = scalar_of Header t.a t.b
 
 -- the same opener with another link, another flag, or as another kind; a token that opens nothing stays as it is
-abbrev pub relink : Token → Container → ℕ → Token
-relink t (Opened kind link mixed) other = opener_of kind other mixed
-relink t Container.Nothing other = t
+abbrev pub relink : Token → Option Container → ℕ → Token
+relink t (Some container) other = opener_of container.kind other container.mixed
+relink t None other = t
 
-abbrev pub reflag : Token → Container → Bool → Token
-reflag t (Opened kind link mixed) other = opener_of kind link other
-reflag t Container.Nothing other = t
+abbrev pub reflag : Token → Option Container → Bool → Token
+reflag t (Some container) other = opener_of container.kind container.link other
+reflag t None other = t
 
-abbrev pub rekind : Token → Container → ContainerKind → Token
-rekind t (Opened kind link mixed) other = opener_of other link mixed
-rekind t Container.Nothing other = t
+abbrev pub rekind : Token → Option Container → ContainerKind → Token
+rekind t (Some container) other = opener_of other container.link container.mixed
+rekind t None other = t
 
 unfoldable pub relinked : Token → ℕ → Token
 relinked t link = relink t (container_of t) link

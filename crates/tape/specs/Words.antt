@@ -1,8 +1,6 @@
 -- The words that tokens stand in: three to a token, those of a token from three times its index on.
-use Rattle.std.specs.Prelude.{ℕ, zero, suc, ◌+◌, ◌-◌, ◌*◌, ◌/◌, min, true, false, List, [], ◌∷◌, ◌++◌, ltb, length, set, replicate}
+use Rattle.std.specs.Prelude.{ℕ, zero, suc, ◌+◌, ◌-◌, ◌*◌, ◌/◌, min, true, false, List, [], ◌∷◌, ◌++◌, ltb, length, set, replicate, Option, Some, None}
 use Rattle.tape.specs.declared.token.Token.{Token}
-use Rattle.tape.specs.declared.words.Pushed.{Pushed}
-use Rattle.tape.specs.declared.words.Pushed.TheVariants.{Laid, Full}
 use Rattle.tape.specs.Token.{mixed_container_token, nth}
 
 -- three words a token
@@ -69,19 +67,19 @@ put_in ws n i t = elim (ltb i n) [ true ↦ put_words ws i t | false ↦ ws ]
 
 -- an answer with the words that it leaves
 pub data Written : Type 0 where
-  written : Pushed → List ℕ → Written
+  written : Option ℕ → List ℕ → Written
 
 -- a token laid down after n others, where there is room
 unfoldable pub push_words : List ℕ → ℕ → Token → Written
-push_words ws n t = elim (ltb n (room_of ws)) [ true ↦ written (Laid (n + 1)) (put_words ws n t) | false ↦ written Full ws ]
+push_words ws n t = elim (ltb n (room_of ws)) [ true ↦ written (Some (n + 1)) (put_words ws n t) | false ↦ written None ws ]
 
 -- a MixedContainer laid down before the last of n tokens, which moves up by one, where there is room
 unfoldable pub insert_words : List ℕ → ℕ → Written
 insert_words ws zero = push_words ws 0 mixed_container_token
 insert_words ws (suc n) =
     elim (ltb (suc n) (room_of ws)) [
-      | true ↦ written (Laid (suc n + 1)) (put_words (put_words ws (suc n) (token_in ws (suc n) n)) n mixed_container_token)
-      | false ↦ written Full ws
+      | true ↦ written (Some (suc n + 1)) (put_words (put_words ws (suc n) (token_in ws (suc n) n)) n mixed_container_token)
+      | false ↦ written None ws
     ]
 
 -- the words of some tokens, with zeros behind them up to a length

@@ -2,10 +2,10 @@
 ghost use Rattle.std.specs.Prelude.{◌≡◌};
 ghost use Rattle.tape.specs.Shape.{bare_shape, shape_of, link_of};
 
-use crate::token::{Container, ScalarKind, ScalarNamed, Token};
+use crate::token::{ScalarKind, Token};
 use crate::{codes, token};
 
-// A token with what its words say, or words that no token has.
+// A token with what its words say.
 #[derive(Clone, Copy)]
 pub enum Shape {
     Opener {
@@ -23,7 +23,6 @@ pub enum Shape {
     End {
         opener: u32,
     },
-    Nothing,
 }
 
 // The token that a container's opener or an End names.
@@ -31,80 +30,53 @@ pub enum Shape {
 pub enum Link {
     ToEnd(u32),
     ToOpener(u32),
-    Nothing,
 }
 
 // What a code and its first word make of a token whose second word is 0.
-fn bare_shape(code: u32, a: u32) -> Shape
+#[tactic(auto, unfolding(crate::specs::Shape::bare_shape))]
+fn bare_shape(code: u32, a: u32) -> Option<Shape>
     ensures { result ≡ bare_shape code a }
 {
-    if code == codes::END {
-        return Shape::End { opener: a };
-    }
-    if code == codes::OPERATOR {
-        if a < codes::LEAST_OPERATOR {
-            return Shape::Nothing;
+    match code {
+        codes::END => Some(Shape::End { opener: a }),
+        codes::OPERATOR if codes::LEAST_OPERATOR <= a && a <= codes::GREATEST_OPERATOR => {
+            Some(Shape::Operator { number: a })
         }
-        if codes::GREATEST_OPERATOR < a {
-            return Shape::Nothing;
-        }
-        return Shape::Operator { number: a };
+        codes::MIXED_CONTAINER if a == 0 => Some(Shape::MixedContainer),
+        _ => None,
     }
-    if code == codes::MIXED_CONTAINER {
-        if a == 0 {
-            return Shape::MixedContainer;
-        }
-    }
-    Shape::Nothing
 }
 
-// What a token's words make it.
-pub fn shape_of(t: Token) -> Shape
+// What a token's words make it; none where no token has such words.
+#[tactic(auto, unfolding(crate::specs::Shape::shape_of))]
+pub fn shape_of(t: Token) -> Option<Shape>
     ensures { result ≡ shape_of t }
 {
-    match t.container() {
-        Container::Opened {
-            kind: _,
-            link,
-            mixed: _,
-        } => {
-            if token::stores_flag(t.b) {
-                return Shape::Opener { end: link };
-            }
-            return Shape::Nothing;
-        }
-        Container::Nothing => {}
+    if let Some(container) = t.container() {
+        return token::stores_flag(t.b).then_some(Shape::Opener {
+            end: container.link,
+        });
     }
-    match token::scalar_named(t.code) {
-        ScalarNamed::Kind(kind) => {
-            return Shape::Scalar {
-                kind,
-                offset: t.a,
-                length: t.b,
-            };
-        }
-        ScalarNamed::Nothing => {}
+    if let Some(kind) = token::scalar_named(t.code) {
+        return Some(Shape::Scalar {
+            kind,
+            offset: t.a,
+            length: t.b,
+        });
     }
     if t.b == 0 {
         return bare_shape(t.code, t.a);
     }
-    Shape::Nothing
+    None
 }
 
 // The token that a token names.
-pub fn link_of(t: Token) -> Link
+pub fn link_of(t: Token) -> Option<Link>
     ensures { result ≡ link_of t }
 {
-    match shape_of(t) {
-        Shape::Opener { end } => Link::ToEnd(end),
-        Shape::MixedContainer => Link::Nothing,
-        Shape::Scalar {
-            kind: _,
-            offset: _,
-            length: _,
-        } => Link::Nothing,
-        Shape::Operator { number: _ } => Link::Nothing,
-        Shape::End { opener } => Link::ToOpener(opener),
-        Shape::Nothing => Link::Nothing,
+    match shape_of(t)? {
+        Shape::Opener { end } => Some(Link::ToEnd(end)),
+        Shape::End { opener } => Some(Link::ToOpener(opener)),
+        Shape::MixedContainer | Shape::Scalar { .. } | Shape::Operator { .. } => None,
     }
 }

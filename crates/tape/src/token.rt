@@ -1,53 +1,44 @@
 // A token by value: a code and two words. Whoever lays one down makes it by name, and whoever reads one asks what it is.
 ghost use Rattle.std.specs.Prelude.{◌≡◌};
-ghost use Rattle.tape.specs.Token.{container_code, scalar_code, scalar_named, is_scalar_code, may_be_empty, is_header, quoted_kind};
+ghost use Rattle.tape.specs.Token.{container_code, container_named, scalar_code, scalar_named, is_scalar_code, may_be_empty, is_header, quoted_kind};
 ghost use Rattle.tape.specs.Token.{flag_word, flag_of, stores_flag};
 ghost use Rattle.tape.specs.Token.{opener_of, end_of, scalar_of, operator_of, mixed_container_token, container_of, standing_of, headed};
 
 use crate::codes;
 
-#[derive(Clone, Copy)]
+// A token's three words. All of them are 0 where no token stands.
+#[derive(Clone, Copy, PartialEq, Eq)]
 pub struct Token {
     pub code: u32,
     pub a: u32,
     pub b: u32,
 }
 
-// The two kinds of container.
-#[derive(Clone, Copy)]
+// The two kinds of container, each with its code.
+#[derive(Clone, Copy, PartialEq, Eq)]
 pub enum ContainerKind {
-    Array,
-    Object,
+    Array = 1,
+    Object = 2,
 }
 
-// The six kinds of scalar. A QuotedEscape is a quoted run in which a backslash took part.
-#[derive(Clone, Copy)]
+// The six kinds of scalar, each with its code. A QuotedEscape is a quoted run in which a backslash took part.
+#[derive(Clone, Copy, PartialEq, Eq)]
 pub enum ScalarKind {
-    Unquoted,
-    Quoted,
-    Parameter,
-    UndefinedParameter,
-    Header,
-    QuotedEscape,
-}
-
-// The kind of scalar that a code names, or none.
-#[derive(Clone, Copy)]
-pub enum ScalarNamed {
-    Kind(ScalarKind),
-    Nothing,
+    Unquoted = 4,
+    Quoted = 5,
+    Parameter = 6,
+    UndefinedParameter = 7,
+    Header = 10,
+    QuotedEscape = 11,
 }
 
 // A token seen as a container: its kind, its link (the index of its End or, while it is open, of its parent) and its
-// stored flag; or none.
+// stored flag.
 #[derive(Clone, Copy)]
-pub enum Container {
-    Opened {
-        kind: ContainerKind,
-        link: u32,
-        mixed: bool,
-    },
-    Nothing,
+pub struct Container {
+    pub kind: ContainerKind,
+    pub link: u32,
+    pub mixed: bool,
 }
 
 // What a token is to a brace or an operator that follows it.
@@ -59,6 +50,30 @@ pub enum Standing {
     Nothing,
 }
 
+// What is read where no token stands.
+pub const NO_TOKEN: Token = Token {
+    code: codes::NO_TOKEN,
+    a: 0,
+    b: 0,
+};
+
+// The codes of the kinds, as a `match` names them.
+const ARRAY: u32 = ContainerKind::Array as u32;
+
+const OBJECT: u32 = ContainerKind::Object as u32;
+
+const UNQUOTED: u32 = ScalarKind::Unquoted as u32;
+
+const QUOTED: u32 = ScalarKind::Quoted as u32;
+
+const PARAMETER: u32 = ScalarKind::Parameter as u32;
+
+const UNDEFINED_PARAMETER: u32 = ScalarKind::UndefinedParameter as u32;
+
+const HEADER: u32 = ScalarKind::Header as u32;
+
+const QUOTED_ESCAPE: u32 = ScalarKind::QuotedEscape as u32;
+
 // The two numbers of an opener's second word.
 const UNMIXED: u32 = 0;
 
@@ -68,59 +83,49 @@ const MIXED: u32 = 1;
 fn container_number(kind: ContainerKind) -> u32
     ensures { result ≡ container_code kind }
 {
-    match kind {
-        ContainerKind::Array => codes::ARRAY,
-        ContainerKind::Object => codes::OBJECT,
-    }
+    kind as u32
 }
 
 // The code of a scalar of a kind.
 fn scalar_number(kind: ScalarKind) -> u32
     ensures { result ≡ scalar_code kind }
 {
-    match kind {
-        ScalarKind::Unquoted => codes::UNQUOTED,
-        ScalarKind::Quoted => codes::QUOTED,
-        ScalarKind::Parameter => codes::PARAMETER,
-        ScalarKind::UndefinedParameter => codes::UNDEFINED_PARAMETER,
-        ScalarKind::Header => codes::HEADER,
-        ScalarKind::QuotedEscape => codes::QUOTED_ESCAPE,
-    }
+    kind as u32
 }
 
 // The kind of scalar that a code names.
-pub fn scalar_named(code: u32) -> ScalarNamed
+#[tactic(auto, unfolding(crate::specs::Token::scalar_named))]
+pub fn scalar_named(code: u32) -> Option<ScalarKind>
     ensures { result ≡ scalar_named code }
 {
-    if code == codes::UNQUOTED {
-        return ScalarNamed::Kind(ScalarKind::Unquoted);
+    match code {
+        UNQUOTED => Some(ScalarKind::Unquoted),
+        QUOTED => Some(ScalarKind::Quoted),
+        PARAMETER => Some(ScalarKind::Parameter),
+        UNDEFINED_PARAMETER => Some(ScalarKind::UndefinedParameter),
+        HEADER => Some(ScalarKind::Header),
+        QUOTED_ESCAPE => Some(ScalarKind::QuotedEscape),
+        _ => None,
     }
-    if code == codes::QUOTED {
-        return ScalarNamed::Kind(ScalarKind::Quoted);
+}
+
+// The kind of container whose openers have a code.
+#[tactic(auto, unfolding(crate::specs::Token::container_named))]
+fn container_named(code: u32) -> Option<ContainerKind>
+    ensures { result ≡ container_named code }
+{
+    match code {
+        ARRAY => Some(ContainerKind::Array),
+        OBJECT => Some(ContainerKind::Object),
+        _ => None,
     }
-    if code == codes::PARAMETER {
-        return ScalarNamed::Kind(ScalarKind::Parameter);
-    }
-    if code == codes::UNDEFINED_PARAMETER {
-        return ScalarNamed::Kind(ScalarKind::UndefinedParameter);
-    }
-    if code == codes::HEADER {
-        return ScalarNamed::Kind(ScalarKind::Header);
-    }
-    if code == codes::QUOTED_ESCAPE {
-        return ScalarNamed::Kind(ScalarKind::QuotedEscape);
-    }
-    ScalarNamed::Nothing
 }
 
 // Whether a code is that of a scalar.
 fn is_scalar_code(code: u32) -> bool
     ensures { result ≡ is_scalar_code code }
 {
-    match scalar_named(code) {
-        ScalarNamed::Kind(_) => true,
-        ScalarNamed::Nothing => false,
-    }
+    scalar_named(code).is_some()
 }
 
 // The kind of a quoted run, by whether a backslash took part in it.
@@ -137,15 +142,14 @@ pub fn quoted_kind(escaped: bool) -> ScalarKind
 pub fn may_be_empty(kind: ScalarKind) -> bool
     ensures { result ≡ may_be_empty kind }
 {
-    let code = scalar_number(kind);
-    (code == codes::QUOTED) | (code == codes::QUOTED_ESCAPE)
+    matches!(kind, ScalarKind::Quoted | ScalarKind::QuotedEscape)
 }
 
 // Whether a kind of scalar is a Header, which has a container next.
 pub fn is_header(kind: ScalarKind) -> bool
     ensures { result ≡ is_header kind }
 {
-    scalar_number(kind) == codes::HEADER
+    kind == ScalarKind::Header
 }
 
 // An opener's second word, which stores its mixed flag.
@@ -229,34 +233,24 @@ pub fn mixed_container() -> Token
 
 impl Token {
     // The token as a container, or none.
-    pub fn container(self) -> Container
+    #[tactic(auto, unfolding(crate::specs::Token::container_of, crate::specs::Token::container_named))]
+    pub fn container(self) -> Option<Container>
         ensures { result ≡ container_of self }
     {
-        let code = self.code;
-        let mixed = flag_told(self.b);
-        if code == codes::ARRAY {
-            return Container::Opened {
-                kind: ContainerKind::Array,
-                link: self.a,
-                mixed,
-            };
-        }
-        if code == codes::OBJECT {
-            return Container::Opened {
-                kind: ContainerKind::Object,
-                link: self.a,
-                mixed,
-            };
-        }
-        Container::Nothing
+        Some(Container {
+            kind: container_named(self.code)?,
+            link: self.a,
+            mixed: flag_told(self.b),
+        })
     }
 
     // What the token is to what follows it.
+    #[tactic(auto, unfolding(crate::specs::Token::standing_of))]
     pub fn standing(self) -> Standing
         ensures { result ≡ standing_of self }
     {
         let code = self.code;
-        if code == codes::UNQUOTED {
+        if code == UNQUOTED {
             return Standing::Unquoted;
         }
         if is_scalar_code(code) {

@@ -5,8 +5,8 @@ ghost use Rattle.tape.specs.Words.{words_for, a_word, capacity, tokens_in, token
 ghost use Rattle.tape.specs.Words.{put_words, put_in, written, push_words, insert_words, cleared};
 ghost use Rattle.tape.specs.Tape.{view, replace, lay, lay_mixed, after_push};
 
+use crate::token;
 use crate::token::Token;
-use crate::{codes, token};
 
 // How many words a token has. Whoever lends words counts in this or asks `words_for` and `capacity`.
 pub const WORDS_PER_TOKEN: usize = 3;
@@ -16,13 +16,6 @@ const A_WORD: usize = 1;
 const B_WORD: usize = 2;
 
 const LAST_WORD: usize = WORDS_PER_TOKEN - 1;
-
-// What laying down a token answers: the new count, or that there is no room.
-#[derive(Clone, Copy)]
-pub enum Pushed {
-    Laid(u32),
-    Full,
-}
 
 // How many words some tokens take.
 pub fn words_for(count: u32) -> usize
@@ -52,11 +45,7 @@ pub fn token_of(words: &[u32], count: usize, i: usize) -> Token
             };
         }
     }
-    Token {
-        code: codes::NO_TOKEN,
-        a: 0,
-        b: 0,
-    }
+    token::NO_TOKEN
 }
 
 // The same by numbers of a word's width, as the states keep them.
@@ -77,11 +66,7 @@ pub fn holds(words: &[u32], count: usize) -> bool
 pub fn held(words: &[u32], count: usize) -> usize
     ensures { result ≡ length (tokens_in words.now count) }
 {
-    let most = capacity(words);
-    if most < count {
-        return most;
-    }
-    count
+    count.min(capacity(words))
 }
 
 // Writes the words of token i, where they fit.
@@ -120,25 +105,25 @@ pub fn relink(tape: &mut [u32], i: u32, link: u32) -> u32
     0
 }
 
-// Lays a token down after count others, where a word can number one more and its words are there. Each test leaves at once, by which the
-// parser's loop is faster than by both as one.
-pub fn push(tape: &mut [u32], count: u32, t: Token) -> Pushed
+// Lays a token down after count others, and answers the new count; none where no word can number one more or its words are not there, and
+// then nothing is changed. Each test leaves at once, by which the parser's loop is faster than by both as one.
+pub fn push(tape: &mut [u32], count: u32, t: Token) -> Option<u32>
     ensures exact { written result tape.new ≡ push_words tape.old count t }
     ensures seen { after_push result tape.new ≡ lay (view tape.old count) count t }
 {
     if count == u32::MAX {
-        return Pushed::Full;
+        return None;
     }
     let at = (count as usize) * WORDS_PER_TOKEN;
     if tape.len() <= at + LAST_WORD {
-        return Pushed::Full;
+        return None;
     }
     put_words(tape, count, t);
-    Pushed::Laid(count + 1)
+    Some(count + 1)
 }
 
 // Lays a MixedContainer down before the last of count tokens, which moves up by one.
-pub fn insert_mixed(tape: &mut [u32], count: u32) -> Pushed
+pub fn insert_mixed(tape: &mut [u32], count: u32) -> Option<u32>
     ensures exact { written result tape.new ≡ insert_words tape.old count }
     ensures seen { after_push result tape.new ≡ lay_mixed (view tape.old count) count }
 {
@@ -146,37 +131,15 @@ pub fn insert_mixed(tape: &mut [u32], count: u32) -> Pushed
         return push(tape, 0, token::mixed_container());
     }
     let last = token(tape, count, count - 1);
-    match push(tape, count, last) {
-        Pushed::Laid(laid) => {
-            put_words(tape, count - 1, token::mixed_container());
-            Pushed::Laid(laid)
-        }
-        Pushed::Full => Pushed::Full,
-    }
-}
-
-// Zeroes every word.
-fn zero_all(words: &mut [u32])
-    ensures { words.new ≡ replicate (length words.old) 0 }
-{
-    let mut i = 0;
-    while i < words.len() {
-        words[i] = 0;
-        i += 1;
-    }
+    let laid = push(tape, count, last)?;
+    put_words(tape, count - 1, token::mixed_container());
+    Some(laid)
 }
 
 // Zeroes every word past count tokens.
 pub fn clear_from(tape: &mut [u32], count: u32)
     ensures { tape.new ≡ cleared tape.old count }
 {
-    let whole = tape.len() / WORDS_PER_TOKEN;
-    let laid = count as usize;
-    if laid < whole {
-        let from = laid * WORDS_PER_TOKEN;
-        zero_all(&mut tape[from..]);
-        return;
-    }
-    let from = whole * WORDS_PER_TOKEN;
-    zero_all(&mut tape[from..]);
+    let from = held(tape, count as usize) * WORDS_PER_TOKEN;
+    tape[from..].fill(0);
 }

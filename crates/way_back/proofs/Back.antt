@@ -14,8 +14,7 @@ use Rattle.cut.specs.Blanks.{is_blank, skip_ws}
 use Rattle.tape.specs.declared.token.Token.{Token}
 use Rattle.tape.specs.declared.token.ContainerKind.{ContainerKind}
 use Rattle.tape.specs.declared.token.ContainerKind.TheVariants.{Array, Object}
-use Rattle.tape.specs.declared.token.Container.TheVariants.{Opened}
-use Rattle.tape.specs.Token.{no_token, opener_of}
+use Rattle.tape.specs.Token.{no_token, opener_of, opened}
 use Rattle.tape.proofs.Makers.{opener-container}
 use Rattle.tape.specs.Tape.{Tape}
 use Rattle.machine.specs.declared.State.{State}
@@ -82,7 +81,7 @@ entries_end (more e es) post h = refl
 
 -- the container that an opener makes
 held-opener : (kind : ContainerKind) (ts us : List Token) (p : ℕ)
-    → Held (ts ++ (opener_of kind p false ∷ us)) (length ts) (state_in (Opened kind p false))
+    → Held (ts ++ (opener_of kind p false ∷ us)) (length ts) (state_in (opened kind p false))
 held-opener kind ts us p =
     let e = get_or-append_seam ts (opener_of kind p false) us no_token in
     let c = opener-container kind p false in

@@ -1,5 +1,6 @@
 -- A sheet is accepted exactly when its text comes back, on any tape with room for the count.
 -- Assumes nothing.
+use Rattle.std.specs.Prelude.{Ok, Err}
 use mathlib.Core.Path.{◌≡◌, refl, ap}
 use mathlib.Core.Bool.{Bool, true, false≢true}
 use mathlib.Core.List.{List}
@@ -9,7 +10,6 @@ use lib.Dec.{eqb}
 use lib.ListN.{length}
 use Rattle.tape.specs.declared.token.Token.{Token}
 use Rattle.tape.specs.Words.{capacity, tokens_in}
-use Rattle.machine.specs.declared.Parsed.TheVariants.{Tokens, Refused}
 use Rattle.machine.specs.Finish.{Outcome, outcome}
 use Rattle.parse.specs.Parse.{parse_of}
 use Rattle.alike.specs.Alike.{alike, found_alike, comes_back}
@@ -32,15 +32,15 @@ module _ (text other : List ℕ) (ts : List Token) where
   comes len h = go (parse_of other len) refl h
     where
       go : (x : Outcome) → parse_of other len ≡ x → comes_back text other ts x ≡ true → Comes text other ts
-      go (outcome (Tokens n bom) words) e h =
-          let c : n ≡ length ts = eqb-true n (length ts) (first_of (eqb n (length ts)) _ h) in
+      go (outcome (Ok p) words) e h =
+          let c : p.count ≡ length ts = eqb-true p.count (length ts) (first_of (eqb p.count (length ts)) _ h) in
           record {
-            bom = bom;
-            tokens = tokens_in words n;
-            laid = rw (← c) (laid_anywhere other len n bom words e);
-            same = second_of (eqb n (length ts)) _ h;
+            bom = p.bom;
+            tokens = tokens_in words p.count;
+            laid = rw (← c) (laid_anywhere other len p.count p.bom words e);
+            same = second_of (eqb p.count (length ts)) _ h;
           }
-      go (outcome (Refused r) words) e h = absurd (false≢true h)
+      go (outcome (Err r) words) e h = absurd (false≢true h)
 
   pub comes_anywhere : Comes text other ts → (len : ℕ) → length ts ≤ capacity len → comes_back text other ts (parse_of other len) ≡ true
   unfolding found_alike

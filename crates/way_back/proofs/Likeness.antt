@@ -1,5 +1,6 @@
 -- Two sheets that are the same tokens are of one form and one depth, and one text is written for them.
 -- Assumes nothing.
+use Rattle.std.specs.Prelude.{Option, Some, None}
 use mathlib.Core.Path.{◌≡◌, refl, sym, ◌∙◌, ap}
 use mathlib.Core.Bool.{Bool, true, false, ◌&&◌}
 use mathlib.Core.List.{List, ◌++◌}
@@ -13,12 +14,9 @@ use Rattle.tape.specs.declared.token.Token.{Token}
 use Rattle.tape.specs.declared.token.ContainerKind.{ContainerKind}
 use Rattle.tape.specs.declared.token.ScalarKind.{ScalarKind}
 use Rattle.tape.specs.declared.token.ScalarKind.TheVariants.{Unquoted, Quoted, Parameter, UndefinedParameter, Header, QuotedEscape}
-use Rattle.tape.specs.declared.token.ScalarNamed.TheVariants.{Kind}
-use Rattle.tape.specs.declared.token.ScalarNamed.TheVariants as Named
 use Rattle.tape.specs.declared.token.Container.{Container}
-use Rattle.tape.specs.declared.token.Container.TheVariants.{Opened, Nothing}
 use Rattle.tape.specs.declared.shape.Shape as Shape
-use Rattle.tape.specs.Token.{nth, scalar_named, scalar_of, container_of}
+use Rattle.tape.specs.Token.{nth, scalar_named, scalar_of, container_of, opened}
 use Rattle.tape.specs.Shape.{shape_of}
 use Rattle.tape.proofs.Makers.{code-names, scalar-container}
 use Rattle.tape.proofs.Shapes.{scalar-shape, shape-made}
@@ -87,26 +85,26 @@ module _ (text other : List ℕ) where
   scalar_piece_of kind a n = rw (piece_of, scalar-container kind a n, scalar-shape kind a n)
 
   -- a token that is no scalar, by its shape
-  agree_shape : (x : Token) → scalar_named x.code ≡ Named.Nothing → (s : Shape.Shape) → shape_of x ≡ s
+  agree_shape : (x : Token) → scalar_named x.code ≡ None → (s : Shape.Shape) → shape_of x ≡ s
       → Agrees text other (bare_piece s) (bare_piece s)
-  agree_shape x n (Shape.TheVariants.Scalar kind a size) e =
+  agree_shape x n (Some (Shape.TheVariants.Scalar kind a size)) e =
       let m : x ≡ scalar_of kind a size = shape-made x e in
-      let c : scalar_named x.code ≡ Kind kind = ap (λ (z : Token). scalar_named z.code) m ∙ code-names kind in
+      let c : scalar_named x.code ≡ Some kind = ap (λ (z : Token). scalar_named z.code) m ∙ code-names kind in
       let z : ◌≡◌ {A = ℕ} 0 1 = cc in absurd (omega arith)
-  agree_shape x n (Shape.TheVariants.Operator number) e = agree_sign number
-  agree_shape x n Shape.TheVariants.MixedContainer e = agree_mixed
-  agree_shape x n (Shape.TheVariants.Opener link) e = agree_other
-  agree_shape x n (Shape.TheVariants.End opener) e = agree_other
-  agree_shape x n Shape.TheVariants.Nothing e = agree_other
+  agree_shape x n (Some (Shape.TheVariants.Operator number)) e = agree_sign number
+  agree_shape x n (Some Shape.TheVariants.MixedContainer) e = agree_mixed
+  agree_shape x n (Some (Shape.TheVariants.Opener link)) e = agree_other
+  agree_shape x n (Some (Shape.TheVariants.End opener)) e = agree_other
+  agree_shape x n None e = agree_other
 
-  piece-opened : (x : Token) (kind : ContainerKind) (end : ℕ) (flag : Bool) → container_of x ≡ Opened kind end flag → piece_of x ≡ Opener kind end
+  piece-opened : (x : Token) (kind : ContainerKind) (end : ℕ) (flag : Bool) → container_of x ≡ opened kind end flag → piece_of x ≡ Opener kind end
   unfolding piece_of
   piece-opened x kind end flag e = rw (piece_of, e)
 
-  agree_bare : (x : Token) → scalar_named x.code ≡ Named.Nothing → (c : Container) → container_of x ≡ c
+  agree_bare : (x : Token) → scalar_named x.code ≡ None → (c : Option Container) → container_of x ≡ c
       → Agrees text other (piece_of x) (piece_of x)
-  agree_bare x n (Opened kind end flag) e = rw (piece-opened x kind end flag e) (agree_opener kind end)
-  agree_bare x n Nothing e = rw (leaf-piece x e) (agree_shape x n (shape_of x) refl)
+  agree_bare x n (Some container) e = rw (piece-opened x container.kind container.link container.mixed e) (agree_opener container.kind container.link)
+  agree_bare x n None e = rw (leaf-piece x e) (agree_shape x n (shape_of x) refl)
 
   agree : (x y : Token) → Same text other x y → Agrees text other (piece_of x) (piece_of y)
   agree x y (same n e) = rw (← e) (agree_bare x n (container_of x) refl)
@@ -152,11 +150,11 @@ module _ (text other : List ℕ) where
   -- ---- sheets
   module _ (ts us : List Token) (h : alike text other ts us ≡ true) where
     one_step : (n i j : ℕ) → i < j → ((i j : ℕ) → Like text other (forest_in n ts i j) (forest_in n us i j))
-        → (c : Container) → container_of (nth ts i) ≡ c → Like text other (forest_in (suc n) ts i j) (forest_in (suc n) us i j)
-    one_step n i j l ih (Opened kind e flag) c =
+        → (c : Option Container) → container_of (nth ts i) ≡ c → Like text other (forest_in (suc n) ts i j) (forest_in (suc n) us i j)
+    one_step n i j l ih (Some container) c =
         let d = one-container text other (nth ts i) (nth us i) (alike_at text other ts us h i) ∙ c in
-        rw (takes-box ts n i j l c, takes-box us n i j l d) (boxes (ih (i + 1) e) (ih (e + 1) j))
-    one_step n i j l ih Nothing c =
+        rw (takes-box ts n i j l c, takes-box us n i j l d) (boxes (ih (i + 1) container.link) (ih (container.link + 1) j))
+    one_step n i j l ih None c =
         let s = alike_at text other ts us h i in
         let d = one-container text other (nth ts i) (nth us i) s ∙ c in
         rw (takes-leaf ts n i j l c, takes-leaf us n i j l d) (leaves (agree text other (nth ts i) (nth us i) s) (ih (i + 1) j))

@@ -1,5 +1,6 @@
 -- What each part of a plain sheet's forest is.
 -- Assumes nothing.
+use Rattle.std.specs.Prelude.{None}
 use mathlib.Core.Path.{◌≡◌, refl, ◌∙◌, ap}
 use mathlib.Core.Bool.{Bool, true, false}
 use mathlib.Core.List.{List}
@@ -14,7 +15,6 @@ use Rattle.tape.specs.declared.token.ContainerKind.{ContainerKind}
 use Rattle.tape.specs.declared.token.ContainerKind.TheVariants.{Array, Object}
 use Rattle.tape.specs.declared.token.ScalarKind.{ScalarKind}
 use Rattle.tape.specs.declared.token.ScalarKind.TheVariants.{Unquoted, Quoted, Parameter, UndefinedParameter, Header, QuotedEscape}
-use Rattle.tape.specs.declared.token.Container.TheVariants.{Nothing}
 use Rattle.tape.specs.Token.{nth, container_of, scalar_of, opener_of}
 use Rattle.sheet.specs.Sound.{Form, container, mixed_container, scalar, operator, closing}
 use Rattle.put.specs.Parts.{view_of}
@@ -67,7 +67,7 @@ module _ (text : List ℕ) (ts : List Token) (p : Plain text ts) where
   plain-scalar i a n Header e = absurd (p.no_headers i a n e)
   plain-scalar i a n QuotedEscape e = absurd (p.no_escapes i a n e)
 
-  plain-leaf : (i j : ℕ) → Range ts i j → i < j → container_of (nth ts i) ≡ Nothing → PlainToken text (nth ts i)
+  plain-leaf : (i j : ℕ) → Range ts i j → i < j → container_of (nth ts i) ≡ None → PlainToken text (nth ts i)
   plain-leaf i j b h none = go (b.sheet.forms i (omega (arith, b.within)))
     where
       go : Form (nth ts i) → PlainToken text (nth ts i)

@@ -1,5 +1,6 @@
 -- The text of a sound sheet is no longer than the text that its views lie in, with the bytes that each token adds.
 -- Assumes nothing.
+use Rattle.std.specs.Prelude.{Option, Some, None}
 use mathlib.Core.Path.{◌≡◌, refl, sym, ◌∙◌, ap}
 use mathlib.Core.Bool.{Bool, true, false}
 use mathlib.Core.List.{List, ◌++◌}
@@ -16,7 +17,6 @@ use Rattle.operator.specs.Operators.{symbol_of, numbered}
 use Rattle.tape.specs.declared.token.Token.{Token}
 use Rattle.tape.specs.declared.token.ScalarKind.TheVariants.{Unquoted, Quoted, Parameter, UndefinedParameter, Header, QuotedEscape}
 use Rattle.tape.specs.declared.token.Container.{Container}
-use Rattle.tape.specs.declared.token.Container.TheVariants.{Opened, Nothing}
 use Rattle.tape.specs.declared.shape.Shape as Shape
 use Rattle.tape.specs.declared.shape.Link.{Link}
 use Rattle.tape.specs.declared.shape.Link.TheVariants.{ToEnd, ToOpener}
@@ -91,51 +91,51 @@ piece-short text first (Opener kind end) = omega arith
 piece-short text first Other = omega arith
 
 -- a token by its link: an opening brace with what stands before it, a closing one, or a piece
-token-short : (text : List ℕ) (first : Bool) (x : Token) (l : Link) → token_size text first x l ≤ viewed_by (piece_of x) + most_added
+token-short : (text : List ℕ) (first : Bool) (x : Token) (l : Option Link) → token_size text first x l ≤ viewed_by (piece_of x) + most_added
 unfolding token_size
-token-short text first x (ToEnd end) = omega (arith, lead-short first)
-token-short text first x (ToOpener opener) = omega arith
-token-short text first x Link.Nothing = piece-short text first (piece_of x)
+token-short text first x (Some (ToEnd end)) = omega (arith, lead-short first)
+token-short text first x (Some (ToOpener opener)) = omega arith
+token-short text first x None = piece-short text first (piece_of x)
 
 -- the bytes that a token views, by its shape
 abbrev view_size : Shape.Shape → ℕ
-view_size (Shape.TheVariants.Scalar kind offset size) = size
-view_size (Shape.TheVariants.Opener end) = 0
-view_size Shape.TheVariants.MixedContainer = 0
-view_size (Shape.TheVariants.Operator number) = 0
-view_size (Shape.TheVariants.End opener) = 0
-view_size Shape.TheVariants.Nothing = 0
+view_size (Some (Shape.TheVariants.Scalar kind offset size)) = size
+view_size (Some (Shape.TheVariants.Opener end)) = 0
+view_size (Some Shape.TheVariants.MixedContainer) = 0
+view_size (Some (Shape.TheVariants.Operator number)) = 0
+view_size (Some (Shape.TheVariants.End opener)) = 0
+view_size None = 0
 
 bare-views : (s : Shape.Shape) → viewed_by (bare_piece s) ≤ view_size s
-bare-views (Shape.TheVariants.Scalar Unquoted offset size) = omega arith
-bare-views (Shape.TheVariants.Scalar Quoted offset size) = omega arith
-bare-views (Shape.TheVariants.Scalar Parameter offset size) = omega arith
-bare-views (Shape.TheVariants.Scalar UndefinedParameter offset size) = omega arith
-bare-views (Shape.TheVariants.Scalar Header offset size) = omega arith
-bare-views (Shape.TheVariants.Scalar QuotedEscape offset size) = omega arith
-bare-views (Shape.TheVariants.Opener end) = omega arith
-bare-views Shape.TheVariants.MixedContainer = omega arith
-bare-views (Shape.TheVariants.Operator number) = omega arith
-bare-views (Shape.TheVariants.End opener) = omega arith
-bare-views Shape.TheVariants.Nothing = omega arith
+bare-views (Some (Shape.TheVariants.Scalar Unquoted offset size)) = omega arith
+bare-views (Some (Shape.TheVariants.Scalar Quoted offset size)) = omega arith
+bare-views (Some (Shape.TheVariants.Scalar Parameter offset size)) = omega arith
+bare-views (Some (Shape.TheVariants.Scalar UndefinedParameter offset size)) = omega arith
+bare-views (Some (Shape.TheVariants.Scalar Header offset size)) = omega arith
+bare-views (Some (Shape.TheVariants.Scalar QuotedEscape offset size)) = omega arith
+bare-views (Some (Shape.TheVariants.Opener end)) = omega arith
+bare-views (Some Shape.TheVariants.MixedContainer) = omega arith
+bare-views (Some (Shape.TheVariants.Operator number)) = omega arith
+bare-views (Some (Shape.TheVariants.End opener)) = omega arith
+bare-views None = omega arith
 
 piece-views : (x : Token) → viewed_by (piece_of x) ≤ view_size (shape_of x)
 unfolding piece_of
 piece-views x = go (container_of x) refl
   where
-    go : (c : Container) → container_of x ≡ c → viewed_by (piece_of x) ≤ view_size (shape_of x)
-    go (Opened kind end flag) e = rw (piece_of, e) (omega arith)
-    go Nothing e = rw (piece_of, e) (bare-views (shape_of x))
+    go : (c : Option Container) → container_of x ≡ c → viewed_by (piece_of x) ≤ view_size (shape_of x)
+    go (Some container) e = rw (piece_of, e) (omega arith)
+    go None e = rw (piece_of, e) (bare-views (shape_of x))
 
 -- ---- the views, in order
 -- a token that is no scalar views nothing
 no-view : (s : Shape.Shape) → NotScalar s → view_size s ≡ 0
-no-view (Shape.TheVariants.Scalar kind offset size) n = absurd n
-no-view (Shape.TheVariants.Opener end) n = refl
-no-view Shape.TheVariants.MixedContainer n = refl
-no-view (Shape.TheVariants.Operator number) n = refl
-no-view (Shape.TheVariants.End opener) n = refl
-no-view Shape.TheVariants.Nothing n = refl
+no-view (Some (Shape.TheVariants.Scalar kind offset size)) n = absurd n
+no-view (Some (Shape.TheVariants.Opener end)) n = refl
+no-view (Some Shape.TheVariants.MixedContainer) n = refl
+no-view (Some (Shape.TheVariants.Operator number)) n = refl
+no-view (Some (Shape.TheVariants.End opener)) n = refl
+no-view None n = refl
 
 module _ (text : List ℕ) (ts : List Token) (s : Sheet (length text) ts) where
   -- the views from token i on start at a floor or past it

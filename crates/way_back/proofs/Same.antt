@@ -1,5 +1,6 @@
 -- What the test of two sheets being the same tokens tells, and when it holds.
 -- Assumes nothing.
+use Rattle.std.specs.Prelude.{Option, Some, None}
 use mathlib.Core.Path.{◌≡◌, refl, sym, ◌∙◌, ap}
 use mathlib.Core.Bool.{true, false≢true}
 use mathlib.Core.List.{List, [], ◌∷◌, ◌++◌}
@@ -12,8 +13,6 @@ use Rattle.data.proofs.Pairs.{pairs_self}
 use Rattle.put.proofs.Equality.{equal_are, equal_self}
 use Rattle.tape.specs.declared.token.Token.{Token}
 use Rattle.tape.specs.declared.token.ScalarKind.{ScalarKind}
-use Rattle.tape.specs.declared.token.ScalarNamed.{ScalarNamed}
-use Rattle.tape.specs.declared.token.ScalarNamed.TheVariants.{Kind, Nothing}
 use Rattle.tape.specs.Token.{nth, scalar_named, scalar_code, scalar_of}
 use Rattle.tape.proofs.Makers.{code-names}
 use Rattle.tape.proofs.Shapes.{named-code}
@@ -27,18 +26,18 @@ as_made x e f g = rw (← e, ← f, ← g)
 
 -- two tokens that are the same: one that is no scalar, as it is, or a scalar, by what it views
 pub data Same (text other : List ℕ) (x y : Token) : Type 0 where
-  same : scalar_named x.code ≡ Nothing → x ≡ y → Same text other x y
+  same : scalar_named x.code ≡ None → x ≡ y → Same text other x y
   viewed : (kind : ScalarKind) (offset place size : ℕ) → x ≡ scalar_of kind offset size → y ≡ scalar_of kind place size
       → view_of text offset size ≡ view_of other place size → Same text other x y
 
 module _ (text other : List ℕ) where
   -- what is left to test, by the kind
-  by_kind : (x y : Token) (s : ScalarNamed) → x.code ≡ y.code → scalar_named x.code ≡ s
-      → elim s [ Kind kind ↦ same_view text other x y | Nothing ↦ same_words x y ] ≡ true → Same text other x y
+  by_kind : (x y : Token) (s : Option ScalarKind) → x.code ≡ y.code → scalar_named x.code ≡ s
+      → elim s [ Some kind ↦ same_view text other x y | None ↦ same_words x y ] ≡ true → Same text other x y
   unfolding same_view same_words
-  by_kind x y Nothing codes s t =
+  by_kind x y None codes s t =
       same s (as_made x codes (eqb-true x.a y.a (first_of _ _ t)) (eqb-true x.b y.b (second_of (eqb x.a y.a) _ t)))
-  by_kind x y (Kind kind) codes s t =
+  by_kind x y (Some kind) codes s t =
       let c = named-code x.code kind s in
       let b : x.b ≡ y.b = eqb-true x.b y.b (first_of _ _ t) in
       viewed kind x.a y.a x.b (as_made x c refl refl) (as_made y (sym codes ∙ c) refl (sym b))
@@ -58,7 +57,7 @@ module _ (text other : List ℕ) where
       both (eq-eqb (scalar_code kind) (scalar_code kind) refl)
       (rw (code-names kind) (both (eq-eqb n n refl) (rw v (equal_self (view_of other b n)))))
 
-  same_itself : (x : Token) → scalar_named x.code ≡ Nothing → same_token text other x x ≡ true
+  same_itself : (x : Token) → scalar_named x.code ≡ None → same_token text other x x ≡ true
   unfolding same_token same_words
   same_itself x n = both (eq-eqb x.code x.code refl) (rw n (both (eq-eqb x.a x.a refl) (eq-eqb x.b x.b refl)))
 
@@ -104,9 +103,9 @@ module _ (text other : List ℕ) where
 pub same_self : (text : List ℕ) (x : Token) → Same text text x x
 same_self text x = go (scalar_named x.code) refl
   where
-    go : (s : ScalarNamed) → scalar_named x.code ≡ s → Same text text x x
-    go Nothing s = same s refl
-    go (Kind kind) s =
+    go : (s : Option ScalarKind) → scalar_named x.code ≡ s → Same text text x x
+    go None s = same s refl
+    go (Some kind) s =
         let e : x ≡ scalar_of kind x.a x.b = as_made x (named-code x.code kind s) refl refl in
         viewed kind x.a x.a x.b e e refl
 

@@ -1,5 +1,6 @@
 -- Nothing is read past the first count tokens and their views.
 -- Assumes nothing.
+use Rattle.std.specs.Prelude.{Option, Some, None, Ok, Err}
 use mathlib.Core.Path.{◌≡◌, refl, sym, ◌∙◌, ap}
 use mathlib.Core.Bool.{Bool, true, false, ◌&&◌}
 use mathlib.Core.List.{List, [], ◌∷◌}
@@ -12,13 +13,10 @@ use Rattle.data.specs.Pairs.{pairwise}
 use Rattle.data.proofs.Cases.{by_bool}
 use Rattle.tape.specs.declared.token.Token.{Token}
 use Rattle.tape.specs.declared.token.ScalarKind.{ScalarKind}
-use Rattle.tape.specs.declared.token.ScalarNamed.{ScalarNamed}
-use Rattle.tape.specs.declared.token.ScalarNamed.TheVariants.{Kind, Nothing}
 use Rattle.tape.specs.Token.{scalar_named}
 use Rattle.tape.specs.Words.{words_for, tokens_in, words_of}
 use Rattle.tape.proofs.Shapes.{named-code}
 use Rattle.tape.proofs.Views.{tokens-length, words-taken}
-use Rattle.machine.specs.declared.Parsed.TheVariants.{Tokens, Refused}
 use Rattle.machine.specs.Finish.{Outcome, outcome}
 use Rattle.parse.specs.Parse.{text_limit, parse_of}
 use Rattle.sheet.specs.Decided.{Decided}
@@ -35,7 +33,7 @@ use Rattle.way_back.proofs.Likeness.{alike-text}
 
 -- ---- a token that views the same bytes in two texts
 -- a token whose code names a kind views what its words say
-named-views : (x : Token) (kind : ScalarKind) → scalar_named x.code ≡ Kind kind → Views x x.a x.b
+named-views : (x : Token) (kind : ScalarKind) → scalar_named x.code ≡ Some kind → Views x x.a x.b
 named-views x kind n = (kind, rw (← named-code x.code kind n) refl)
 
 module _ (text other : List ℕ) where
@@ -46,9 +44,9 @@ module _ (text other : List ℕ) where
   same_seen : (x : Token) → Seen x → Same text other x x
   same_seen x v = go (scalar_named x.code) refl
     where
-      go : (n : ScalarNamed) → scalar_named x.code ≡ n → Same text other x x
-      go Nothing n = same n refl
-      go (Kind kind) n =
+      go : (n : Option ScalarKind) → scalar_named x.code ≡ n → Same text other x x
+      go None n = same n refl
+      go (Some kind) n =
           let e = named-views x kind n in
           viewed e.0 x.a x.a x.b e.1 e.1 (v x.a x.b e)
 
@@ -63,9 +61,9 @@ module _ (text other : List ℕ) where
     unfolding same_token same_view
     token-read x y v = go (scalar_named x.code) refl
       where
-        go : (n : ScalarNamed) → scalar_named x.code ≡ n → same_token text bytes x y ≡ same_token other bytes x y
-        go Nothing n = rw (same_token, same_token, n)
-        go (Kind kind) n = rw (same_token, same_token, n, v x.a x.b (named-views x kind n))
+        go : (n : Option ScalarKind) → scalar_named x.code ≡ n → same_token text bytes x y ≡ same_token other bytes x y
+        go None n = rw (same_token, same_token, n)
+        go (Some kind) n = rw (same_token, same_token, n, v x.a x.b (named-views x kind n))
 
     alike_read : (ts us : List Token) → SameViews text other ts → alike text bytes ts us ≡ alike other bytes ts us
     unfolding pairwise
@@ -76,8 +74,8 @@ module _ (text other : List ℕ) where
 
     back_read : (ts : List Token) (p : Outcome) → SameViews text other ts → comes_back text bytes ts p ≡ comes_back other bytes ts p
     unfolding found_alike
-    back_read ts (outcome (Tokens count bom) words) v = ap (λ (t : Bool). eqb count (length ts) && t) (alike_read ts (tokens_in words count) v)
-    back_read ts (outcome (Refused r) words) v = refl
+    back_read ts (outcome (Ok p) words) v = ap (λ (t : Bool). eqb p.count (length ts) && t) (alike_read ts (tokens_in words p.count) v)
+    back_read ts (outcome (Err r) words) v = refl
 
 -- ---- the answer, and what is left
 module _ (text other : List ℕ) (ts : List Token) (v : SameViews text other ts) (room scratch : ℕ) where

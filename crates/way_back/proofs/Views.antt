@@ -1,5 +1,6 @@
 -- The tokens of a written text spell its tree, and two sheets that spell one tree are alike.
 -- Assumes nothing.
+use Rattle.std.specs.Prelude.{None}
 use mathlib.Core.Path.{◌≡◌, refl, sym, ◌∙◌, ap}
 use mathlib.Core.List.{List, [], ◌∷◌, ◌++◌, append_assoc, append-nil}
 use mathlib.Core.Bool.{true, false}
@@ -10,7 +11,6 @@ use Rattle.data.specs.Bytes.{space, quote, equals, brace_open, brace_close}
 use Rattle.tape.specs.declared.token.Token.{Token}
 use Rattle.tape.specs.declared.token.ContainerKind.{ContainerKind}
 use Rattle.tape.specs.declared.token.ContainerKind.TheVariants.{Array, Object}
-use Rattle.tape.specs.declared.token.ScalarNamed.TheVariants.{Nothing}
 use Rattle.tape.specs.Token.{scalar_named, opener_of, end_of}
 use Rattle.alike.specs.Alike.{alike}
 use Rattle.way_back.proofs.Tree.{Word, unquoted, quoted, Entry, scalar, empty, array, object, Entries, no_entries, more, Pairs, no_pairs, pair}
@@ -116,12 +116,12 @@ module _ (src text : List ℕ) where
   abbrev Alike : List Token → List Token → Type 0
   Alike xs ys = alike src text xs ys ≡ true
 
-  opener-no-scalar : (kind : ContainerKind) (end : ℕ) → scalar_named (opener_of kind end false).code ≡ Nothing
+  opener-no-scalar : (kind : ContainerKind) (end : ℕ) → scalar_named (opener_of kind end false).code ≡ None
   unfolding scalar_named
   opener-no-scalar Array end = refl
   opener-no-scalar Object end = refl
 
-  end-no-scalar : (opener : ℕ) → scalar_named (end_of opener).code ≡ Nothing
+  end-no-scalar : (opener : ℕ) → scalar_named (end_of opener).code ≡ None
   unfolding scalar_named
   end-no-scalar opener = refl
 

@@ -1,5 +1,6 @@
 -- A sheet is of the form where the direct tokens of each of its bodies are.
 -- Assumes nothing.
+use Rattle.std.specs.Prelude.{None}
 use mathlib.Core.Path.{◌≡◌, refl, sym, ◌∙◌, ap, subst}
 use mathlib.Core.Bool.{Bool, true, false, ◌&&◌, false≢true}
 use mathlib.Core.List.{List}
@@ -12,7 +13,6 @@ use lib.Dec.{ltb}
 use lib.ListN.{length}
 use Rattle.data.proofs.Cases.{by_bool}
 use Rattle.tape.specs.declared.token.Token.{Token}
-use Rattle.tape.specs.declared.token.Container.TheVariants.{Nothing}
 use Rattle.tape.specs.Token.{nth, container_of, end_of}
 use Rattle.tape.specs.Words.{tokens_in}
 use Rattle.tape.proofs.Views.{tokens-counted}
@@ -47,12 +47,12 @@ second_of false b e = absurd (false≢true e)
 abbrev pub Insides : List Token → ℕ → ℕ → Type 0
 Insides ts i j = (k : ℕ) → i ≤ k → k < j → inside_form ts (k + 1) (piece_of (nth ts k)) ≡ true
 
-end-opens-none : (opener : ℕ) → container_of (end_of opener) ≡ Nothing
+end-opens-none : (opener : ℕ) → container_of (end_of opener) ≡ None
 unfolding container_of
 end-opens-none opener = refl
 
 -- where nothing opens, nothing is wrong: at a token that is no container, and at an End
-leaf-inside : (ts : List Token) (i : ℕ) → container_of (nth ts i) ≡ Nothing → inside_form ts (i + 1) (piece_of (nth ts i)) ≡ true
+leaf-inside : (ts : List Token) (i : ℕ) → container_of (nth ts i) ≡ None → inside_form ts (i + 1) (piece_of (nth ts i)) ≡ true
 leaf-inside ts i n = bare-sound (leaf-bare (nth ts i) n) ts (i + 1)
 
 end-inside : (ts : List Token) (e i : ℕ) → nth ts e ≡ end_of i → inside_form ts (e + 1) (piece_of (nth ts e)) ≡ true
@@ -148,7 +148,7 @@ whole-range {words} {count} w = subst (λ (n : ℕ). Range (tokens_in words coun
 opened_inside : {n : ℕ} (ts : List Token) → Sheet n ts → (i : ℕ) → i < length ts → Inside ts (i + 1) (piece_of (nth ts i))
 opened_inside ts s i h = go (s.forms i h)
   where
-    bare : container_of (nth ts i) ≡ Nothing → Inside ts (i + 1) (piece_of (nth ts i))
+    bare : container_of (nth ts i) ≡ None → Inside ts (i + 1) (piece_of (nth ts i))
     bare n = bare-inside (leaf-bare (nth ts i) n) ts (i + 1)
 
     go : Form (nth ts i) → Inside ts (i + 1) (piece_of (nth ts i))

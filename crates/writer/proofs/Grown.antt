@@ -1,5 +1,6 @@
 -- The tokens of a sound sheet are those of its forest, and a part of them is read a token at a time.
 -- Assumes nothing.
+use Rattle.std.specs.Prelude.{None}
 use mathlib.Core.Path.{◌≡◌, refl, sym, ◌∙◌, ap, subst}
 use mathlib.Core.Bool.{Bool}
 use mathlib.Core.List.{List, [], ◌∷◌, ◌++◌, append_assoc, append-nil}
@@ -13,8 +14,7 @@ use lib.Seq.{drop-cons}
 use Rattle.data.proofs.Cases.{by_bool}
 use Rattle.tape.specs.declared.token.Token.{Token}
 use Rattle.tape.specs.declared.token.ContainerKind.{ContainerKind}
-use Rattle.tape.specs.declared.token.Container.TheVariants.{Opened, Nothing}
-use Rattle.tape.specs.Token.{no_token, nth, container_of, mixed_container_token, operator_of, opener_of, end_of}
+use Rattle.tape.specs.Token.{no_token, nth, container_of, mixed_container_token, operator_of, opener_of, end_of, opened}
 use Rattle.tape.specs.Shape.{Opens}
 use Rattle.tape.proofs.Makers.{opener-container, scalar-container}
 use Rattle.sheet.specs.Sound.{Form, container, mixed_container, scalar, operator, closing, Sheet}
@@ -35,18 +35,18 @@ flat (leaf x rest) i = x ∷ flat rest (i + 1)
 flat (box kind flag inner rest) i = boxed kind flag i (flat inner (i + 1)) ++ flat rest (i + 2 + length (flat inner (i + 1)))
 
 -- ---- tokens that open nothing
-pub mixed_container-opens_not : container_of mixed_container_token ≡ Nothing
+pub mixed_container-opens_not : container_of mixed_container_token ≡ None
 unfolding container_of
 mixed_container-opens_not = refl
 
-pub operator-opens_not : (number : ℕ) → container_of (operator_of number) ≡ Nothing
+pub operator-opens_not : (number : ℕ) → container_of (operator_of number) ≡ None
 unfolding container_of
 operator-opens_not number = refl
 
-pub opens-container : (x : Token) {e : ℕ} (o : Opens x e) → container_of x ≡ Opened o.0 e o.1
+pub opens-container : (x : Token) {e : ℕ} (o : Opens x e) → container_of x ≡ opened o.0 e o.1
 opens-container x {e} o = ap container_of o.2 ∙ opener-container o.0 e o.1
 
-pub opens_not : (x : Token) {e : ℕ} → container_of x ≡ Nothing → Opens x e → ⊥
+pub opens_not : (x : Token) {e : ℕ} → container_of x ≡ None → Opens x e → ⊥
 opens_not x n o = let c = opens-container x o in let z : ◌≡◌ {A = ℕ} 0 1 = cc in omega arith
 
 opens_at : (ts : List Token) {j k e : ℕ} → j ≡ k → Opens (nth ts j) e → Opens (nth ts k) e
@@ -116,7 +116,7 @@ module _ (ts : List Token) where
               (λ l. omega (arith, l));
         }
 
-  pub after : (i j : ℕ) → Range ts i j → container_of (nth ts i) ≡ Nothing → Range ts (i + 1) j
+  pub after : (i j : ℕ) → Range ts i j → container_of (nth ts i) ≡ None → Range ts (i + 1) j
   after i j b none =
       let s = b.sheet in
       record {
@@ -137,10 +137,10 @@ module _ (ts : List Token) where
   pub by_token : {P : Type 0} (i j : ℕ) → Range ts i j → i < j
       → ((kind : ContainerKind) (flag : Bool) (e : ℕ) → nth ts i ≡ opener_of kind e flag → i < e → e < j → nth ts e ≡ end_of i
       → Range ts (i + 1) e → Range ts (e + 1) j → P)
-      → (container_of (nth ts i) ≡ Nothing → Range ts (i + 1) j → P) → P
+      → (container_of (nth ts i) ≡ None → Range ts (i + 1) j → P) → P
   by_token {P} i j b h f g = go (b.sheet.forms i (omega (arith, b.within)))
     where
-      bare : container_of (nth ts i) ≡ Nothing → P
+      bare : container_of (nth ts i) ≡ None → P
       bare n = g n (after i j b n)
 
       go : Form (nth ts i) → P
@@ -158,16 +158,16 @@ module _ (ts : List Token) where
     unfolding forest_in
     none_left h = rw (forest_in, le-ltb i j h)
 
-    pub takes-leaf : i < j → container_of (nth ts i) ≡ Nothing → forest_in (suc turns) ts i j ≡ leaf (nth ts i) (forest_in turns ts (i + 1) j)
+    pub takes-leaf : i < j → container_of (nth ts i) ≡ None → forest_in (suc turns) ts i j ≡ leaf (nth ts i) (forest_in turns ts (i + 1) j)
     unfolding forest_in
     takes-leaf h c = rw (forest_in, lt-ltb i j h, c)
 
-    pub takes-box : {kind : ContainerKind} {e : ℕ} {flag : Bool} → i < j → container_of (nth ts i) ≡ Opened kind e flag
+    pub takes-box : {kind : ContainerKind} {e : ℕ} {flag : Bool} → i < j → container_of (nth ts i) ≡ opened kind e flag
         → forest_in (suc turns) ts i j ≡ box kind flag (forest_in turns ts (i + 1) e) (forest_in turns ts (e + 1) j)
     unfolding forest_in
     takes-box h c = rw (forest_in, lt-ltb i j h, c)
 
-  reads : (i e : ℕ) (kind : ContainerKind) (flag : Bool) → nth ts i ≡ opener_of kind e flag → container_of (nth ts i) ≡ Opened kind e flag
+  reads : (i e : ℕ) (kind : ContainerKind) (flag : Bool) → nth ts i ≡ opener_of kind e flag → container_of (nth ts i) ≡ opened kind e flag
   reads i e kind flag o = opens-container (nth ts i) (kind, flag, o)
 
   -- more turns than there are tokens change nothing
@@ -201,7 +201,7 @@ module _ (ts : List Token) where
   unfolding stretch forest_in
   stretch-none i j h = ap (λ (n : ℕ). forest_in n ts i j) {x = j - i} {y = 0} (omega arith)
 
-  pub stretch-leaf : (i j : ℕ) → i < j → container_of (nth ts i) ≡ Nothing → stretch ts i j ≡ leaf (nth ts i) (stretch ts (i + 1) j)
+  pub stretch-leaf : (i j : ℕ) → i < j → container_of (nth ts i) ≡ None → stretch ts i j ≡ leaf (nth ts i) (stretch ts (i + 1) j)
   unfolding stretch
   stretch-leaf i j h n = one_more i j h ∙ takes-leaf (j - (i + 1)) i j h n
 

@@ -1,5 +1,6 @@
 -- What one pass over a sheet's tokens tells of its levels and of its text's length.
 -- Assumes nothing.
+use Rattle.std.specs.Prelude.{Option, Some, None}
 use mathlib.Core.Path.{◌≡◌, refl, sym, ◌∙◌, ap}
 use mathlib.Core.Bool.{Bool, true, false, ◌||◌}
 use mathlib.Core.List.{List, [], ◌∷◌, ◌++◌}
@@ -12,7 +13,6 @@ use lib.ListN.{length, drop, length-append, drop_of_length-le}
 use Rattle.data.proofs.Cases.{by_bool}
 use Rattle.data.specs.Bytes.{brace_close}
 use Rattle.tape.specs.declared.token.Token.{Token}
-use Rattle.tape.specs.declared.token.Container.TheVariants.{Nothing}
 use Rattle.tape.specs.declared.shape.Link.{Link}
 use Rattle.tape.specs.Token.{nth, container_of}
 use Rattle.tape.specs.Words.{tokens_in, token_in}
@@ -42,10 +42,10 @@ use Rattle.writer.proofs.Forms.{whole-count, whole-range}
 -- ---- links, by what stands there
 module _ (ts : List Token) (i j : ℕ) (b : Range ts i j) (h : i < j) where
   -- a token that opens nothing closes nothing either
-  pub leaf-link : container_of (nth ts i) ≡ Nothing → link_of (nth ts i) ≡ Link.Nothing
+  pub leaf-link : container_of (nth ts i) ≡ None → link_of (nth ts i) ≡ None
   leaf-link n = go (b.sheet.forms i (omega (arith, b.within)))
     where
-      go : Form (nth ts i) → link_of (nth ts i) ≡ Link.Nothing
+      go : Form (nth ts i) → link_of (nth ts i) ≡ None
       go (container e o) = absurd (opens_not (nth ts i) n o)
       go (mixed_container p) = ap link_of p ∙ ap linked mixed_container-shape
       go (scalar a m v) = ap link_of v.1 ∙ ap linked (scalar-shape v.0 a m)
@@ -55,19 +55,19 @@ module _ (ts : List Token) (i j : ℕ) (b : Range ts i j) (h : i < j) where
 -- ---- levels
 -- a token that is no link leaves the levels, an opener goes down where it may, and an End up
 module _ (ts : List Token) (i : ℕ) (h : i < length ts) (l : ℕ) where
-  sinks-leaf : link_of (nth ts i) ≡ Link.Nothing → sinks (drop i ts) l ≡ sinks (drop (i + 1) ts) l
+  sinks-leaf : link_of (nth ts i) ≡ None → sinks (drop i ts) l ≡ sinks (drop (i + 1) ts) l
   unfolding sinks sunk
   sinks-leaf e = rw (tokens-on ts i h, sinks, sunk, e)
 
-  sinks-opener : {e : ℕ} → link_of (nth ts i) ≡ Link.ToEnd e → l < most_levels → sinks (drop i ts) l ≡ sinks (drop (i + 1) ts) (l + 1)
+  sinks-opener : {e : ℕ} → link_of (nth ts i) ≡ Some (Link.ToEnd e) → l < most_levels → sinks (drop i ts) l ≡ sinks (drop (i + 1) ts) (l + 1)
   unfolding sinks sunk
   sinks-opener e f = rw (tokens-on ts i h, sinks, sunk, e, lt-ltb l most_levels f)
 
-  sinks_deep : {e : ℕ} → link_of (nth ts i) ≡ Link.ToEnd e → most_levels ≤ l → sinks (drop i ts) l ≡ true
+  sinks_deep : {e : ℕ} → link_of (nth ts i) ≡ Some (Link.ToEnd e) → most_levels ≤ l → sinks (drop i ts) l ≡ true
   unfolding sinks sunk
   sinks_deep e f = rw (tokens-on ts i h, sinks, sunk, e, le-ltb l most_levels f)
 
-  sinks-end : {o : ℕ} → link_of (nth ts i) ≡ Link.ToOpener o → sinks (drop i ts) l ≡ sinks (drop (i + 1) ts) (l - 1)
+  sinks-end : {o : ℕ} → link_of (nth ts i) ≡ Some (Link.ToOpener o) → sinks (drop i ts) l ≡ sinks (drop (i + 1) ts) (l - 1)
   unfolding sinks sunk
   sinks-end e = rw (tokens-on ts i h, sinks, sunk, e)
 
@@ -146,18 +146,18 @@ first_past (leaf x rest) first = first_past rest (still_first first (piece_of x)
 first_past (box kind flag inner rest) first = first_past rest false
 
 module _ (text : List ℕ) (ts : List Token) (i : ℕ) (h : i < length ts) (first : Bool) where
-  size-leaf : link_of (nth ts i) ≡ Link.Nothing
+  size-leaf : link_of (nth ts i) ≡ None
       → text_size text (drop i ts) first
       ≡ length (piece_text text first Entry (piece_of (nth ts i))) + text_size text (drop (i + 1) ts) (still_first first (piece_of (nth ts i)))
   unfolding text_size token_size first_behind
   size-leaf e = rw (tokens-on ts i h, e)
 
-  size-opener : {e : ℕ} → link_of (nth ts i) ≡ Link.ToEnd e
+  size-opener : {e : ℕ} → link_of (nth ts i) ≡ Some (Link.ToEnd e)
       → text_size text (drop i ts) first ≡ length (lead first Entry false) + 1 + text_size text (drop (i + 1) ts) true
   unfolding text_size token_size first_behind
   size-opener e = rw (tokens-on ts i h, e)
 
-  size-end : {o : ℕ} → link_of (nth ts i) ≡ Link.ToOpener o → text_size text (drop i ts) first ≡ 1 + text_size text (drop (i + 1) ts) false
+  size-end : {o : ℕ} → link_of (nth ts i) ≡ Some (Link.ToOpener o) → text_size text (drop i ts) first ≡ 1 + text_size text (drop (i + 1) ts) false
   unfolding text_size token_size first_behind
   size-end e = rw (tokens-on ts i h, e)
 
@@ -239,35 +239,35 @@ module _ (ts : List Token) (i level : ℕ) (h : i < length ts) {s : Sunk} (told 
   unfolding sinks
   sinks-now e = rw (tokens-on ts i h, sinks, sym told ∙ e)
 
-pub sunk-within : (level : ℕ) (link : Link) {next : ℕ} → level ≤ most_levels → sunk level link ≡ To next → next ≤ most_levels
+pub sunk-within : (level : ℕ) (link : Option Link) {next : ℕ} → level ≤ most_levels → sunk level link ≡ To next → next ≤ most_levels
 unfolding sunk
-sunk-within level (Link.ToEnd end) h e =
+sunk-within level (Some (Link.ToEnd end)) h e =
     by_bool (ltb level most_levels)
     (λ t. let less = ltb-true level most_levels t in let same : level + 1 ≡ _ = to_same (rw (sunk, t) at e) in omega (arith, less, same))
     (λ t. absurd (to_not (rw (sunk, t) at e)))
-sunk-within level (Link.ToOpener opener) h e = let same : level - 1 ≡ _ = to_same e in omega (arith, h, same)
-sunk-within level Link.Nothing h e = let same : level ≡ _ = to_same e in omega (arith, h, same)
+sunk-within level (Some (Link.ToOpener opener)) h e = let same : level - 1 ≡ _ = to_same e in omega (arith, h, same)
+sunk-within level None h e = let same : level ≡ _ = to_same e in omega (arith, h, same)
 
 -- the levels behind a token, by its link
-pub sunk-down : (level end : ℕ) → level < most_levels → To (level + 1) ≡ sunk level (Link.ToEnd end)
+pub sunk-down : (level end : ℕ) → level < most_levels → To (level + 1) ≡ sunk level (Some (Link.ToEnd end))
 unfolding sunk
 sunk-down level end h = rw (sunk, lt-ltb level most_levels h)
 
-pub sunk_deep : (level end : ℕ) → most_levels ≤ level → TooDeep ≡ sunk level (Link.ToEnd end)
+pub sunk_deep : (level end : ℕ) → most_levels ≤ level → TooDeep ≡ sunk level (Some (Link.ToEnd end))
 unfolding sunk
 sunk_deep level end h = rw (sunk, le-ltb level most_levels h)
 
-pub sunk-up : (level opener next : ℕ) → next ≡ level - 1 → To next ≡ sunk level (Link.ToOpener opener)
+pub sunk-up : (level opener next : ℕ) → next ≡ level - 1 → To next ≡ sunk level (Some (Link.ToOpener opener))
 unfolding sunk
 sunk-up level opener next h = ap To h
 
 -- what a step of either pass has read
-pub read-sunk : (words : List ℕ) (count i level : ℕ) {x : Token} {link : Link} {s : Sunk} → x ≡ token_in words count i → link ≡ link_of x
+pub read-sunk : (words : List ℕ) (count i level : ℕ) {x : Token} {link : Option Link} {s : Sunk} → x ≡ token_in words count i → link ≡ link_of x
     → s ≡ sunk level link → s ≡ sunk level (link_of (nth (tokens_in words count) i))
 unfolding token_in
 read-sunk words count i level e f g = g ∙ ap (sunk level) (f ∙ ap link_of e)
 
-pub size-on : (text words : List ℕ) (count i : ℕ) (first : Bool) {x : Token} {link : Link} → i < length (tokens_in words count)
+pub size-on : (text words : List ℕ) (count i : ℕ) (first : Bool) {x : Token} {link : Option Link} → i < length (tokens_in words count)
     → x ≡ token_in words count i → link ≡ link_of x
     → text_size text (drop i (tokens_in words count)) first
     ≡ token_size text first x link + text_size text (drop (i + 1) (tokens_in words count)) (first_behind first x link)

@@ -1,5 +1,6 @@
 -- A body taken a direct token at a time: what stands at i, and the rest behind it.
 -- Assumes nothing.
+use Rattle.std.specs.Prelude.{Some, None}
 use mathlib.Core.Path.{◌≡◌, refl, sym, ◌∙◌, ap, subst}
 use mathlib.Core.Bool.{Bool, true, false, ◌&&◌}
 use mathlib.Core.List.{List, [], ◌++◌, append_assoc, append-nil}
@@ -9,7 +10,6 @@ use Rattle.tape.specs.declared.token.Token.{Token}
 use Rattle.tape.specs.declared.token.ContainerKind.{ContainerKind}
 use Rattle.tape.specs.declared.token.ScalarKind.{ScalarKind}
 use Rattle.tape.specs.declared.token.ScalarKind.TheVariants.{Unquoted, Quoted, Parameter, UndefinedParameter, Header, QuotedEscape}
-use Rattle.tape.specs.declared.token.Container.TheVariants.{Nothing}
 use Rattle.tape.specs.declared.shape.Shape as Shape
 use Rattle.tape.specs.Token.{nth, container_of, opener_of}
 use Rattle.tape.specs.Shape.{shape_of}
@@ -31,7 +31,7 @@ pub opener-piece : (x : Token) (kind : ContainerKind) (e : ℕ) (flag : Bool) �
 unfolding piece_of
 opener-piece x kind e flag o = rw (piece_of, ap container_of o ∙ opener-container kind e flag)
 
-pub leaf-piece : (x : Token) → container_of x ≡ Nothing → piece_of x ≡ bare_piece (shape_of x)
+pub leaf-piece : (x : Token) → container_of x ≡ None → piece_of x ≡ bare_piece (shape_of x)
 unfolding piece_of
 leaf-piece x n = rw (piece_of, n)
 
@@ -52,14 +52,14 @@ scalar-bare Parameter offset size = other
 scalar-bare UndefinedParameter offset size = other
 
 shape-bare : (s : Shape.Shape) → Bare (bare_piece s)
-shape-bare (Shape.TheVariants.Scalar kind offset size) = scalar-bare kind offset size
-shape-bare (Shape.TheVariants.Operator number) = sign number
-shape-bare Shape.TheVariants.MixedContainer = mixed
-shape-bare (Shape.TheVariants.Opener link) = other
-shape-bare (Shape.TheVariants.End opener) = other
-shape-bare Shape.TheVariants.Nothing = other
+shape-bare (Some (Shape.TheVariants.Scalar kind offset size)) = scalar-bare kind offset size
+shape-bare (Some (Shape.TheVariants.Operator number)) = sign number
+shape-bare (Some Shape.TheVariants.MixedContainer) = mixed
+shape-bare (Some (Shape.TheVariants.Opener link)) = other
+shape-bare (Some (Shape.TheVariants.End opener)) = other
+shape-bare None = other
 
-pub leaf-bare : (x : Token) → container_of x ≡ Nothing → Bare (piece_of x)
+pub leaf-bare : (x : Token) → container_of x ≡ None → Bare (piece_of x)
 leaf-bare x n = subst Bare (sym (leaf-piece x n)) (shape-bare (shape_of x))
 
 -- it has no inside, and what follows it is next

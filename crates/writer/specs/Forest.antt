@@ -1,8 +1,7 @@
 -- Any sheet as a forest: tokens in a row, and containers around forests.
-use Rattle.std.specs.Prelude.{ℕ, zero, suc, ◌+◌, ◌-◌, Bool, true, false, List, ltb, length}
+use Rattle.std.specs.Prelude.{ℕ, zero, suc, ◌+◌, ◌-◌, Bool, true, false, List, ltb, length, Some, None}
 use Rattle.tape.specs.declared.token.Token.{Token}
 use Rattle.tape.specs.declared.token.ContainerKind.{ContainerKind}
-use Rattle.tape.specs.declared.token.Container.TheVariants.{Opened, Nothing}
 use Rattle.tape.specs.Token.{container_of, nth}
 
 -- nothing more; a token that opens nothing, and what follows it; a container of a kind, with its flag, around what stands in it, and
@@ -18,8 +17,8 @@ forest_in zero ts i j = no_more
 forest_in (suc n) ts i j =
     elim (ltb i j) [
       | true ↦ elim (container_of (nth ts i)) [
-        | Opened kind e flag ↦ box kind flag (forest_in n ts (i + 1) e) (forest_in n ts (e + 1) j)
-        | Nothing ↦ leaf (nth ts i) (forest_in n ts (i + 1) j)
+        | Some container ↦ box container.kind container.mixed (forest_in n ts (i + 1) container.link) (forest_in n ts (container.link + 1) j)
+        | None ↦ leaf (nth ts i) (forest_in n ts (i + 1) j)
       ]
       | false ↦ no_more
     ]

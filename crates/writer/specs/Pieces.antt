@@ -1,12 +1,11 @@
 -- What a token is to the writer, and the bytes that are written for it by itself.
-use Rattle.std.specs.Prelude.{ℕ, Bool, true, false, List, [], ◌∷◌, ◌++◌, eqb}
+use Rattle.std.specs.Prelude.{ℕ, Bool, true, false, List, [], ◌∷◌, ◌++◌, eqb, Some, None}
 use Rattle.data.specs.Bytes.{quote}
 use Rattle.put.specs.Parts.{view_of}
 use Rattle.operator.specs.declared.Numbered.{Numbered}
 use Rattle.operator.specs.declared.Symbol.{Symbol}
 use Rattle.operator.specs.Operators.{symbol_of, numbered}
 use Rattle.tape.specs.declared.token.Token.{Token}
-use Rattle.tape.specs.declared.token.Container.TheVariants.{Opened, Nothing}
 use Rattle.tape.specs.declared.token.ScalarKind.{ScalarKind}
 use Rattle.tape.specs.declared.token.ScalarKind.TheVariants.{Unquoted, Quoted, Parameter, UndefinedParameter, Header, QuotedEscape}
 use Rattle.tape.specs.declared.shape.Shape as Shape
@@ -26,15 +25,15 @@ scalar_piece UndefinedParameter offset size = Other
 
 -- a token that opens nothing, by its shape; Ends and words that no token has are no part of the form either
 abbrev pub bare_piece : Shape.Shape → Piece
-bare_piece (Shape.TheVariants.Scalar kind offset size) = scalar_piece kind offset size
-bare_piece (Shape.TheVariants.Operator number) = Sign number
-bare_piece Shape.TheVariants.MixedContainer = Mixed
-bare_piece (Shape.TheVariants.Opener link) = Other
-bare_piece (Shape.TheVariants.End opener) = Other
-bare_piece Shape.TheVariants.Nothing = Other
+bare_piece (Some (Shape.TheVariants.Scalar kind offset size)) = scalar_piece kind offset size
+bare_piece (Some (Shape.TheVariants.Operator number)) = Sign number
+bare_piece (Some Shape.TheVariants.MixedContainer) = Mixed
+bare_piece (Some (Shape.TheVariants.Opener link)) = Other
+bare_piece (Some (Shape.TheVariants.End opener)) = Other
+bare_piece None = Other
 
 unfoldable pub piece_of : Token → Piece
-piece_of t = elim (container_of t) [ Opened kind end flag ↦ Opener kind end | Nothing ↦ bare_piece (shape_of t) ]
+piece_of t = elim (container_of t) [ Some container ↦ Opener container.kind container.link | None ↦ bare_piece (shape_of t) ]
 
 -- whether a piece is a MixedContainer
 abbrev pub is_mixed : Piece → Bool

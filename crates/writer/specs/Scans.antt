@@ -1,8 +1,8 @@
 -- What is known of a sheet's text from one pass over its tokens, in the order in which they stand.
-use Rattle.std.specs.Prelude.{ℕ, ◌+◌, ◌-◌, Bool, true, false, List, [], ◌∷◌, ltb, length}
+use Rattle.std.specs.Prelude.{ℕ, ◌+◌, ◌-◌, Bool, true, false, List, [], ◌∷◌, ltb, length, Option, Some, None}
 use Rattle.tape.specs.declared.token.Token.{Token}
 use Rattle.tape.specs.declared.shape.Link.{Link}
-use Rattle.tape.specs.declared.shape.Link.TheVariants.{ToEnd, ToOpener, Nothing}
+use Rattle.tape.specs.declared.shape.Link.TheVariants.{ToEnd, ToOpener}
 use Rattle.tape.specs.Shape.{link_of}
 use Rattle.parse.specs.Parse.{text_limit}
 use Rattle.writer.specs.declared.levels.Sunk.{Sunk}
@@ -16,10 +16,10 @@ use Rattle.writer.specs.Text.{lead, still_first, piece_text}
 
 -- ---- levels: an opener goes one down, an End one up
 -- the levels behind a token, unless they are more than may be
-unfoldable pub sunk : ℕ → Link → Sunk
-sunk level (ToEnd end) = elim (ltb level most_levels) [ true ↦ To (level + 1) | false ↦ TooDeep ]
-sunk level (ToOpener opener) = To (level - 1)
-sunk level Nothing = To level
+unfoldable pub sunk : ℕ → Option Link → Sunk
+sunk level (Some (ToEnd end)) = elim (ltb level most_levels) [ true ↦ To (level + 1) | false ↦ TooDeep ]
+sunk level (Some (ToOpener opener)) = To (level - 1)
+sunk level None = To level
 
 -- whether more than may be are open somewhere
 unfoldable pub sinks : List Token → ℕ → Bool
@@ -28,16 +28,16 @@ sinks (x ∷ xs) level = elim (sunk level (link_of x)) [ To next ↦ sinks xs ne
 
 -- ---- bytes: the byte before a token is one, whichever it is, unless the token is the first of its body
 -- those of a token by its link: an opening brace with what stands before it, a closing one, or those of a piece
-unfoldable pub token_size : List ℕ → Bool → Token → Link → ℕ
-token_size text first x (ToEnd end) = length (lead first Entry false) + 1
-token_size text first x (ToOpener opener) = 1
-token_size text first x Nothing = length (piece_text text first Entry (piece_of x))
+unfoldable pub token_size : List ℕ → Bool → Token → Option Link → ℕ
+token_size text first x (Some (ToEnd end)) = length (lead first Entry false) + 1
+token_size text first x (Some (ToOpener opener)) = 1
+token_size text first x None = length (piece_text text first Entry (piece_of x))
 
 -- whether the next token is the first of its body
-unfoldable pub first_behind : Bool → Token → Link → Bool
-first_behind first x (ToEnd end) = true
-first_behind first x (ToOpener opener) = false
-first_behind first x Nothing = still_first first (piece_of x)
+unfoldable pub first_behind : Bool → Token → Option Link → Bool
+first_behind first x (Some (ToEnd end)) = true
+first_behind first x (Some (ToOpener opener)) = false
+first_behind first x None = still_first first (piece_of x)
 
 -- all tokens together
 unfoldable pub text_size : List ℕ → List Token → Bool → ℕ

@@ -20,24 +20,24 @@ pub(crate) enum Sunk {
 }
 
 // The levels behind a token: an opener goes one down, an End one up.
-fn sink(level: usize, link: Link) -> Sunk
+fn sink(level: usize, link: Option<Link>) -> Sunk
     requires { level ≤ most_levels }
     ensures { result ≡ sunk level link }
 {
     match link {
-        Link::ToEnd(_) => {
+        Some(Link::ToEnd(_)) => {
             if level < MOST_LEVELS {
                 return Sunk::To(level + 1);
             }
             Sunk::TooDeep
         }
-        Link::ToOpener(_) => {
+        Some(Link::ToOpener(_)) => {
             if level == 0 {
                 return Sunk::To(0);
             }
             Sunk::To(level - 1)
         }
-        Link::Nothing => Sunk::To(level),
+        None => Sunk::To(level),
     }
 }
 

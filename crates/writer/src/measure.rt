@@ -80,25 +80,25 @@ fn piece_size(text: &[u8], first: bool, piece: Piece) -> usize
 }
 
 // How many bytes are written for a token: for an opener its brace, for an End the other.
-fn token_size(text: &[u8], first: bool, x: Token, link: Link) -> usize
+fn token_size(text: &[u8], first: bool, x: Token, link: Option<Link>) -> usize
     ensures exact { result ≡ token_size text.now first x link }
     ensures small { result ≤ greatest_word + 3 }
 {
     match link {
-        Link::ToEnd(_) => lead_size(first) + 1,
-        Link::ToOpener(_) => 1,
-        Link::Nothing => piece_size(text, first, piece_of(x)),
+        Some(Link::ToEnd(_)) => lead_size(first) + 1,
+        Some(Link::ToOpener(_)) => 1,
+        None => piece_size(text, first, piece_of(x)),
     }
 }
 
 // Whether the token behind one is the first of its body.
-fn first_behind(first: bool, x: Token, link: Link) -> bool
+fn first_behind(first: bool, x: Token, link: Option<Link>) -> bool
     ensures { result ≡ first_behind first x link }
 {
     match link {
-        Link::ToEnd(_) => true,
-        Link::ToOpener(_) => false,
-        Link::Nothing => still_first(first, piece_of(x)),
+        Some(Link::ToEnd(_)) => true,
+        Some(Link::ToOpener(_)) => false,
+        None => still_first(first, piece_of(x)),
     }
 }
 

@@ -5,7 +5,7 @@ ghost use Rattle.writer.specs.Pieces.{scalar_piece, bare_piece, piece_of};
 
 use tape::shape;
 use tape::shape::Shape;
-use tape::token::{Container, ContainerKind, ScalarKind, Token};
+use tape::token::{ContainerKind, ScalarKind, Token};
 
 // A scalar with or without quotes, a Header, an operator's sign, a MixedContainer, a container's opener, or what cannot be written.
 #[derive(Clone, Copy)]
@@ -57,20 +57,18 @@ fn scalar_piece(kind: ScalarKind, offset: u32, length: u32) -> Piece
 }
 
 // What a token of a shape is to the writer, where it opens nothing.
-fn bare_piece(s: Shape) -> Piece
-    ensures { result ≡ bare_piece s }
+fn bare_piece(shape: Option<Shape>) -> Piece
+    ensures { result ≡ bare_piece shape }
 {
-    match s {
-        Shape::Scalar {
+    match shape {
+        Some(Shape::Scalar {
             kind,
             offset,
             length,
-        } => scalar_piece(kind, offset, length),
-        Shape::Operator { number } => Piece::Sign { number },
-        Shape::MixedContainer => Piece::Mixed,
-        Shape::Opener { end: _ } => Piece::Other,
-        Shape::End { opener: _ } => Piece::Other,
-        Shape::Nothing => Piece::Other,
+        }) => scalar_piece(kind, offset, length),
+        Some(Shape::Operator { number }) => Piece::Sign { number },
+        Some(Shape::MixedContainer) => Piece::Mixed,
+        Some(Shape::Opener { .. }) | Some(Shape::End { .. }) | None => Piece::Other,
     }
 }
 
@@ -79,12 +77,11 @@ pub(crate) fn piece_of(t: Token) -> Piece
     ensures { result ≡ piece_of t }
 {
     match t.container() {
-        Container::Opened {
-            kind,
-            link,
-            mixed: _,
-        } => Piece::Opener { kind, end: link },
-        Container::Nothing => bare_piece(shape::shape_of(t)),
+        Some(container) => Piece::Opener {
+            kind: container.kind,
+            end: container.link,
+        },
+        None => bare_piece(shape::shape_of(t)),
     }
 }
 

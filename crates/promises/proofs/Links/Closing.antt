@@ -1,5 +1,6 @@
 -- Leaving a container, and the text's end inside one, keep the tokens in order.
 -- Assumes nothing.
+use Rattle.std.specs.Prelude.{Some, None, Result}
 use mathlib.Core.Path.{◌≡◌, refl, sym, ◌∙◌, ap}
 use mathlib.Core.Bool.{Bool, true, false}
 use mathlib.Core.List.{List, [], ◌∷◌, ◌++◌}
@@ -12,7 +13,7 @@ use Rattle.tape.specs.declared.token.ContainerKind.{ContainerKind}
 use Rattle.tape.specs.declared.token.ContainerKind.TheVariants.{Array, Object}
 use Rattle.tape.specs.declared.token.Container as Containers
 use Rattle.tape.specs.declared.shape.Link.TheVariants.{ToEnd}
-use Rattle.tape.specs.Token.{no_token, opener_of, end_of, container_of}
+use Rattle.tape.specs.Token.{no_token, opener_of, end_of, container_of, opened}
 use Rattle.tape.proofs.Makers.{end_uncoded}
 use Rattle.tape.specs.Shape.{Opens}
 use Rattle.tape.specs.Tape.{Tape, unbounded, token_at}
@@ -31,7 +32,7 @@ use Rattle.promises.proofs.Links.Held.{Signed, Shaped, Held, Finished, RestingAt
 
 -- what is read as an opener is one
 pub reads-opener : (ts : List Token) {p : ℕ} → Kept ts p → (i : ℕ) {kind : ContainerKind} {link : ℕ} {mixed : Bool}
-    → container_of (nth ts i) ≡ Containers.TheVariants.Opened kind link mixed → link_at ts i ≡ ToEnd link
+    → container_of (nth ts i) ≡ opened kind link mixed → link_at ts i ≡ Some (ToEnd link)
 unfolding container_of
 reads-opener ts s i e =
     by-below i (length ts)
@@ -45,8 +46,8 @@ pub record Inside (t : Tape) (p : ℕ) : Type 0 where
   pub kind : ContainerKind
   pub up : ℕ
   pub mixed : Bool
-  pub read : container_at t p ≡ Containers.TheVariants.Opened kind up mixed
-  pub link : link_at t.tokens p ≡ ToEnd up
+  pub read : container_at t p ≡ opened kind up mixed
+  pub link : link_at t.tokens p ≡ Some (ToEnd up)
   pub before : up < p
 
 inside : (t : Tape) (p : ℕ) → (p ≡ 0 → ⊥) → Parent (link_at t.tokens) p → Inside t p
@@ -85,7 +86,7 @@ resumes c ts p opener r = go c
     go (Containers.TheVariants.Opened Array link mixed) = (r, some, signed mixed, λ e. apart)
     go (Containers.TheVariants.Opened Object link true) = (r, some, signed true, λ e. apart)
     go (Containers.TheVariants.Opened Object link false) = r
-    go Containers.TheVariants.Nothing = r
+    go None = r
 
 pub closed-length : (ts : List Token) (p : ℕ) (x y : Token) → length (set ts p x ++ (y ∷ [])) ≡ length ts + 1
 closed-length ts p x y = add-length (set ts p x) y ∙ ap (λ (k : ℕ). k + 1) (length-set ts p x)

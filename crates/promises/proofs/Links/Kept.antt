@@ -1,5 +1,6 @@
 -- The tokens of a tape whose containers may be open: each by itself, and their links. What each change of a tape keeps.
 -- Assumes nothing.
+use Rattle.std.specs.Prelude.{Option, Some, None}
 use mathlib.Core.Path.{◌≡◌, refl, sym, ◌∙◌, ap}
 use mathlib.Core.Bool.{Bool, true, false}
 use mathlib.Core.List.{List, [], ◌∷◌, ◌++◌}
@@ -16,7 +17,7 @@ use Rattle.tape.specs.declared.token.Container as Containers
 use Rattle.tape.specs.declared.token.Standing as Standings
 use Rattle.tape.specs.declared.shape.Link.{Link}
 use Rattle.tape.specs.declared.shape.Link.TheVariants.{ToEnd}
-use Rattle.tape.specs.Token.{no_token, mixed_container_token, opener_of, end_of, headed, container_of, standing_of}
+use Rattle.tape.specs.Token.{no_token, mixed_container_token, opener_of, end_of, headed, container_of, standing_of, opened}
 use Rattle.tape.specs.Shape.{linked, link_of, Opens}
 use Rattle.tape.specs.Tape.{before_last}
 use Rattle.tape.proofs.Makers.{opener-container, scalar-container, opener-standing, mixed_container-standing, operator-standing, end-standing}
@@ -31,7 +32,7 @@ use Rattle.promises.proofs.Links.Rows.{unmarked, scalar_made, plain-operator, sc
 use Rattle.promises.proofs.Links.Rows.{row-add, row-set, row-insert}
 
 -- the link at each index
-abbrev pub link_at : List Token → ℕ → Link
+abbrev pub link_at : List Token → ℕ → Option Link
 link_at ts i = link_of (nth ts i)
 
 pub record Kept (ts : List Token) (p : ℕ) : Type 0 where
@@ -47,7 +48,7 @@ pub record Resting (ts : List Token) (p : ℕ) : Type 0 where
 -- ---- openers and Ends
 -- whatever its kind and flag, an opener is no token that names none: no Header, no MixedContainer, no Equal
 module _ {x : Token} {link : ℕ} (o : Opens x link) where
-  opens-apart : {t : Token} → link_of t ≡ Link.Nothing → x ≡ t → ⊥
+  opens-apart : {t : Token} → link_of t ≡ None → x ≡ t → ⊥
   opens-apart none e = unlinked-opens x (ap link_of e ∙ none) o
 
   opens_unheaded : Unheaded x
@@ -64,38 +65,38 @@ opens-same : {x : Token} {link other : ℕ} → Opens x link → Opens x other �
 opens-same {x} o q = let a = opens-link x o in let b = opens-link x q in cc
 
 -- an opener is no scalar
-opener-no-scalar : {t : Token} {link : ℕ} {P : Type 0} → link_of t ≡ ToEnd link → Scalar t → P
+opener-no-scalar : {t : Token} {link : ℕ} {P : Type 0} → link_of t ≡ Some (ToEnd link) → Scalar t → P
 opener-no-scalar {t} e s = absurd (unlinked-opens t (scalar-unlinked s) (link-made t e))
 
 -- a token of a form that is read as an opener names what it is read to name
 pub container-link : {t : Token} {kind : ContainerKind} {link : ℕ} {mixed : Bool} → Form t
-    → container_of t ≡ Containers.TheVariants.Opened kind link mixed
-    → link_of t ≡ ToEnd link
+    → container_of t ≡ opened kind link mixed
+    → link_of t ≡ Some (ToEnd link)
 unfolding container_of
 container-link {t} {kind} {link} {mixed} (container end o) e =
-    let r : container_of t ≡ Containers.TheVariants.Opened o.0 end o.1 = ap container_of o.2 ∙ opener-container o.0 end o.1 in
+    let r : container_of t ≡ opened o.0 end o.1 = ap container_of o.2 ∙ opener-container o.0 end o.1 in
     let same : end ≡ link = cc in
     rw (← same) (opens-link t o)
 container-link {t} (mixed_container q) e = let z : ◌≡◌ {A = ℕ} 0 1 = cc in absurd (omega arith)
 container-link {t} (scalar offset size v) e =
-    let r : container_of t ≡ Containers.TheVariants.Nothing = ap container_of v.1 ∙ scalar-container v.0 offset size in
+    let r : container_of t ≡ None = ap container_of v.1 ∙ scalar-container v.0 offset size in
     let z : ◌≡◌ {A = ℕ} 0 1 = cc in absurd (omega arith)
 container-link {t} (operator number low high q) e = let z : ◌≡◌ {A = ℕ} 0 1 = cc in absurd (omega arith)
 container-link {t} (closing opener q) e = let z : ◌≡◌ {A = ℕ} 0 1 = cc in absurd (omega arith)
 
 -- and one that names another token behind or before it is read so
-pub link-container : (t : Token) {link : ℕ} → link_of t ≡ ToEnd link
-    → (kind : ContainerKind) × (mixed : Bool) × (container_of t ≡ Containers.TheVariants.Opened kind link mixed)
+pub link-container : (t : Token) {link : ℕ} → link_of t ≡ Some (ToEnd link)
+    → (kind : ContainerKind) × (mixed : Bool) × (container_of t ≡ opened kind link mixed)
 link-container t {link} e =
     let o = link-made t e in
     (o.0, o.1, ap container_of o.2 ∙ opener-container o.0 link o.1)
 
 -- what is read as an opener was made as it is read
-container-made : {t : Token} {kind : ContainerKind} {link : ℕ} {mixed : Bool} → Form t → container_of t ≡ Containers.TheVariants.Opened kind link mixed
+container-made : {t : Token} {kind : ContainerKind} {link : ℕ} {mixed : Bool} → Form t → container_of t ≡ opened kind link mixed
     → t ≡ opener_of kind link mixed
 container-made {t} {kind} {link} {mixed} form e =
     let o = link-made t (container-link form e) in
-    let r : container_of t ≡ Containers.TheVariants.Opened o.0 link o.1 = ap container_of o.2 ∙ opener-container o.0 link o.1 in
+    let r : container_of t ≡ opened o.0 link o.1 = ap container_of o.2 ∙ opener-container o.0 link o.1 in
     let same_kind : o.0 ≡ kind = cc in
     let same_flag : o.1 ≡ mixed = cc in
     o.2 ∙ ap (λ (k : ContainerKind). opener_of k link o.1) same_kind ∙ ap (λ (b : Bool). opener_of kind link b) same_flag
@@ -176,7 +177,7 @@ kept-insert ts {p} r some last_one apart = go (length ts - 1) (omega arith)
         }
 
 -- ---- the container that the machine is in closed
-pub kept-close : (ts : List Token) (p up : ℕ) (x : Token) → Opens x (length ts) → Resting ts p → link_at ts p ≡ ToEnd up → up < p
+pub kept-close : (ts : List Token) (p up : ℕ) (x : Token) → Opens x (length ts) → Resting ts p → link_at ts p ≡ Some (ToEnd up) → up < p
     → Resting (closed_as ts p x) up
 kept-close ts p up x names r here inner =
     let n : ℕ = length ts in
@@ -245,9 +246,9 @@ kept-header ts r some e =
 
 -- the parent's flag set
 pub kept-flag : (ts : List Token) (p : ℕ) (kind : ContainerKind) (link : ℕ) (mixed : Bool) → p < length ts → Kept ts p
-    → container_of (nth ts p) ≡ Containers.TheVariants.Opened kind link mixed → Kept (set ts p (opener_of kind link true)) p
+    → container_of (nth ts p) ≡ opened kind link mixed → Kept (set ts p (opener_of kind link true)) p
 kept-flag ts p kind link mixed below s e =
-    let here : link_at ts p ≡ ToEnd link = container-link (s.row.forms p below) e in
+    let here : link_at ts p ≡ Some (ToEnd link) = container-link (s.row.forms p below) e in
     let x : Token = opener_of kind link true in
     let names : Opens x link = (kind, true, refl) in
     kept-alike ts p x below s (container link names) (opens-unmarked names) (opener-no-scalar here) (opens-link x names ∙ sym here)

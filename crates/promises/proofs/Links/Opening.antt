@@ -1,5 +1,6 @@
 -- Opening a container, and what ParseOpen makes of its opener, keep the tokens in order.
 -- Assumes nothing.
+use Rattle.std.specs.Prelude.{None}
 use mathlib.Core.Path.{◌≡◌, refl, sym, ◌∙◌, ap}
 use mathlib.Core.Bool.{true, false}
 use mathlib.Core.List.{List, [], ◌∷◌, ◌++◌, append_assoc}
@@ -13,7 +14,7 @@ use Rattle.tape.specs.declared.token.Token.{Token}
 use Rattle.tape.specs.declared.token.ContainerKind.{ContainerKind}
 use Rattle.tape.specs.declared.token.ContainerKind.TheVariants.{Array, Object}
 use Rattle.tape.specs.declared.token.Container as Containers
-use Rattle.tape.specs.Token.{no_token, opener_of, end_of, container_of}
+use Rattle.tape.specs.Token.{no_token, opener_of, end_of, container_of, opened}
 use Rattle.tape.specs.Shape.{link_of}
 use Rattle.tape.specs.Tape.{token_at, replace}
 use Rattle.tape.proofs.Shapes.{opens-link}
@@ -80,7 +81,7 @@ settle-held m ts kind at state d f =
     }
 
 -- no container is read at a parent that is none
-none_open : (ts : List Token) {p : ℕ} → Kept ts p → container_of (nth ts p) ≡ Containers.TheVariants.Nothing → p ≡ 0
+none_open : (ts : List Token) {p : ℕ} → Kept ts p → container_of (nth ts p) ≡ None → p ≡ 0
 none_open ts {p} k e = go k.links.parent
   where
     go : Parent (link_at ts) p → p ≡ 0

@@ -2,6 +2,7 @@
 -- has a scalar there.
 -- What each change of a tape does to the token at an index, and to this.
 -- Assumes nothing.
+use Rattle.std.specs.Prelude.{None}
 use mathlib.Core.Path.{◌≡◌, refl, sym, ◌∙◌, ap}
 use mathlib.Core.Bool.{Bool, true, false, false≢true}
 use mathlib.Core.List.{List, [], ◌∷◌, ◌++◌}
@@ -88,7 +89,7 @@ not_scalar other s = false≢true (sym other ∙ scalar_coded s)
 pub scalar-unmarked : {t : Token} → Scalar t → Unmarked t
 scalar-unmarked s e = not_scalar {t = mixed_container_token} mixed_container_uncoded (rw e at s)
 
-pub scalar-unlinked : {t : Token} → Scalar t → link_of t ≡ Link.Nothing
+pub scalar-unlinked : {t : Token} → Scalar t → link_of t ≡ None
 scalar-unlinked s = ap link_of s.made ∙ ap linked (scalar-shape s.kind s.offset s.size)
 
 -- where a scalar is read there is a token
@@ -109,7 +110,7 @@ unheaded t d offset size e = d (ap (λ (x : Token). x.code) e)
 
 pub record Plain (t : Token) : Type 0 where
   pub form : Form t
-  pub unlinked : link_of t ≡ Link.Nothing
+  pub unlinked : link_of t ≡ None
   pub other : Unheaded t
   pub bare : Unmarked t
 
@@ -155,7 +156,7 @@ plain-operator o =
       bare = unmarked _ (λ z. omega arith);
     }
 
-pub mixed-unlinked : link_of mixed_container_token ≡ Link.Nothing
+pub mixed-unlinked : link_of mixed_container_token ≡ None
 mixed-unlinked = ap linked mixed_container-shape
 
 -- ---- the tokens of a tape, one by one

@@ -1,5 +1,6 @@
 -- A tape whose views rise up to an end and whose links lead to no scalar, and what every change of a tape keeps of that.
 -- Assumes nothing.
+use Rattle.std.specs.Prelude.{None}
 use mathlib.Core.Path.{◌≡◌, refl, sym, ◌∙◌}
 use mathlib.Core.Bool.{Bool, true, false}
 use mathlib.Core.List.{List, [], ◌∷◌, ◌++◌, append-nil}
@@ -12,9 +13,8 @@ use Rattle.data.proofs.Cases.{by_bool}
 use Rattle.tape.specs.declared.token.Token.{Token}
 use Rattle.tape.specs.declared.token.ScalarKind.{ScalarKind}
 use Rattle.tape.specs.declared.token.ContainerKind.{ContainerKind}
-use Rattle.tape.specs.declared.token.Container.TheVariants.{Opened, Nothing}
 use Rattle.tape.specs.declared.token.Standing as Standings
-use Rattle.tape.specs.Token.{array_code, object_code, scalar_named, mixed_container_token, scalar_of, operator_of, end_of, headed, container_of}
+use Rattle.tape.specs.Token.{array_code, object_code, scalar_named, mixed_container_token, scalar_of, operator_of, end_of, headed, container_of, opened}
 use Rattle.tape.specs.Token.{standing_of}
 use Rattle.tape.specs.Shape.{Opens}
 use Rattle.tape.specs.Tape.{before_last}
@@ -38,14 +38,14 @@ unfolding container_of
 operator-link number = refl
 
 -- what opens a container has no view
-pub opened-bare : (t : Token) (kind : ContainerKind) (to_end : ℕ) (mixed : Bool) → container_of t ≡ Opened kind to_end mixed → span_of t ≡ []
+pub opened-bare : (t : Token) (kind : ContainerKind) (to_end : ℕ) (mixed : Bool) → container_of t ≡ opened kind to_end mixed → span_of t ≡ []
 unfolding container_of span_of scalar_named
 opened-bare t kind to_end mixed e =
     by_bool (eqb t.code array_code)
     (λ f. rw (eqb-true t.code array_code f))
     (λ f. by_bool (eqb t.code object_code)
     (λ g. rw (eqb-true t.code object_code g))
-    (λ g. let no : Nothing ≡ Opened kind to_end mixed = rw (container_of, f, g) at e in cc))
+    (λ g. let no : None ≡ opened kind to_end mixed = rw (container_of, f, g) at e in cc))
 
 -- an Unquoted that becomes a Header keeps its view
 pub headed-span : (t : Token) → standing_of t ≡ Standings.TheVariants.Unquoted → span_of (headed t) ≡ span_of t

@@ -1,5 +1,6 @@
 -- The views of a list of tokens, in their order, and when they rise from a floor to an end.
 -- Assumes nothing.
+use Rattle.std.specs.Prelude.{Option, Some, None}
 use mathlib.Core.Path.{◌≡◌, refl, sym, ◌∙◌, ap}
 use mathlib.Core.Bool.{Bool, false}
 use mathlib.Core.List.{List, [], ◌∷◌, ◌++◌, append_assoc, append-nil}
@@ -10,8 +11,6 @@ use Rattle.tape.specs.declared.token.Token.{Token}
 use Rattle.tape.specs.declared.token.ScalarKind.{ScalarKind}
 use Rattle.tape.specs.declared.token.ContainerKind.{ContainerKind}
 use Rattle.tape.specs.declared.token.ContainerKind.TheVariants.{Array, Object}
-use Rattle.tape.specs.declared.token.ScalarNamed.{ScalarNamed}
-use Rattle.tape.specs.declared.token.ScalarNamed.TheVariants.{Kind}
 use Rattle.tape.specs.Token.{no_token, scalar_named, may_be_empty, mixed_container_token, opener_of, scalar_of, operator_of, end_of}
 use Rattle.tape.specs.Shape.{Opens}
 use Rattle.tape.specs.Tape.{before_last}
@@ -27,9 +26,9 @@ pub record Span : Type 0 where
 abbrev pub span : ScalarKind → ℕ → ℕ → Span
 span kind offset size = record { empty_allowed = may_be_empty kind; offset = offset; size = size }
 
-abbrev pub spans_named : ScalarNamed → ℕ → ℕ → List Span
-spans_named (Kind kind) offset size = span kind offset size ∷ []
-spans_named ScalarNamed.Nothing offset size = []
+abbrev pub spans_named : Option ScalarKind → ℕ → ℕ → List Span
+spans_named (Some kind) offset size = span kind offset size ∷ []
+spans_named None offset size = []
 
 -- a token's view, if it is a scalar
 unfoldable pub span_of : Token → List Span
@@ -67,7 +66,7 @@ none_bare = refl
 
 pub scalar-span : (kind : ScalarKind) (offset size : ℕ) → span_of (scalar_of kind offset size) ≡ span kind offset size ∷ []
 unfolding span_of
-scalar-span kind offset size = ap (λ (named : ScalarNamed). spans_named named offset size) (code-names kind)
+scalar-span kind offset size = ap (λ (named : Option ScalarKind). spans_named named offset size) (code-names kind)
 
 -- ---- what the changes of a tape do to its views
 pub spans-add : (ts : List Token) (x : Token) → spans (ts ++ (x ∷ [])) ≡ spans ts ++ span_of x

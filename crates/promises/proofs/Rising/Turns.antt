@@ -1,5 +1,6 @@
 -- Every turn keeps the views rising, up to the place that it has come to.
 -- Assumes nothing.
+use Rattle.std.specs.Prelude.{Option, None, Result}
 use mathlib.Core.Path.{◌≡◌, refl, sym, ◌∙◌, ap}
 use mathlib.Core.Bool.{true, false, false≢true}
 use mathlib.Core.List.{List, [], ◌∷◌, ◌++◌}
@@ -16,7 +17,6 @@ use Rattle.tape.specs.declared.token.ScalarKind.TheVariants.{Unquoted}
 use Rattle.tape.specs.declared.token.ContainerKind.{ContainerKind}
 use Rattle.tape.specs.declared.token.ContainerKind.TheVariants.{Array, Object}
 use Rattle.tape.specs.declared.token.Container.{Container}
-use Rattle.tape.specs.declared.token.Container.TheVariants.{Opened, Nothing}
 use Rattle.tape.specs.Token.{opener_of, operator_of, headed, quoted_kind}
 use Rattle.tape.proofs.Makers.{quoted-empty}
 use Rattle.tape.specs.Tape.{token_at, replace}
@@ -60,11 +60,11 @@ pub record RisenWhole (text_length : ℕ) (count : ℕ) (ts : List Token) : Type
 
 -- ---- states in which no token has to stand last
 -- taking up a parent never leads to ParseOpen
-resumed-topped : (c : Container) (count : ℕ) (ts : List Token) → Topped (state_in c) count ts
+resumed-topped : (c : Option Container) (count : ℕ) (ts : List Token) → Topped (state_in c) count ts
 resumed-topped (Opened Array l f) count ts = tt
 resumed-topped (Opened Object l true) count ts = tt
 resumed-topped (Opened Object l false) count ts = tt
-resumed-topped Nothing count ts = tt
+resumed-topped None count ts = tt
 
 taken-topped : {s state : State} → Takes s state → (count : ℕ) (ts : List Token) → Topped state count ts
 taken-topped (key e) count ts = tt

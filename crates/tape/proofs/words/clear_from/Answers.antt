@@ -1,11 +1,21 @@
--- `tape::words::clear_from` meets its contract: zeros over the words past the tokens, or past the last whole one.
+-- `tape::words::clear_from` meets its contract: zeros over the words behind the tokens that stand there.
 -- Assumes nothing.
 use native.Mathlib.Omega.{arith}
-use Rattle.tape.proofs.Laying.{zeros-over, zeros-over-whole}
+use Rattle.tape.proofs.Views.{tokens-length}
+use Rattle.tape.proofs.Laying.{zeros-behind}
 use Rattle.tape.proofs.words.clear_from.Goals as goal
 
-pub returns-then-laid-whole : goal.returns-then-laid-whole
-returns-then-laid-whole c = zeros-over _ _ c.args.count (omega arith) c.zero_all.ensures
+pub overflow_mul-from : goal.overflow_mul-from
+overflow_mul-from c = omega (arith, c.held-from.ensures, tokens-length c.args.tape.now c.args.count)
+
+pub offset_bounds-tape-from : goal.offset_bounds-tape-from
+offset_bounds-tape-from c = omega (arith, c.held-from.ensures, tokens-length c.args.tape.now c.args.count)
+
+pub slice_bounds-fill-count : goal.slice_bounds-fill-count
+slice_bounds-fill-count c = omega (arith, c.held-from.ensures, tokens-length c.args.tape.now c.args.count)
+
+pub slice_bounds-fill-start : goal.slice_bounds-fill-start
+slice_bounds-fill-start c = omega (arith, c.held-from.ensures, tokens-length c.args.tape.now c.args.count)
 
 pub returns : goal.returns
-returns c = zeros-over-whole _ _ _ c.if-laid-whole.false c.zero_all-2.ensures
+returns c = zeros-behind _ _ _ _ c.held-from.ensures (c.fill.ensures.after (λ y e. e))

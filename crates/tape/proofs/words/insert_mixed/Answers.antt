@@ -8,13 +8,13 @@ returns-then-count-eq0 c =
     let both = insert-first c.args.tape.now c.args.count _ c.if-count-eq0.true c.mixed_container.ensures c.push.ensures.exact in
     record { exact = both.0; seen = both.1 }
 
-pub returns-in-Laid : goal.returns-in-Laid
-returns-in-Laid c =
+pub returns : goal.returns
+returns c =
     let both = insert_pushed c.args.tape.now c.args.count _ c.if-count-eq0.false c.token-last.ensures c.push-2.ensures.exact _ _
-    c.in-Laid.is c.mixed_container-in-Laid.ensures c.put_words.ensures in
+    c.in_ok-laid.was c.mixed_container-2.ensures c.put_words.ensures in
     record { exact = both.0; seen = both.1 }
 
-pub returns-in-Full : goal.returns-in-Full
-returns-in-Full c =
-    let both = insert-none c.args.tape.now c.args.count _ c.if-count-eq0.false c.token-last.ensures c.push-2.ensures.exact c.in-Full.is in
-    record { exact = both.0; seen = both.1 }
+pub returns-in_err-laid : goal.returns-in_err-laid
+returns-in_err-laid c =
+    let both = insert-none c.args.tape.now c.args.count _ c.if-count-eq0.false c.token-last.ensures c.push-2.ensures.exact c.in_err-laid.was in
+    record { exact = rw c.from_residual.ensures both.0; seen = rw c.from_residual.ensures both.1 }
