@@ -1,7 +1,7 @@
 // What a byte is in the states that tell bytes apart. What is no sign at all is told first, by a test that letters and digits answer alike: which
 // of the two a scalar begins with cannot be guessed.
 ghost use Rattle.std.specs.Prelude.{◌≡◌};
-ghost use Rattle.machine.specs.Bytes.{key_byte, open_byte, follows_key, begins_operator, value_byte};
+ghost use Rattle.machine.specs.Bytes.{key_byte, open_byte, follows_key, value_byte};
 
 // What a byte is in Key.
 #[derive(Clone, Copy)]
@@ -13,6 +13,7 @@ pub enum KeyByte {
 }
 
 // Tells the bytes of Key apart.
+#[tactic(auto, unfolding(crate::specs::Bytes::key_byte))]
 pub fn key_byte(b: u8) -> KeyByte
     ensures { result ≡ key_byte b }
 {
@@ -37,6 +38,7 @@ pub enum OpenByte {
 }
 
 // Tells the bytes of ParseOpen apart.
+#[tactic(auto, unfolding(crate::specs::Bytes::open_byte))]
 pub fn open_byte(b: u8) -> OpenByte
     ensures { result ≡ open_byte b }
 {
@@ -52,6 +54,7 @@ pub fn open_byte(b: u8) -> OpenByte
 }
 
 // Whether a byte says that what stood before it is a key.
+#[tactic(auto, unfolding(crate::specs::Bytes::follows_key))]
 pub fn follows_key(b: u8) -> bool
     ensures { result ≡ follows_key b }
 {
@@ -67,14 +70,8 @@ pub enum ValueByte {
     Other,
 }
 
-// Whether a byte begins an operator in ArrayValue.
-fn begins_operator(b: u8) -> bool
-    ensures { result ≡ begins_operator b }
-{
-    matches!(b, b'<' | b'>' | b'!' | b'=')
-}
-
 // Tells the bytes of ArrayValue apart.
+#[tactic(auto, unfolding(crate::specs::Bytes::value_byte, crate::specs::Bytes::begins_operator))]
 pub fn value_byte(b: u8) -> ValueByte
     ensures { result ≡ value_byte b }
 {

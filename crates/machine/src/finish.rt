@@ -14,6 +14,7 @@ pub fn refuse(tape: &mut [u32], refusal: Refusal) -> Result<Parsed, Refusal>
 }
 
 // Ends a parse: zeros behind the tokens that stand on the tape, or a refusal.
+#[tactic(auto, unfolding(crate::specs::Finish::finish))]
 pub fn finish(tape: &mut [u32], ending: Result<u32, Refusal>, bom: bool) -> Result<Parsed, Refusal>
     ensures { outcome result tape.new ≡ finish tape.old ending bom }
 {

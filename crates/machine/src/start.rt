@@ -10,6 +10,7 @@ const BOM_LENGTH: usize = 3;
 const BOM: [u8; BOM_LENGTH] = [0xef, 0xbb, 0xbf];
 
 // Whether the text begins with ef bb bf.
+#[tactic(auto, unfolding(crate::specs::Start::has_bom))]
 pub fn has_bom(text: &[u8]) -> bool
     ensures { result ≡ has_bom text.now }
 {
@@ -17,6 +18,7 @@ pub fn has_bom(text: &[u8]) -> bool
 }
 
 // The machine at the text's start, past a BOM.
+#[tactic(auto, unfolding(crate::specs::Start::start))]
 pub fn start(bom: bool) -> Machine
     ensures { result ≡ start bom }
 {

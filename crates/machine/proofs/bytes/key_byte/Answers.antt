@@ -2,7 +2,6 @@
 -- passes all that these tell apart.
 -- Assumes nothing.
 use mathlib.Core.Path.{refl, sym, ◌∙◌}
-use borrow.Author.Tests.{eq-eqb, ne_eqb}
 use Rattle.data.specs.Bytes.{brace_close, brace_open, bracket_close, bracket_open}
 use Rattle.data.specs.Classes.{may_be_sign}
 use Rattle.machine.proofs.Among.{unlike}
@@ -20,25 +19,3 @@ returns-then-not-may_be_sign c =
       unlike may_be_sign brace_open _ refl no,
       unlike may_be_sign bracket_open _ refl no,
     )
-
-pub returns-then-b-eq125 : goal.returns-then-b-eq125
-unfolding key_byte
-returns-then-b-eq125 c = rw (key_byte, eq-eqb _ _ c.if-b-eq125.true)
-
-pub returns-then-b-eq93 : goal.returns-then-b-eq93
-unfolding key_byte
-returns-then-b-eq93 c = rw (key_byte, ne_eqb _ _ c.if-b-eq125.false, eq-eqb _ _ c.if-b-eq93.true)
-
-pub returns-then-b-eq123 : goal.returns-then-b-eq123
-unfolding key_byte
-returns-then-b-eq123 c = rw (key_byte, ne_eqb _ _ c.if-b-eq125.false, ne_eqb _ _ c.if-b-eq93.false, eq-eqb _ _ c.if-b-eq123.true)
-
-pub returns-then-b-eq91 : goal.returns-then-b-eq91
-unfolding key_byte
-returns-then-b-eq91 c =
-    rw (key_byte, ne_eqb _ _ c.if-b-eq125.false, ne_eqb _ _ c.if-b-eq93.false, ne_eqb _ _ c.if-b-eq123.false, eq-eqb _ _ c.if-b-eq91.true)
-
-pub returns : goal.returns
-unfolding key_byte
-returns c =
-    rw (key_byte, ne_eqb _ _ c.if-b-eq125.false, ne_eqb _ _ c.if-b-eq93.false, ne_eqb _ _ c.if-b-eq123.false, ne_eqb _ _ c.if-b-eq91.false)

@@ -2,7 +2,7 @@
 -- passes all that these tell apart.
 -- Assumes nothing.
 use mathlib.Core.Path.{refl, sym, ◌∙◌}
-use borrow.Author.Tests.{not-true, eq-eqb, ne_eqb}
+use borrow.Author.Tests.{not-true}
 use lib.Dec.{eqb}
 use Rattle.data.proofs.Cases.{both}
 use Rattle.data.specs.Bytes.{brace_close, brace_open, equals, exclamation, greater_than, less_than}
@@ -30,21 +30,3 @@ returns-then-may_be_sign-b c =
       among,
       unlike may_be_sign equals _ refl no,
     )
-
-pub returns-then-b-eq123 : goal.returns-then-b-eq123
-unfolding value_byte
-returns-then-b-eq123 c = rw (value_byte, eq-eqb _ _ c.if-b-eq123.true)
-
-pub returns-then-b-eq125 : goal.returns-then-b-eq125
-unfolding value_byte
-returns-then-b-eq125 c = rw (value_byte, ne_eqb _ _ c.if-b-eq123.false, eq-eqb _ _ c.if-b-eq125.true)
-
-pub returns-then-begins_operator : goal.returns-then-begins_operator
-unfolding value_byte
-returns-then-begins_operator c =
-    rw (value_byte, ne_eqb _ _ c.if-b-eq123.false, ne_eqb _ _ c.if-b-eq125.false, ← c.begins_operator.ensures, c.if-begins_operator.true)
-
-pub returns : goal.returns
-unfolding value_byte
-returns c =
-    rw (value_byte, ne_eqb _ _ c.if-b-eq123.false, ne_eqb _ _ c.if-b-eq125.false, ← c.begins_operator.ensures, c.if-begins_operator.false)
