@@ -1,7 +1,7 @@
 -- What a turn may come to, whatever the room of its tape: every move of the machine, with what the text and the tokens showed, and
 -- every refusal. A property of machines and tokens that each move keeps is kept by every turn (Walk).
 -- Assumes nothing.
-use Rattle.std.specs.Prelude.{Option, Result}
+use Rattle.std.specs.Prelude.{Option}
 use mathlib.Core.Path.{◌≡◌}
 use mathlib.Core.Bool.{Bool, true, false}
 use mathlib.Core.List.{List, [], ◌∷◌, ◌++◌}

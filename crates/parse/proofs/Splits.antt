@@ -1,7 +1,7 @@
 -- Case splits that hand over their equation, one for each type that a turn goes by.
 -- Assumes nothing.
 use Rattle.tape.specs.Token.{opened}
-use Rattle.std.specs.Prelude.{Some, None}
+use Rattle.std.specs.Prelude.{Some, None, Option}
 use mathlib.Core.Path.{◌≡◌, refl}
 use mathlib.Core.Bool.{Bool}
 use Prim.Native.Nat.{ℕ}
@@ -34,7 +34,7 @@ pub by-sighted : {P : Type 0} (x : Signs.Sighted) → ((o : Operator) (w : ℕ) 
 by-sighted (Signs.TheVariants.Sign o w) f g = f o w refl
 by-sighted Signs.TheVariants.Nothing f g = g refl
 
-pub by-container : {P : Type 0} (x : Containers.Container)
+pub by-container : {P : Type 0} (x : Option Containers.Container)
     → ((k : ContainerKind) (l : ℕ) (f : Bool) → x ≡ opened k l f → P)
     → (x ≡ None → P) → P
 by-container (Some container) f g = f container.kind container.link container.mixed refl

@@ -19,7 +19,7 @@ use Rattle.machine.specs.declared.State.TheVariants.{Key, KeyValueSeparator, Obj
 use Rattle.machine.specs.declared.Machine.{Machine}
 use Rattle.machine.specs.declared.Refusal.TheVariants.{Eof, MixedParameter}
 use Rattle.parse.specs.declared.scalars.Scalar.{Scalar}
-use Rattle.parse.specs.declared.scalars.Scalar.TheVariants as Found
+use Rattle.std.specs.Prelude.{Option, Some, None}
 use Rattle.machine.specs.Machine.{byte_at, to, within, mixed_on, is_parse_open}
 use Rattle.parse.specs.After.{After, next, refused, and_then, or_full, lay_then}
 use Rattle.parse.specs.Scalars.{scalar_found, cut_then, scalar_then}
@@ -30,9 +30,9 @@ use Rattle.parse.specs.Step.{entry, entered}
 
 module _ (text : List ℕ) (m : Machine) where
   -- what was found is added and passed, or the text ends in it
-  abbrev pub taken : Scalar → State → Tape → After
-  taken (Found.Cut token rest) state t = or_full (lay t m.count token) (λ n t'. entered text t' (to m rest state n))
-  taken Found.End state t = refused Eof
+  abbrev pub taken : Option Scalar → State → Tape → After
+  taken (Some s) state t = or_full (lay t m.count s.token) (λ n t'. entered text t' (to m s.rest state n))
+  taken None state t = refused Eof
 
   open_past : (l : Laying) (rest : ℕ)
       → and_then (or_full l (λ n t'. next (to m rest ParseOpen n) t')) (λ t' m'. open_as text (flag_parent t' m') m')
@@ -60,13 +60,13 @@ module _ (text : List ℕ) (m : Machine) where
   plain-taken (Cuts.Quoted start end rest escaped) state t e = plain-past (lay t m.count _) rest state e
   plain-taken Cuts.End state t e = refl
 
-  pub entry-taken : (state : State) (t : Tape) → entry text state t m ≡ taken (scalar_found (scalar_cut text m.at)) state t
+  pub entry_taken : (state : State) (t : Tape) → entry text state t m ≡ taken (scalar_found (scalar_cut text m.at)) state t
   unfolding entry open_scalar scalar_then
-  entry-taken Key t = plain-taken (scalar_cut text m.at) Key t refl
-  entry-taken KeyValueSeparator t = plain-taken (scalar_cut text m.at) KeyValueSeparator t refl
-  entry-taken ObjectValue t = plain-taken (scalar_cut text m.at) ObjectValue t refl
-  entry-taken ParseOpen t = open_taken (scalar_cut text m.at) t
-  entry-taken ArrayValue t = plain-taken (scalar_cut text m.at) ArrayValue t refl
+  entry_taken Key t = plain-taken (scalar_cut text m.at) Key t refl
+  entry_taken KeyValueSeparator t = plain-taken (scalar_cut text m.at) KeyValueSeparator t refl
+  entry_taken ObjectValue t = plain-taken (scalar_cut text m.at) ObjectValue t refl
+  entry_taken ParseOpen t = open_taken (scalar_cut text m.at) t
+  entry_taken ArrayValue t = plain-taken (scalar_cut text m.at) ArrayValue t refl
 
 module _ (text : List ℕ) (t : Tape) (m : Machine) where
   -- an operator, by the flag in force

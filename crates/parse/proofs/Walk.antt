@@ -1,7 +1,7 @@
 -- One walk of the turns: whatever the room of the tape, a turn comes to one of the moves or refusals of Moves, laying down its tokens
 -- one by one where there is room. So what each move keeps is kept by every turn and every run.
 -- Assumes nothing.
-use Rattle.std.specs.Prelude.{Result, Ok, Err}
+use Rattle.std.specs.Prelude.{Ok, Err}
 use mathlib.Core.Path.{◌≡◌, ◌∙◌, ap}
 use mathlib.Core.Bool.{true, false}
 use mathlib.Core.List.{List, [], ◌∷◌, ◌++◌}

@@ -20,6 +20,7 @@ use tape::token::Standing;
 use tape::{token, words};
 
 // `}`: closes the container that is open, in its own kind.
+#[tactic(auto, unfolding(crate::specs::ArrayValue::array_close))]
 fn array_close(tape: &mut [u32], m: Machine) -> Result<Turn, Refusal>
     requires { m.at < text_limit }
     ensures { after result tape.new ≡ array_close (view tape.old m.count) m }
@@ -33,6 +34,7 @@ fn array_close(tape: &mut [u32], m: Machine) -> Result<Turn, Refusal>
 }
 
 // An operator among the values of a mixed container.
+#[tactic(auto, unfolding(crate::specs::ArrayValue::operator_then))]
 pub(crate) fn operator_then(text: &[u8], tape: &mut [u32], m: Machine) -> Result<Turn, Refusal>
     requires { Here text.now m }
     ensures { after result tape.new ≡ operator_then text.now (view tape.old m.count) m }
@@ -53,6 +55,7 @@ pub(crate) fn operator_then(text: &[u8], tape: &mut [u32], m: Machine) -> Result
 }
 
 // An operator byte after a container: `=` belongs to an object template and is skipped.
+#[tactic(auto, unfolding(crate::specs::ArrayValue::after_end))]
 fn after_end(text: &[u8], m: Machine) -> Result<Turn, Refusal>
     requires { Here text.now m }
     ensures { (ws : List ℕ) → after result ws ≡ after_end text.now (view ws m.count) m }
@@ -64,6 +67,7 @@ fn after_end(text: &[u8], m: Machine) -> Result<Turn, Refusal>
 }
 
 // An operator byte that makes the container mixed: the operator itself is due.
+#[tactic(auto, unfolding(crate::specs::KeyValueSeparator::mix_then))]
 fn mixed_operator(tape: &mut [u32], m: Machine) -> Step
     ensures { (text : List ℕ) → stepped text result tape.new m ≡ mix_then (view tape.old m.count) m (operator_then text) }
 {
@@ -74,6 +78,7 @@ fn mixed_operator(tape: &mut [u32], m: Machine) -> Step
 }
 
 // An operator byte in a container that is not mixed: the last token decides.
+#[tactic(auto, unfolding(crate::specs::ArrayValue::unmixed_operator, tape::specs::Words::token_in, tape::specs::Tape::token_at))]
 fn unmixed_operator(text: &[u8], tape: &mut [u32], m: Machine) -> Step
     requires { Here text.now m }
     ensures { stepped text.now result tape.new m
@@ -100,6 +105,7 @@ fn array_operator(text: &[u8], tape: &mut [u32], m: Machine) -> Step
 }
 
 // A turn in ArrayValue, at a byte that is no blank.
+#[tactic(auto, unfolding(crate::specs::ArrayValue::array_value_turn, crate::specs::Step::entry))]
 pub(crate) fn array_value_turn(text: &[u8], tape: &mut [u32], m: Machine) -> Step
     requires { Here text.now m }
     ensures { stepped text.now result tape.new m

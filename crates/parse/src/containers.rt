@@ -15,6 +15,7 @@ use tape::token::ContainerKind;
 use tape::{token, words};
 
 // `{` where a value is due: adds an Array, whose kind is settled in ParseOpen.
+#[tactic(auto, unfolding(crate::specs::Containers::open_then))]
 pub(crate) fn open_then(tape: &mut [u32], m: Machine) -> Result<Turn, Refusal>
     requires { m.at < text_limit }
     ensures { after result tape.new ≡ open_then (view tape.old m.count) m }
@@ -43,7 +44,13 @@ pub(crate) fn close_at(
 }
 
 // Closes the container that the machine is in, as a kind with the flag in force, and takes up its parent.
-pub(crate) fn close(tape: &mut [u32], m: Machine, kind: ContainerKind, grand: u32) -> Result<Turn, Refusal>
+#[tactic(auto, unfolding(crate::specs::Containers::close, crate::specs::Containers::close_at))]
+pub(crate) fn close(
+    tape: &mut [u32],
+    m: Machine,
+    kind: ContainerKind,
+    grand: u32,
+) -> Result<Turn, Refusal>
     requires { m.at < text_limit }
     ensures { after result tape.new ≡ close kind grand (view tape.old m.count) m }
 {
@@ -53,6 +60,7 @@ pub(crate) fn close(tape: &mut [u32], m: Machine, kind: ContainerKind, grand: u3
 }
 
 // The text's end in Key: one container may still be open, at top level, and is closed as an unmixed Object.
+#[tactic(auto, unfolding(crate::specs::Containers::key_end, crate::specs::Containers::close_at))]
 fn key_end(tape: &mut [u32], m: Machine) -> Result<Turn, Refusal>
     ensures { after result tape.new ≡ key_end (view tape.old m.count) m }
 {
@@ -69,6 +77,7 @@ fn key_end(tape: &mut [u32], m: Machine) -> Result<Turn, Refusal>
 }
 
 // The text's end, which only Key may meet.
+#[tactic(auto, unfolding(crate::specs::Containers::text_end))]
 pub(crate) fn text_end(tape: &mut [u32], m: Machine) -> Result<Turn, Refusal>
     ensures { after result tape.new ≡ text_end (view tape.old m.count) m }
 {

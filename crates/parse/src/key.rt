@@ -18,6 +18,7 @@ use tape::token::{ContainerKind, Standing};
 use tape::{token, words};
 
 // `}` or `]`: closes the container that is open, or is skipped, since some game files have one too many.
+#[tactic(auto, unfolding(crate::specs::Key::key_close))]
 fn key_close(tape: &mut [u32], m: Machine) -> Result<Turn, Refusal>
     requires { m.at < text_limit }
     ensures { after result tape.new ≡ key_close (view tape.old m.count) m }
@@ -30,6 +31,7 @@ fn key_close(tape: &mut [u32], m: Machine) -> Result<Turn, Refusal>
 }
 
 // Makes the last token a Header and opens its container.
+#[tactic(auto, unfolding(crate::specs::Key::open_header, tape::specs::Words::token_in, tape::specs::Tape::token_at))]
 fn open_header(tape: &mut [u32], m: Machine, at: usize) -> Result<Turn, Refusal>
     ensures { after result tape.new ≡ open_header at (view tape.old m.count) m }
 {
@@ -46,6 +48,7 @@ fn open_header(tape: &mut [u32], m: Machine, at: usize) -> Result<Turn, Refusal>
 }
 
 // A container without a key: the last token, if Unquoted, is its Header.
+#[tactic(auto, unfolding(crate::specs::Key::key_header, tape::specs::Words::token_in, tape::specs::Tape::token_at))]
 fn key_header(tape: &mut [u32], m: Machine, at: usize) -> Result<Turn, Refusal>
     ensures { after result tape.new ≡ key_header at (view tape.old m.count) m }
 {
@@ -57,6 +60,7 @@ fn key_header(tape: &mut [u32], m: Machine, at: usize) -> Result<Turn, Refusal>
 }
 
 // `{`: an empty pair of braces is dropped, else it is a Header's container.
+#[tactic(auto, unfolding(crate::specs::Key::key_brace))]
 fn key_brace(text: &[u8], tape: &mut [u32], m: Machine) -> Result<Turn, Refusal>
     requires { Here text.now m }
     ensures { after result tape.new ≡ key_brace text.now (view tape.old m.count) m }
@@ -71,6 +75,7 @@ fn key_brace(text: &[u8], tape: &mut [u32], m: Machine) -> Result<Turn, Refusal>
 }
 
 // A turn in Key, at a byte that is no blank.
+#[tactic(auto, unfolding(crate::specs::Key::key_turn, crate::specs::Step::entry))]
 pub(crate) fn key_turn(text: &[u8], tape: &mut [u32], m: Machine) -> Step
     requires { Here text.now m }
     ensures { stepped text.now result tape.new m ≡ key_turn text.now (view tape.old m.count) m }

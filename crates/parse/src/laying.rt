@@ -8,7 +8,14 @@ use tape::token::Token;
 use tape::words;
 
 // Adds a token, and goes on at a place in a state.
-pub(crate) fn lay(tape: &mut [u32], m: Machine, t: Token, at: usize, state: State) -> Result<Turn, Refusal>
+#[tactic(auto, unfolding(crate::specs::After::lay_then))]
+pub(crate) fn lay(
+    tape: &mut [u32],
+    m: Machine,
+    t: Token,
+    at: usize,
+    state: State,
+) -> Result<Turn, Refusal>
     ensures { after result tape.new ≡ lay_then t at state (view tape.old m.count) m }
 {
     let count = words::push(tape, m.count, t).ok_or(Refusal::Full)?;

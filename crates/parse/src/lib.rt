@@ -44,7 +44,12 @@ fn state_step(text: &[u8], tape: &mut [u32], m: Machine) -> Step
 }
 
 // A turn of the machine's state, at a byte that is no blank.
-fn state_turn(text: &[u8], table: &[u8; data::BYTE_COUNT], tape: &mut [u32], m: Machine) -> Result<Turn, Refusal>
+fn state_turn(
+    text: &[u8],
+    table: &[u8; data::BYTE_COUNT],
+    tape: &mut [u32],
+    m: Machine,
+) -> Result<Turn, Refusal>
     requires { LentHere text.now table.now m }
     ensures { after result tape.new ≡ state_turn text.now (view tape.old m.count) m }
 {
@@ -57,7 +62,13 @@ fn state_turn(text: &[u8], table: &[u8; data::BYTE_COUNT], tape: &mut [u32], m: 
 }
 
 // A turn: skips blanks, and then the state decides.
-fn turn(text: &[u8], table: &[u8; data::BYTE_COUNT], tape: &mut [u32], m: Machine) -> Result<Turn, Refusal>
+#[tactic(auto, unfolding(crate::specs::Parse::turn))]
+fn turn(
+    text: &[u8],
+    table: &[u8; data::BYTE_COUNT],
+    tape: &mut [u32],
+    m: Machine,
+) -> Result<Turn, Refusal>
     requires { Lent text.now table.now }
     ensures { after result tape.new ≡ turn text.now (view tape.old m.count) m }
 {

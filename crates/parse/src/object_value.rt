@@ -10,6 +10,7 @@ use crate::step::Step;
 use machine::{Machine, Refusal, State, Turn, byte_at};
 
 // A turn in ObjectValue, at a byte that is no blank.
+#[tactic(auto, unfolding(crate::specs::ObjectValue::object_value_turn, crate::specs::Step::entry))]
 pub(crate) fn object_value_turn(text: &[u8], tape: &mut [u32], m: Machine) -> Step
     requires { Here text.now m }
     ensures { stepped text.now result tape.new m

@@ -17,7 +17,14 @@ use tape::token::{ContainerKind, ScalarKind};
 use tape::{token, words};
 
 // Opens an Object whose first key is the run from start to end.
-fn parameter_object(tape: &mut [u32], m: Machine, start: usize, end: usize, rest: usize) -> Result<Turn, Refusal>
+#[tactic(auto, unfolding(crate::specs::Parameter::parameter_object, crate::specs::After::lay_then))]
+fn parameter_object(
+    tape: &mut [u32],
+    m: Machine,
+    start: usize,
+    end: usize,
+    rest: usize,
+) -> Result<Turn, Refusal>
     requires { (start ≤ end) × (end ≤ text_limit) }
     ensures { after result tape.new ≡ parameter_object start end rest (view tape.old m.count) m }
 {
@@ -33,6 +40,7 @@ fn parameter_object(tape: &mut [u32], m: Machine, start: usize, end: usize, rest
 }
 
 // What the byte after the run from start to end says that the run is.
+#[tactic(auto, unfolding(crate::specs::Parameter::value_or_object))]
 fn value_or_object(
     text: &[u8],
     tape: &mut [u32],
@@ -65,6 +73,7 @@ fn run_from(text: &[u8], table: &[u8; data::BYTE_COUNT], start: usize) -> usize
 }
 
 // The run after a parameter's name: its value, or the first key of its Object.
+#[tactic(auto, unfolding(crate::specs::Parameter::parameter_value))]
 fn parameter_value(
     text: &[u8],
     table: &[u8; data::BYTE_COUNT],
@@ -85,6 +94,7 @@ fn parameter_value(
 }
 
 // Adds the name from start to end, which `]` must end.
+#[tactic(auto, unfolding(crate::specs::Parameter::parameter_named, crate::specs::After::lay_then))]
 fn parameter_named(
     text: &[u8],
     table: &[u8; data::BYTE_COUNT],
@@ -105,6 +115,7 @@ fn parameter_named(
 }
 
 // Reads a name that starts at a place.
+#[tactic(auto, unfolding(crate::specs::Parameter::parameter_name))]
 fn parameter_name(
     text: &[u8],
     table: &[u8; data::BYTE_COUNT],
@@ -124,13 +135,19 @@ fn parameter_name(
 }
 
 // The kind of a name, by whether `!` stands before it. It and the place are told first, so that one call reads the name.
+#[tactic(auto, unfolding(crate::specs::Parameter::name_kind))]
 fn name_kind(undefined: bool) -> ScalarKind
     ensures { result ≡ name_kind undefined }
 {
-    if undefined { ScalarKind::UndefinedParameter } else { ScalarKind::Parameter }
+    if undefined {
+        ScalarKind::UndefinedParameter
+    } else {
+        ScalarKind::Parameter
+    }
 }
 
 // The place of a name behind `[[` or `[[!`.
+#[tactic(auto, unfolding(crate::specs::Parameter::name_start))]
 fn name_start(at: usize, undefined: bool) -> usize
     requires { at < text_limit }
     ensures { result ≡ name_start at undefined }
@@ -139,6 +156,7 @@ fn name_start(at: usize, undefined: bool) -> usize
 }
 
 // `[[` or `[[!` at the machine's place, with what follows it.
+#[tactic(auto, unfolding(crate::specs::Parameter::parameter))]
 pub(crate) fn parameter(
     text: &[u8],
     table: &[u8; data::BYTE_COUNT],

@@ -17,6 +17,7 @@ use tape::token::ContainerKind;
 use tape::{token, words};
 
 // Gives the opener that stands `back` tokens before the count its kind, and goes on inside it with mixed off.
+#[tactic(auto, unfolding(crate::specs::ParseOpen::settle))]
 fn settle(
     tape: &mut [u32],
     m: Machine,
@@ -39,16 +40,20 @@ fn settle(
 }
 
 // `}`: an empty Array, and its parent is taken up.
+#[tactic(auto, unfolding(crate::specs::ParseOpen::open_empty, crate::specs::Containers::close_at))]
 fn open_empty(tape: &mut [u32], m: Machine) -> Result<Turn, Refusal>
     requires { m.at < text_limit }
     ensures { after result tape.new ≡ open_empty (view tape.old m.count) m }
 {
     let up = container_at(tape, m.count, m.parent);
-    let count = close_at(tape, m.count, less(m.count, 1), ContainerKind::Array, false).ok_or(Refusal::Full)?;
+    let count = close_at(tape, m.count, less(m.count, 1), ContainerKind::Array, false).ok_or(
+        Refusal::Full,
+    )?;
     Ok(Turn::Next(resumed(up, m.parent, m.at + 1, count)))
 }
 
 // `[`: the container is an Object that begins with a parameter, which is due.
+#[tactic(auto, unfolding(crate::specs::ParseOpen::open_parameter))]
 fn open_parameter(tape: &mut [u32], m: Machine) -> Step
     ensures { (text : List ℕ) → stepped text result tape.new m ≡ open_parameter text (view tape.old m.count) m }
 {
@@ -66,6 +71,7 @@ fn open_parameter(tape: &mut [u32], m: Machine) -> Step
 }
 
 // `{`: an empty pair of braces is dropped, else the container is an Array whose first entry is a container.
+#[tactic(auto, unfolding(crate::specs::ParseOpen::open_brace))]
 fn open_brace(text: &[u8], tape: &mut [u32], m: Machine) -> Result<Turn, Refusal>
     requires { Here text.now m }
     ensures { after result tape.new ≡ open_brace text.now (view tape.old m.count) m }
@@ -80,6 +86,7 @@ fn open_brace(text: &[u8], tape: &mut [u32], m: Machine) -> Result<Turn, Refusal
 }
 
 // Sets the parent's stored flag where mixed is in force.
+#[tactic(auto, unfolding(crate::specs::ParseOpen::flag_parent))]
 pub(crate) fn flag_parent(tape: &mut [u32], m: Machine)
     ensures { view tape.new m.count ≡ flag_parent (view tape.old m.count) m }
 {
@@ -97,6 +104,7 @@ pub(crate) fn flag_parent(tape: &mut [u32], m: Machine)
 }
 
 // The byte after the first scalar says whether the container is an Object or an Array.
+#[tactic(auto, unfolding(crate::specs::ParseOpen::open_as))]
 pub(crate) fn open_as(text: &[u8], tape: &mut [u32], m: Machine) -> Result<Turn, Refusal>
     ensures { after result tape.new ≡ open_as text.now (view tape.old m.count) m }
 {
@@ -117,6 +125,7 @@ pub(crate) fn open_as(text: &[u8], tape: &mut [u32], m: Machine) -> Result<Turn,
 }
 
 // A turn in ParseOpen, at a byte that is no blank.
+#[tactic(auto, unfolding(crate::specs::ParseOpen::parse_open_turn, crate::specs::Step::entry))]
 pub(crate) fn parse_open_turn(text: &[u8], tape: &mut [u32], m: Machine) -> Step
     requires { Here text.now m }
     ensures { stepped text.now result tape.new m ≡ parse_open_turn text.now (view tape.old m.count) m }

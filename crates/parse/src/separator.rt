@@ -13,6 +13,7 @@ use operator::{Operator, Sighted};
 use tape::{token, words};
 
 // Puts a MixedContainer in before the last token, and goes on in ArrayValue with mixed on.
+#[tactic(auto, unfolding(crate::specs::KeyValueSeparator::mix_then))]
 fn mix(tape: &mut [u32], m: Machine) -> Result<Turn, Refusal>
     ensures { after result tape.new ≡ mix_then (view tape.old m.count) m (λ t m'. next m' t) }
 {
@@ -21,7 +22,13 @@ fn mix(tape: &mut [u32], m: Machine) -> Result<Turn, Refusal>
 }
 
 // An operator between a key and its value; `=` is the usual one and adds no token.
-fn separator_then(tape: &mut [u32], m: Machine, operator: Operator, width: usize) -> Result<Turn, Refusal>
+#[tactic(auto, unfolding(crate::specs::KeyValueSeparator::separator_then))]
+fn separator_then(
+    tape: &mut [u32],
+    m: Machine,
+    operator: Operator,
+    width: usize,
+) -> Result<Turn, Refusal>
     requires { (m.at < text_limit) × (width ≤ 2) }
     ensures { after result tape.new ≡ separator_then operator width (view tape.old m.count) m }
 {
@@ -39,6 +46,7 @@ fn separator_then(tape: &mut [u32], m: Machine, operator: Operator, width: usize
 }
 
 // A turn in KeyValueSeparator, at a byte that is no blank.
+#[tactic(auto, unfolding(crate::specs::KeyValueSeparator::separator_turn))]
 pub(crate) fn separator_turn(text: &[u8], tape: &mut [u32], m: Machine) -> Result<Turn, Refusal>
     requires { Here text.now m }
     ensures { after result tape.new ≡ separator_turn text.now (view tape.old m.count) m }
@@ -64,6 +72,7 @@ fn is_separator(state: State) -> bool
 }
 
 // Whether a machine in KeyValueSeparator has next the `=` that most keys have right behind them, and no second one.
+#[tactic(auto, unfolding(crate::specs::Equals::at_equals))]
 fn at_equals(text: &[u8], m: Machine) -> bool
     ensures { result ≡ at_equals text.now m }
 {

@@ -24,6 +24,7 @@ pub enum Step {
 
 // After a scalar: in ParseOpen it is the container's first entry, and the byte behind it decides. Else the machine goes on as it is, made
 // anew field by field, since a copy of the whole would go through memory.
+#[tactic(auto, unfolding(crate::specs::Step::entered))]
 fn entered(text: &[u8], tape: &mut [u32], m: Machine) -> Result<Turn, Refusal>
     ensures { after result tape.new ≡ entered text.now (view tape.old m.count) m }
 {
@@ -35,7 +36,13 @@ fn entered(text: &[u8], tape: &mut [u32], m: Machine) -> Result<Turn, Refusal>
 }
 
 // Takes the scalar that is due, and goes on past it in a state.
-pub(crate) fn entry(text: &[u8], tape: &mut [u32], m: Machine, state: State) -> Result<Turn, Refusal>
+#[tactic(auto, using(crate::proofs::Steps::entry_taken))]
+pub(crate) fn entry(
+    text: &[u8],
+    tape: &mut [u32],
+    m: Machine,
+    state: State,
+) -> Result<Turn, Refusal>
     requires { length text.now ≤ text_limit }
     ensures { after result tape.new ≡ entry text.now state (view tape.old m.count) m }
 {

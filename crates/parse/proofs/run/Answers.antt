@@ -2,7 +2,10 @@
 -- start.
 -- Assumes nothing.
 use native.Mathlib.Omega.{arith}
-use mathlib.Core.Path.{refl, sym, ◌∙◌}
+use mathlib.Core.Path.{◌≡◌, refl, sym, ◌∙◌, ap}
+use Rattle.std.specs.Prelude.{Ok, Err}
+use Rattle.std.proofs.Common.{rules}
+use Rattle.machine.specs.declared.Turn.{Turn}
 use Rattle.tape.specs.Tape.{view}
 use Rattle.parse.proofs.Equals.{fell, goes_on}
 use Rattle.parse.proofs.Falls.{left}
@@ -20,14 +23,14 @@ turn-requires c =
 
 pub loop-after-smaller : goal.loop-after-smaller
 loop-after-smaller c =
-    fell _ _ _ _ _ _ _ c.turn.ensures c.in-Next.is c.past_equals-m.ensures
+    fell _ _ _ _ _ _ _ c.turn.ensures (c.in_ok-after.was ∙ ap (λ (t : Turn). Ok t) c.in-Next.is) c.past_equals-m.ensures
 
 pub loop-after-preserved : goal.loop-after-preserved
 loop-after-preserved c = (
   c.turn.auto.tape ∙ c.loop-after.invariant.0,
   c.loop-after.invariant.1,
   c.loop-after.invariant.2
-      ∙ goes_on _ _ _ _ _ _ _ c.turn.ensures c.in-Next.is c.past_equals-m.ensures,
+      ∙ goes_on _ _ _ _ _ _ _ c.turn.ensures (c.in_ok-after.was ∙ ap (λ (t : Turn). Ok t) c.in-Next.is) c.past_equals-m.ensures,
 )
 
 pub returns-in-Done : goal.returns-in-Done
@@ -38,16 +41,18 @@ returns-in-Done c =
     ∙ rw (
       run-turn text (left text m.at m.state) m (view c.loop-after.tape m.count),
       ← c.turn.ensures,
+      c.in_ok-after.was,
       c.in-Done.is,
     ) (run-done text _ _ _))
 
-pub returns-in-Refused : goal.returns-in-Refused
-returns-in-Refused c =
+pub returns-in_err-after : goal.returns-in_err-after
+returns-in_err-after c =
     let text = c.args.text.now in
     let m = c.loop-after.m in
-    sym (c.loop-after.invariant.2
+    let e : c.from_residual.result ≡ Err c.in_err-after.field-0.0 = search rules in
+    rw e (sym (c.loop-after.invariant.2
     ∙ rw (
       run-turn text (left text m.at m.state) m (view c.loop-after.tape m.count),
       ← c.turn.ensures,
-      c.in-Refused.is,
-    ) (run-refused text _ _))
+      c.in_err-after.was,
+    ) (run-refused text _ _)))

@@ -16,20 +16,3 @@ viewed-requires-in-Quoted c =
     let e = sym c.scalar_at.ensures ∙ c.in-Quoted.is in
     let b = quoted_bounds _ _ _ _ _ _ e in
     omega (arith, b.starts, b.run.from, b.run.within)
-
-pub returns-in-Unquoted : goal.returns-in-Unquoted
-returns-in-Unquoted c =
-    rw (← c.scalar_at.ensures, c.in-Unquoted.is, c.viewed.ensures)
-
-pub returns-in-Quoted : goal.returns-in-Quoted
-returns-in-Quoted c =
-    rw (
-      ← c.scalar_at.ensures,
-      c.in-Quoted.is,
-      c.viewed-in-Quoted.ensures,
-      c.quoted_kind.ensures,
-    )
-
-pub returns-in-End : goal.returns-in-End
-returns-in-End c =
-    rw (← c.scalar_at.ensures, c.in-End.is)
