@@ -16,7 +16,7 @@ use Rattle.report.specs.Sheets as sheets
 use Rattle.file_lines.specs.Lines.{file_text, sheet_text}
 use Rattle.answers.specs.declared.Answer.{Answer}
 use Rattle.answers.specs.declared.Answer.TheVariants.{Put, Bad}
-use Rattle.sheet.specs.declared.views.View.{View}
+use Rattle.sheet.specs.declared.views.Viewed.{Viewed}
 
 -- the most bytes of an answer: no other is as long as the longest dump
 abbrev pub most_answer : ℕ
@@ -52,7 +52,7 @@ pub data Answers (capacity : ℕ) (body : List ℕ) : List ℕ → Type 0 where
   date : Answers capacity body (date_line body)
   day : length body ≡ word_bytes → Answers capacity body (day_line (word_in body 0))
   verdict : (sound : Bool) → Answers capacity body (sheets.verdict sound)
-  view : (from size : ℕ) (v : Option View) → Answers capacity body (sheets.view_text (take size (drop from body)) v)
+  view : (from size : ℕ) (v : Option Viewed) → Answers capacity body (sheets.view_text (take size (drop from body)) v)
   written : (w : Written) (buffer : List ℕ) → length buffer ≤ most_input → Answers capacity body (sheets.written_text w buffer)
   filed : (w : file.Written) (buffer : List ℕ) → length buffer ≤ most_input → Answers capacity body (file_text w buffer)
   found : (f : Found) (words : List ℕ) → files.Reads body (min capacity most_words) (files.left f words) → Answers capacity body (sheet_text f words)

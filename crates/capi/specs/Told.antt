@@ -21,14 +21,14 @@ use Rattle.tape.specs.declared.token.Token.{Token}
 use Rattle.writer.specs.Refusals.{length_of}
 use Rattle.writer.specs.Refusals.{refusal_of as write-refusal-of}
 use Rattle.writer.specs.Write.{Left, left}
-use Rattle.sheet.specs.declared.views.View.{View}
+use Rattle.sheet.specs.declared.views.Viewed.{Viewed}
 
 -- a view: its refusal, its offset and its length
 pub data ViewTold : Type 0 where
   view_told : (refusal offset size : ℕ) → ViewTold
 
 -- a refused view is empty, at the text's start
-abbrev pub tell_view : Option View → ViewTold
+abbrev pub tell_view : Option Viewed → ViewTold
 tell_view (Some v) = view_told (refusal_of (seen v.offset v.length)) v.offset v.length
 tell_view None = view_told (refusal_of None) 0 0
 

@@ -28,7 +28,7 @@ ghost use Rattle.capi.specs.Told.{read_told, tell_bool, tell_u64, tell_i64, tell
 use date::Date;
 use file::Found;
 use sheet::views;
-use sheet::views::View;
+use sheet::views::Viewed;
 use tape::words;
 use writer::Written;
 
@@ -93,7 +93,7 @@ pub fn tackacorn_view(
         ≡ tell_view (viewed (length text.now) words.now count index) }
 {
     let found = views::view_of(text, words, count, index);
-    let view = found.unwrap_or(View {
+    let view = found.unwrap_or(Viewed {
         offset: 0,
         length: 0,
     });

@@ -1,6 +1,7 @@
 -- Case splits that hand over their equation, and what a test of two tells of each.
 -- Assumes nothing.
-use mathlib.Core.Path.{◌≡◌, refl, sym}
+use Rattle.std.specs.Prelude.{Option, Some}
+use mathlib.Core.Path.{◌≡◌, refl, sym, ◌∙◌, ap}
 use mathlib.Core.Bool.{Bool, true, false, ◌||◌, ◌&&◌, false≢true}
 
 -- by whether a test holds
@@ -17,3 +18,7 @@ neither false b h = (refl, h)
 pub both : (a b : Bool) → (a && b) ≡ true → (a ≡ true) × (b ≡ true)
 both true b e = (refl, e)
 both false b e = absurd (false≢true e)
+
+-- what stands in an option, by what that is
+pub some_as : {A : Type 0} {x : Option A} {y z : A} → x ≡ Some y → y ≡ z → x ≡ Some z
+some_as {A} {x} {y} {z} e f = e ∙ ap (λ (a : A). Some a) f

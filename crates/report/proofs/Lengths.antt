@@ -49,7 +49,7 @@ use Rattle.report.specs.Dump.{field}
 use Rattle.report.specs.Readings.{integer, bool_text, u64_text, i64_text, f64_text, exact_of, readings_of, left_text, leading_of}
 use Rattle.report.specs.Room.{most_input}
 use Rattle.report.specs.Sheets.{verdict, hex_bytes, view_text, written_text}
-use Rattle.sheet.specs.declared.views.View.{View}
+use Rattle.sheet.specs.declared.views.Viewed.{Viewed}
 
 -- a refusal of a reading has two digits
 pub two_short : (n : ℕ) → n < 100 → length (decimal n) ≤ 2
@@ -215,7 +215,7 @@ pub verdict-short : (sound : Bool) → length (verdict sound) ≤ 8
 verdict-short true = omega arith
 verdict-short false = omega arith
 
-pub view-short : (text : List ℕ) (v : Option View) → length (view_text text v) ≤ 2 * length text + 11
+pub view-short : (text : List ℕ) (v : Option Viewed) → length (view_text text v) ≤ 2 * length text + 11
 view-short text (Some v) =
     simp length-append
     (omega (arith, hex_bytes-short (take v.length (drop v.offset text)), length-take v.length (drop v.offset text), length-drop v.offset text))

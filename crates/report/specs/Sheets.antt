@@ -10,7 +10,7 @@ use Rattle.writer.specs.Write.{Left, left}
 use Rattle.put.specs.Append.{Wrote, append}
 use Rattle.report.specs.Digits.{decimal, hex}
 use Rattle.report.specs.Words as words
-use Rattle.sheet.specs.declared.views.View.{View}
+use Rattle.sheet.specs.declared.views.Viewed.{Viewed}
 
 -- the verdict on a sheet
 abbrev pub verdict : Bool → List ℕ
@@ -27,7 +27,7 @@ hex_bytes [] = []
 hex_bytes (b ∷ bs) = hex 2 b ++ hex_bytes bs
 
 -- a token's part of the text, or the refusal
-abbrev pub view_text : List ℕ → Option View → List ℕ
+abbrev pub view_text : List ℕ → Option Viewed → List ℕ
 view_text text (Some v) = words.view ++ hex_bytes (take v.length (drop v.offset text)) ++ (line_feed ∷ [])
 view_text text None = words.refused ++ decimal (refusal_of None) ++ (line_feed ∷ [])
 

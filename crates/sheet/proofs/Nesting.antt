@@ -12,7 +12,6 @@ use borrow.Author.Tests.{eq-eqb, eqb-true, eqb-false, ltb-true, ltb-false}
 use lib.Dec.{eqb, ltb}
 use Rattle.data.proofs.Cases.{by_bool}
 use Rattle.tape.specs.declared.token.Token.{Token}
-use Rattle.tape.specs.declared.shape.Link.{Link}
 use Rattle.tape.specs.declared.shape.Link.TheVariants.{ToEnd, ToOpener}
 use Rattle.tape.specs.Token.{end_of}
 use Rattle.tape.specs.Shape.{link_of, Opens}

@@ -17,13 +17,13 @@ use Rattle.tape.specs.declared.shape.Shape.TheVariants.{Opener, MixedContainer, 
 use Rattle.tape.specs.Shape.{shape_of}
 use Rattle.tape.specs.Words.{words_for, token_in}
 use Rattle.sheet.specs.Views.{past_text, placed, viewed, part_of, place_of, seen}
-use Rattle.sheet.specs.declared.views.View.{View}
+use Rattle.sheet.specs.declared.views.Viewed.{Viewed}
 
-refused_not : {r : Option View} {offset size : ℕ} → r ≡ None → r ≡ seen offset size → ⊥
+refused_not : {r : Option Viewed} {offset size : ℕ} → r ≡ None → r ≡ seen offset size → ⊥
 refused_not e f = let z : ◌≡◌ {A = ℕ} 0 1 = cc in omega arith
 
 same_sum : {a b c d : ℕ} → seen a b ≡ seen c d → c + d ≡ a + b
-same_sum e = cc
+same_sum e = sym (ap (elim [ Some v ↦ v.offset + v.length | None ↦ 0 ]) e)
 
 -- ---- a view that is placed lies in the text
 placed-within : (L : ℕ) (s : Option Shape) {offset size : ℕ} → placed L s ≡ seen offset size → offset + size ≤ L
@@ -70,11 +70,11 @@ module _ (L : ℕ) (ws : List ℕ) (n i : ℕ) where
 
 -- ---- the part that an answer names, by its bytes and by its place
 module _ (text : List ℕ) (start : ℕ × ℕ) where
-  pub part-here : {r : Option View} {offset size : ℕ} → r ≡ seen offset size
+  pub part-here : {r : Option Viewed} {offset size : ℕ} → r ≡ seen offset size
       → (take (offset + size - offset) (drop offset text) ≡ part_of text r) × ((start.0, offset + start.1) ≡ place_of start r)
   part-here {r} {offset} {size} e =
       let whole : offset + size - offset ≡ size = omega arith in
       (rw (e, whole), rw e (ap (λ (n : ℕ). (start.0, n)) (add_comm offset start.1)))
 
-  pub part_none : {r : Option View} → r ≡ None → ([] ≡ part_of text r) × (start ≡ place_of start r)
+  pub part_none : {r : Option Viewed} → r ≡ None → ([] ≡ part_of text r) × (start ≡ place_of start r)
   part_none e = (rw e, rw e)

@@ -3,7 +3,7 @@ use Rattle.std.specs.Prelude.{ℕ, ◌≤◌, ◌≡◌, Bool, true, List, ◌�
 use Rattle.tape.specs.Words.{words_for}
 use Rattle.sheet.specs.Sound.{Sound}
 use Rattle.sheet.specs.Views.{refusal_of, refusal_place, viewed}
-use Rattle.sheet.specs.declared.views.View.{View}
+use Rattle.sheet.specs.declared.views.Viewed.{Viewed}
 
 -- Count 0 is sound.
 abbrev pub NoneSound : Type 0
@@ -31,4 +31,4 @@ ViewIgnores =
 
 -- 12 NoScalar: its place is 0
 abbrev pub RefusedPlace : Type 0
-RefusedPlace = (r : Option View) → refusal_of r ≡ 12 → refusal_place r ≡ 0
+RefusedPlace = (r : Option Viewed) → refusal_of r ≡ 12 → refusal_place r ≡ 0

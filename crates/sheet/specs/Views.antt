@@ -6,19 +6,19 @@ use Rattle.tape.specs.declared.shape.Link.{Link}
 use Rattle.tape.specs.declared.shape.Link.TheVariants.{ToEnd, ToOpener}
 use Rattle.tape.specs.Shape.{shape_of, link_of}
 use Rattle.tape.specs.Words.{words_for, token_in}
-use Rattle.sheet.specs.declared.views.View.{View}
+use Rattle.sheet.specs.declared.views.Viewed.{Viewed}
 
 -- a view at an offset, with a length
-abbrev pub seen : ℕ → ℕ → Option View
+abbrev pub seen : ℕ → ℕ → Option Viewed
 seen offset length = Some (record { offset = offset; length = length })
 
 -- document 01's number for the refusal, 0 where there is none
-abbrev pub refusal_of : Option View → ℕ
+abbrev pub refusal_of : Option Viewed → ℕ
 refusal_of (Some v) = 0
 refusal_of None = 12
 
 -- and its place, 0 for the refusal and where there is none
-abbrev pub refusal_place : Option View → ℕ
+abbrev pub refusal_place : Option Viewed → ℕ
 refusal_place (Some v) = 0
 refusal_place None = 0
 
@@ -41,7 +41,7 @@ abbrev pub past_text : ℕ → ℕ → ℕ → Bool
 past_text text_length offset size = ltb text_length (offset + size)
 
 -- where a scalar's view lies, unless it ends past the text
-unfoldable pub placed : ℕ → Option Shape → Option View
+unfoldable pub placed : ℕ → Option Shape → Option Viewed
 placed text_length (Some (Scalar kind offset size)) = elim (past_text text_length offset size) [ true ↦ None | false ↦ seen offset size ]
 placed text_length (Some (Opener end)) = None
 placed text_length (Some MixedContainer) = None
@@ -51,7 +51,7 @@ placed text_length None = None
 
 -- refused where the index is not below the count, the words of the count are over the words, the token is no scalar, or its
 -- view is outside the text
-unfoldable pub viewed : ℕ → List ℕ → ℕ → ℕ → Option View
+unfoldable pub viewed : ℕ → List ℕ → ℕ → ℕ → Option Viewed
 viewed text_length words count i =
     elim (ltb i count) [
       | true ↦ elim (leb (words_for count) (length words)) [
@@ -62,11 +62,11 @@ viewed text_length words count i =
     ]
 
 -- the part of the text that an answer names, empty for the refusal
-abbrev pub part_of : List ℕ → Option View → List ℕ
+abbrev pub part_of : List ℕ → Option Viewed → List ℕ
 part_of text (Some v) = take v.length (drop v.offset text)
 part_of text None = []
 
 -- where that part lies, in a text that starts at a place: so many bytes behind the start, at the start for the refusal
-abbrev pub place_of : ℕ × ℕ → Option View → ℕ × ℕ
+abbrev pub place_of : ℕ × ℕ → Option Viewed → ℕ × ℕ
 place_of start (Some v) = (start.0, start.1 + v.offset)
 place_of start None = start

@@ -25,9 +25,13 @@ pub mod views;
 fn check_source(text_length: usize, words: &[u32], bytes: &[u8], count: usize) -> bool
     ensures { (result ≡ true) ↔ Sound text_length (behind words.now bytes.now) count }
 {
-    source::holds(words, bytes, count)
-        && stands::all_stand(text_length, words, bytes, count)
-        && nests::nest(words, bytes, count)
+    if !source::holds(words, bytes, count) {
+        return false;
+    }
+    if !stands::all_stand(text_length, words, bytes, count) {
+        return false;
+    }
+    nests::nest(words, bytes, count)
 }
 
 // Whether the first count tokens of the words are a sound sheet for a text of a length.
@@ -60,9 +64,13 @@ fn lay_sound(text_length: usize, bytes: &[u8], count: usize, words: &mut [u32]) 
     ensures size { length words.new ≡ length words.old }
 {
     let none = [0u32; 1];
-    source::holds(&none[..0], bytes, count)
-        && stands::all_stand(text_length, &none[..0], bytes, count)
-        && lays::nest_onto(bytes, words, count)
+    if !source::holds(&none[..0], bytes, count) {
+        return false;
+    }
+    if !stands::all_stand(text_length, &none[..0], bytes, count) {
+        return false;
+    }
+    lays::nest_onto(bytes, words, count)
 }
 
 // The same of tokens that stand in bytes, which are laid down where they are sound and the words have room for them, with zeros behind

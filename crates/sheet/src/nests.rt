@@ -35,10 +35,14 @@ pub(crate) fn nest(words: &[u32], bytes: &[u8], count: usize) -> bool
     ensures { (result ≡ true) ↔ ((i : ℕ) → Nested (tokens_in (behind words.now bytes.now) count) i) }
 {
     for i in (0..count).rev() {
-        if let Some(Link::ToEnd(end)) = shape::link_of(source::token_of(words, bytes, count, i)) {
-            if !walk(words, bytes, count, i, end as usize) {
-                return false;
+        match shape::link_of(source::token_of(words, bytes, count, i)) {
+            Some(Link::ToEnd(end)) => {
+                if !walk(words, bytes, count, i, end as usize) {
+                    return false;
+                }
             }
+            Some(Link::ToOpener(_)) => {}
+            None => {}
         }
     }
     true

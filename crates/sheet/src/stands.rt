@@ -22,7 +22,8 @@ fn closes(words: &[u32], bytes: &[u8], count: usize, i: usize, end: u32) -> bool
     }
     match shape::link_of(source::token_of(words, bytes, count, at)) {
         Some(Link::ToOpener(opener)) => (opener as usize) == i,
-        Some(Link::ToEnd(_)) | None => false,
+        Some(Link::ToEnd(_)) => false,
+        None => false,
     }
 }
 
@@ -36,7 +37,8 @@ fn opened(words: &[u32], bytes: &[u8], count: usize, i: usize, opener: u32) -> b
     }
     match shape::link_of(source::token_of(words, bytes, count, at)) {
         Some(Link::ToEnd(end)) => (end as usize) == i,
-        Some(Link::ToOpener(_)) | None => false,
+        Some(Link::ToOpener(_)) => false,
+        None => false,
     }
 }
 
@@ -46,7 +48,8 @@ fn opens(words: &[u32], bytes: &[u8], count: usize, at: usize) -> bool
 {
     match shape::link_of(source::token_of(words, bytes, count, at)) {
         Some(Link::ToEnd(_)) => true,
-        Some(Link::ToOpener(_)) | None => false,
+        Some(Link::ToOpener(_)) => false,
+        None => false,
     }
 }
 
@@ -97,11 +100,13 @@ fn token_stands(
 {
     match shape {
         Some(Shape::Opener { end }) => i != 0 && closes(words, bytes, count, i, end),
-        Some(Shape::Scalar {
-            kind,
-            offset,
-            length,
-        }) => suits(
+        Some(
+            Shape::Scalar {
+                kind,
+                offset,
+                length,
+            },
+        ) => suits(
             text_length,
             words,
             bytes,
@@ -112,12 +117,14 @@ fn token_stands(
             length,
         ),
         Some(Shape::End { opener }) => opened(words, bytes, count, i, opener),
-        Some(Shape::MixedContainer) | Some(Shape::Operator { .. }) => true,
+        Some(Shape::MixedContainer) => true,
+        Some(Shape::Operator { .. }) => true,
         None => false,
     }
 }
 
 // The least start that the scalars after a token of a shape may have: past its start, and past its end. None where it came too early.
+#[tactic(auto, unfolding(crate::specs::Steps::floor_after))]
 fn raised(shape: Option<Shape>, floor: usize) -> Option<usize>
     ensures { result ≡ floor_after shape floor }
 {

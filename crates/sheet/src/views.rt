@@ -8,7 +8,7 @@ use tape::{shape, words};
 
 // Where a token's view lies.
 #[derive(Clone, Copy)]
-pub struct View {
+pub struct Viewed {
     pub offset: usize,
     pub length: usize,
 }
@@ -17,7 +17,7 @@ pub struct View {
 pub const NO_SCALAR: u32 = 12;
 
 // The refusal's number of a view, 0 where there is one.
-pub fn refusal(view: Option<View>) -> u32
+pub fn refusal(view: Option<Viewed>) -> u32
     ensures { result ≡ refusal_of view }
 {
     match view {
@@ -27,6 +27,7 @@ pub fn refusal(view: Option<View>) -> u32
 }
 
 // A token's code, 0 where there is no token.
+#[tactic(auto, unfolding(crate::specs::Views::code_in))]
 pub fn code(words: &[u32], count: usize, index: usize) -> u32
     ensures { result ≡ code_in words.now count index }
 {
@@ -34,6 +35,7 @@ pub fn code(words: &[u32], count: usize, index: usize) -> u32
 }
 
 // The index of an opener's End or of an End's opener, 0 where there is none.
+#[tactic(auto, unfolding(crate::specs::Views::link_in, tape::specs::Words::token_in))]
 pub fn link(words: &[u32], count: usize, index: usize) -> u32
     ensures { result ≡ link_in words.now count index }
 {
@@ -44,13 +46,14 @@ pub fn link(words: &[u32], count: usize, index: usize) -> u32
 }
 
 // Where the view of a token of a shape lies in a text of a length.
-fn place(text_length: usize, shape: Option<Shape>) -> Option<View>
+#[tactic(auto, unfolding(crate::specs::Views::placed))]
+fn place(text_length: usize, shape: Option<Shape>) -> Option<Viewed>
     ensures { result ≡ placed text_length shape }
 {
     let Some(Shape::Scalar { offset, length, .. }) = shape else {
         return None;
     };
-    let view = View {
+    let view = Viewed {
         offset: offset as usize,
         length: length as usize,
     };
@@ -61,10 +64,13 @@ fn place(text_length: usize, shape: Option<Shape>) -> Option<View>
 }
 
 // Whether token `index` has a view, and where it lies.
-pub fn view_of(text: &[u8], words: &[u32], count: usize, index: usize) -> Option<View>
+pub fn view_of(text: &[u8], words: &[u32], count: usize, index: usize) -> Option<Viewed>
     ensures { result ≡ viewed (length text.now) words.now count index }
 {
-    if count <= index || !words::holds(words, count) {
+    if count <= index {
+        return None;
+    }
+    if !words::holds(words, count) {
         return None;
     }
     place(
@@ -79,9 +85,9 @@ pub fn view<'a, 'b>(text: &'a [u8], words: &'b [u32], count: usize, index: usize
     ensures place { result.ref_ptr ≡ place_of text.entry.ref_ptr (viewed (length text.now) words.now count index) }
 {
     match view_of(text, words, count, index) {
-        Some(View { offset, length }) => {
-            let end = offset + length;
-            &text[offset..end]
+        Some(view) => {
+            let end = view.offset + view.length;
+            &text[view.offset..end]
         }
         None => &text[..0],
     }

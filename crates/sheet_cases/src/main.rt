@@ -7,7 +7,7 @@
 
 use input::read_full;
 use sheet::views;
-use sheet::views::View;
+use sheet::views::Viewed;
 use std::io;
 
 // The numbers of a line.
@@ -70,7 +70,7 @@ fn print_view(
 ) -> io::Result<()> {
     let answer = views::view_of(text, words, count, index);
     match answer {
-        Some(View { offset, length }) => {
+        Some(Viewed { offset, length }) => {
             print_number(rt, offset)?;
             print_number(rt, length)?;
         }

@@ -6,20 +6,20 @@ use Rattle.sheet.proofs.check_source.Goals as goal
 
 pub all_stand-requires : goal.all_stand-requires
 all_stand-requires c =
-    check-fits (behind c.args.words.now c.args.bytes.now) _ c.holds.ensures c.if-holds.true
+    check-fits (behind c.args.words.now c.args.bytes.now) _ c.holds.ensures c.if-not-holds.false
 
 pub nest-requires : goal.nest-requires
-nest-requires c = standing-linked _ _ (c.all_stand.ensures.0 c.if-all_stand.true)
+nest-requires c = standing-linked _ _ (c.all_stand.ensures.0 c.if-not-all_stand.false)
 
-pub returns-then-all_stand : goal.returns-then-all_stand
-returns-then-all_stand c =
+pub returns : goal.returns
+returns c =
     check-nested _ _ _
-    (check-fits (behind c.args.words.now c.args.bytes.now) _ c.holds.ensures c.if-holds.true)
-    (c.all_stand.ensures.0 c.if-all_stand.true)
+    (check-fits (behind c.args.words.now c.args.bytes.now) _ c.holds.ensures c.if-not-holds.false)
+    (c.all_stand.ensures.0 c.if-not-all_stand.false)
     c.nest.ensures
 
-pub returns-else-all_stand : goal.returns-else-all_stand
-returns-else-all_stand c = check_fallen _ _ _ c.all_stand.ensures c.if-all_stand.false
+pub returns-then-not-all_stand : goal.returns-then-not-all_stand
+returns-then-not-all_stand c = check_fallen _ _ _ c.all_stand.ensures c.if-not-all_stand.true
 
-pub returns-else-holds : goal.returns-else-holds
-returns-else-holds c = check-short _ _ _ c.holds.ensures c.if-holds.false
+pub returns-then-not-holds : goal.returns-then-not-holds
+returns-then-not-holds c = check-short _ _ _ c.holds.ensures c.if-not-holds.true

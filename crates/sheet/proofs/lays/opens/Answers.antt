@@ -1,10 +1,11 @@
 -- `sheet::lays::opens` meets its contract.
 -- Assumes nothing.
+use borrow.Author.Tests.{eq-eqb}
 use Rattle.sheet.proofs.Chaining.{opens-array, opens-object}
 use Rattle.sheet.proofs.lays.opens.Goals as goal
 
-pub returns-then-t-eq-ARRAY : goal.returns-then-t-eq-ARRAY
-returns-then-t-eq-ARRAY c = opens-array _ c.requires c.if-t-eq-ARRAY.true
+pub returns-then-t : goal.returns-then-t
+returns-then-t c = rw (eq-eqb _ _ c.if-t.true) (opens-array _ c.requires c.if-t.true)
 
-pub returns : goal.returns
-returns c = opens-object _ c.requires c.if-t-eq-ARRAY.false
+pub returns-else-t : goal.returns-else-t
+returns-else-t c = opens-object _ c.requires c.if-t.false

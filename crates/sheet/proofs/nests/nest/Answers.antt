@@ -1,6 +1,6 @@
 -- `sheet::nests::nest` meets its contract. The invariant: the containers from i on nest.
 -- Assumes nothing.
-use native.Mathlib.Omega.{arith}
+use Rattle.data.proofs.Cases.{some_as}
 use Rattle.sheet.proofs.Links.{read-link}
 use Rattle.sheet.proofs.Nesting.{nested-past, nested-all, nested-more, nested-end, nested-none, walkable, nested_not}
 use Rattle.sheet.proofs.nests.nest.Goals as goal
@@ -8,39 +8,27 @@ use Rattle.sheet.proofs.nests.nest.Goals as goal
 pub loop-i-init : goal.loop-i-init
 loop-i-init c = nested-past _ _
 
-pub overflow_sub-i : goal.overflow_sub-i
-overflow_sub-i c = omega arith
-
 pub walk-requires : goal.walk-requires
 walk-requires c =
     walkable _ _ c.loop-i-test.true c.loop-i.invariant c.requires
-    (read-link _ _ _ c.token_of.ensures c.link_of.ensures c.in-ToEnd.is)
+    (read-link _ _ _ c.token_of.ensures c.link_of.ensures (some_as c.in-Some-ToEnd.is c.in-Some-ToEnd.field-0-is))
 
 pub returns-then-not-walk : goal.returns-then-not-walk
 returns-then-not-walk c = nested_not _ _ c.walk.ensures c.if-not-walk.true
-
-pub loop-i-smaller-else-not-walk : goal.loop-i-smaller-else-not-walk
-loop-i-smaller-else-not-walk c = omega arith
 
 pub loop-i-preserved-else-not-walk : goal.loop-i-preserved-else-not-walk
 loop-i-preserved-else-not-walk c =
     nested-more _ _ c.loop-i-test.true c.loop-i.invariant (c.walk.ensures.nests c.if-not-walk.false)
 
-pub loop-i-smaller-in-ToOpener : goal.loop-i-smaller-in-ToOpener
-loop-i-smaller-in-ToOpener c = omega arith
-
-pub loop-i-preserved-in-ToOpener : goal.loop-i-preserved-in-ToOpener
-loop-i-preserved-in-ToOpener c =
+pub loop-i-preserved-in-Some-ToOpener : goal.loop-i-preserved-in-Some-ToOpener
+loop-i-preserved-in-Some-ToOpener c =
     nested-end _ _ c.loop-i-test.true c.loop-i.invariant
-    (read-link _ _ _ c.token_of.ensures c.link_of.ensures c.in-ToOpener.is)
-
-pub loop-i-smaller : goal.loop-i-smaller
-loop-i-smaller c = omega arith
+    (read-link _ _ _ c.token_of.ensures c.link_of.ensures (some_as c.in-Some-ToOpener.is c.in-Some-ToOpener.field-0-is))
 
 pub loop-i-preserved : goal.loop-i-preserved
 loop-i-preserved c =
     nested-none _ _ c.loop-i-test.true c.loop-i.invariant
-    (read-link _ _ _ c.token_of.ensures c.link_of.ensures c.in-Nothing.is)
+    (read-link _ _ _ c.token_of.ensures c.link_of.ensures c.in-None.is)
 
 pub returns : goal.returns
 returns c = nested-all _ c.loop-i.invariant c.loop-i-test.false

@@ -6,6 +6,3 @@ use Rattle.sheet.proofs.nests.nest.Given as goal
 
 abbrev pub invariant-loop-i : goal.invariant-loop-i
 invariant-loop-i l = NestedFrom (tokens_in (behind l.words l.bytes) l.count) l.i
-
-abbrev pub decreases-loop-i : goal.decreases-loop-i
-decreases-loop-i l = l.i

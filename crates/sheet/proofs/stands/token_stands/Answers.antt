@@ -1,28 +1,42 @@
 -- `sheet::stands::token_stands` meets its contract: one law for each shape.
 -- Assumes nothing.
-use mathlib.Core.Path.{sym, ◌∙◌}
+use mathlib.Core.Path.{◌≡◌, sym, ◌∙◌}
+use Rattle.std.specs.Prelude.{Some}
+use Rattle.tape.specs.declared.shape.Shape.TheVariants as Shapes
+use Rattle.std.proofs.Common.{rules}
+use borrow.Author.Tests.{eq-eqb}
 use Rattle.sheet.proofs.Tokens.{first-opens, opener-held, mixed_container-held, scalar-held, operator-held, end-held, nothing-held}
 use Rattle.sheet.proofs.stands.token_stands.Goals as goal
 
-pub returns-then-i-eq0 : goal.returns-then-i-eq0
-returns-then-i-eq0 c =
-    first-opens _ _ _ (sym c.requires.2 ∙ c.in-Opener.is) c.if-i-eq0.true
+pub returns-else-i-ne0 : goal.returns-else-i-ne0
+returns-else-i-ne0 c =
+    let is : c.args.shape ≡ Some (Shapes.Opener c.in-Some-Opener.end) = search rules in
+    rw (eq-eqb _ _ c.if-i-ne0.false) (first-opens _ _ _ (sym c.requires.2 ∙ is) c.if-i-ne0.false)
 
-pub returns-else-i-eq0 : goal.returns-else-i-eq0
-returns-else-i-eq0 c =
-    opener-held _ _ _ (sym c.requires.2 ∙ c.in-Opener.is) c.if-i-eq0.false c.closes.ensures
+pub returns-then-i-ne0 : goal.returns-then-i-ne0
+returns-then-i-ne0 c =
+    let is : c.args.shape ≡ Some (Shapes.Opener c.in-Some-Opener.end) = search rules in
+    opener-held _ _ _ (sym c.requires.2 ∙ is) c.if-i-ne0.true c.closes.ensures
 
-pub returns-in-MixedContainer : goal.returns-in-MixedContainer
-returns-in-MixedContainer c = mixed_container-held _ _ _ (sym c.requires.2 ∙ c.in-MixedContainer.is)
+pub returns-in-Some-MixedContainer : goal.returns-in-Some-MixedContainer
+returns-in-Some-MixedContainer c =
+    let is : c.args.shape ≡ Some (Shapes.MixedContainer) = search rules in
+    mixed_container-held _ _ _ (sym c.requires.2 ∙ is)
 
-pub returns-in-Scalar : goal.returns-in-Scalar
-returns-in-Scalar c = scalar-held _ _ _ (sym c.requires.2 ∙ c.in-Scalar.is) c.suits.ensures
+pub returns-in-Some-Scalar : goal.returns-in-Some-Scalar
+returns-in-Some-Scalar c =
+    let is : c.args.shape ≡ Some (Shapes.Scalar c.in-Some-Scalar.kind c.in-Some-Scalar.offset c.in-Some-Scalar.length) = search rules in
+    scalar-held _ _ _ (sym c.requires.2 ∙ is) c.suits.ensures
 
-pub returns-in-Operator : goal.returns-in-Operator
-returns-in-Operator c = operator-held _ _ _ (sym c.requires.2 ∙ c.in-Operator.is)
+pub returns-in-Some-Operator : goal.returns-in-Some-Operator
+returns-in-Some-Operator c =
+    let is : c.args.shape ≡ Some (Shapes.Operator c.in-Some-Operator.field-0-0) = search rules in
+    operator-held _ _ _ (sym c.requires.2 ∙ is)
 
-pub returns-in-End : goal.returns-in-End
-returns-in-End c = end-held _ _ _ (sym c.requires.2 ∙ c.in-End.is) c.opened.ensures
+pub returns-in-Some-End : goal.returns-in-Some-End
+returns-in-Some-End c =
+    let is : c.args.shape ≡ Some (Shapes.End c.in-Some-End.opener) = search rules in
+    end-held _ _ _ (sym c.requires.2 ∙ is) c.opened.ensures
 
-pub returns-in-Nothing : goal.returns-in-Nothing
-returns-in-Nothing c = nothing-held _ _ _ (sym c.requires.2 ∙ c.in-Nothing.is)
+pub returns-in-None : goal.returns-in-None
+returns-in-None c = nothing-held _ _ _ (sym c.requires.2 ∙ c.in-None.is)
