@@ -15,6 +15,10 @@ use Rattle.writer.specs.Pieces.{quote_if, sign_bytes, own_bytes}
 use Rattle.writer.specs.Text.{gap, lead, piece_text}
 use Rattle.data.proofs.Told.{as_told}
 
+-- nothing at all
+pub put_none : (out : List ℕ) (at : ℕ) → wrote at out ≡ append out at []
+put_none out at = put-empty out at
+
 -- nothing before the first of a body
 pub put_first : (out : List ℕ) (at : ℕ) (due : Due) (sign : Bool) {first : Bool} → first ≡ true → wrote at out ≡ append out at (lead first due sign)
 put_first out at due sign e = same_bytes out at [] _ (put-empty out at) (rw e)

@@ -16,15 +16,3 @@ returns-in-Heading c =
 pub returns-in-Sign : goal.returns-in-Sign
 returns-in-Sign c =
     put-number _ _ _ _ _ c.in-Sign.is c.put_lead-next-in-Sign.ensures c.put_sign.ensures
-
-pub returns-in-Mixed : goal.returns-in-Mixed
-unfolding piece_text
-returns-in-Mixed c = put-nothing _ _ _ _ _ c.in-Mixed.is refl
-
-pub returns-in-Opener : goal.returns-in-Opener
-unfolding piece_text
-returns-in-Opener c = put-nothing _ _ _ _ _ c.in-Opener.is refl
-
-pub returns-in-Other : goal.returns-in-Other
-unfolding piece_text
-returns-in-Other c = put-nothing _ _ _ _ _ c.in-Other.is refl
