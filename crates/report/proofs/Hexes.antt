@@ -16,7 +16,8 @@ use Rattle.report.specs.Digits.{decimal, hex}
 use Rattle.put.specs.Append.{Wrote, append}
 use Rattle.sheet.specs.Decided.{Decided}
 use Rattle.sheet.proofs.Decisions.{decided_as}
-use Rattle.writer.specs.declared.Written.{Written}
+use Rattle.std.specs.Prelude.{Result}
+use Rattle.writer.specs.declared.Refusal.{Refusal}
 use Rattle.writer.specs.Write.{Left, left}
 use Rattle.report.specs.Sheets.{verdict, Judged, hex_bytes, view_text, written_text, reported, report_written}
 use Rattle.report.specs.Words as words
@@ -38,13 +39,13 @@ judged_as {Holds = Holds} out at sound holds is put =
     record { yes = sound; holds = subst (λ (b : Bool). (b ≡ true) ↔ Holds) is holds; gives = put }
 
 -- the line of a text that was written, and of a refusal: what the way back decides, and the line that is put for it
-pub written_as : {Holds : Type 0} (answer : Bool → Left) (out : List ℕ) (at : ℕ) {w is : Written} {buffer scratch lines : List ℕ} {put : Wrote}
+pub written_as : {Holds : Type 0} (answer : Bool → Left) (out : List ℕ) (at : ℕ) {w is : Result ℕ Refusal} {buffer scratch lines : List ℕ} {put : Wrote}
     → Decided Holds answer (left w buffer scratch) → w ≡ is → put ≡ append out at lines → lines ≡ written_text is buffer
     → Decided Holds (λ (sound : Bool). report_written out at (answer sound)) (reported put buffer scratch)
 unfolding report_written
 written_as answer out at {buffer = buffer} {scratch = scratch} d told e line =
     decided_as answer (report_written out at) d
-    (ap (λ (p : Wrote). reported p buffer scratch) (e ∙ ap (append out at) (line ∙ ap (λ (x : Written). written_text x buffer) (sym told))))
+    (ap (λ (p : Wrote). reported p buffer scratch) (e ∙ ap (append out at) (line ∙ ap (λ (x : Result ℕ Refusal). written_text x buffer) (sym told))))
 
 -- the line of a view that lies in the text, and of one that is refused
 pub view-shown : (text part : List ℕ) (found v : Viewed) (offset size : ℕ) → found ≡ v → found ≡ At offset size → part ≡ part_of text v

@@ -39,8 +39,7 @@ use Rattle.scalar.proofs.Wholes.{by_part, by_size, rest-within}
 use Rattle.sheet.specs.declared.views.Viewed.{Viewed}
 use Rattle.writer.specs.declared.Refusal.{Refusal}
 use Rattle.writer.specs.declared.Refusal.TheVariants.{NotSound, TooDeep, TooLong, NoRoom, ReadsOtherwise, OtherForm}
-use Rattle.writer.specs.declared.Written.{Written}
-use Rattle.writer.specs.declared.Written.TheVariants.{Text, Refused}
+use Rattle.std.specs.Prelude.{Result, Ok, Err}
 use Rattle.writer.specs.Refusals.{number}
 use Rattle.sheet.specs.declared.views.Viewed.TheVariants.{At, NoScalar}
 use Rattle.report.proofs.Room.{decimal-short, bit-short, number_short}
@@ -230,6 +229,6 @@ refusal_two NoRoom = omega arith
 refusal_two ReadsOtherwise = omega arith
 refusal_two OtherForm = omega arith
 
-pub written-short : (w : Written) (buffer : List ℕ) → length (written_text w buffer) ≤ 2 * length buffer + 11
-written-short (Text size) buffer = simp length-append (omega (arith, hex_bytes-short (take size buffer), length-take size buffer))
-written-short (Refused r) buffer = simp length-append (omega (arith, two_short (number r) (refusal_two r)))
+pub written-short : (w : Result ℕ Refusal) (buffer : List ℕ) → length (written_text w buffer) ≤ 2 * length buffer + 11
+written-short (Ok size) buffer = simp length-append (omega (arith, hex_bytes-short (take size buffer), length-take size buffer))
+written-short (Err r) buffer = simp length-append (omega (arith, two_short (number r) (refusal_two r)))
