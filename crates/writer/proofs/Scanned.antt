@@ -246,19 +246,6 @@ sunk-within level (Link.ToEnd end) h e =
 sunk-within level (Link.ToOpener opener) h e = let same : level - 1 ≡ _ = to_same e in omega (arith, h, same)
 sunk-within level Link.Nothing h e = let same : level ≡ _ = to_same e in omega (arith, h, same)
 
--- the levels behind a token, by its link
-pub sunk-down : (level end : ℕ) → level < most_levels → Some (level + 1) ≡ sunk level (Link.ToEnd end)
-unfolding sunk
-sunk-down level end h = rw (sunk, lt-ltb level most_levels h)
-
-pub sunk_deep : (level end : ℕ) → most_levels ≤ level → None ≡ sunk level (Link.ToEnd end)
-unfolding sunk
-sunk_deep level end h = rw (sunk, le-ltb level most_levels h)
-
-pub sunk-up : (level opener next : ℕ) → next ≡ level - 1 → Some next ≡ sunk level (Link.ToOpener opener)
-unfolding sunk
-sunk-up level opener next h = ap Some h
-
 -- what a step of either pass has read
 pub read-sunk : (words : List ℕ) (count i level : ℕ) {x : Token} {link : Link} {s : Option ℕ} → x ≡ token_in words count i → link ≡ link_of x
     → s ≡ sunk level link → s ≡ sunk level (link_of (nth (tokens_in words count) i))

@@ -54,7 +54,3 @@ quoted-size bytes = sym (omega (arith, length-append bytes (quote ∷ [])))
 
 pub view-short : (text : List ℕ) (offset size : ℕ) → length (view_of text offset size) ≤ size
 view-short text offset size = omega (arith, length-take size (drop offset text))
-
--- ---- a piece's bytes: those before it and its own
-pub both-sized : (lead own : List ℕ) {a b : ℕ} → a ≡ length lead → b ≡ length own → a + b ≡ length (lead ++ own)
-both-sized lead own e f = rw (e, f) (sym (length-append lead own))

@@ -194,7 +194,3 @@ module _ {ts : List Token} {i j : ℕ} {p : Piece} (met : Met ts i j p) where
     pub step_text : (text : List ℕ) (first : Bool) (due : Due) {still : Bool} {after : Due} → still ≡ still_first first p → after ≡ due_after due p
         → body_text (stretch ts i j) text first due ≡ token_text text ts (i + 1) first due p ++ body_text (stretch ts next j) text still after
     step_text text first due e g = text-on ts i j met.range met.early text first due ∙ rw (e, g, there, met.piece)
-
--- the same body by what is due in it under another name
-pub due_as : (f : Forest) {d e : Due} {r : Bool} → r ≡ body_form f d → d ≡ e → r ≡ body_form f e
-due_as f p q = p ∙ ap (body_form f) q

@@ -153,6 +153,7 @@ fn put_entries(
     ensures { wrote result out.new ≡ append out.old at
         (body_text (stretch (tokens_in words.now count) from end) text.now alone due.Entry) }
 {
+    // Counted by hand: the walk goes on behind the End of what opened, which no range gives.
     let mut i = from;
     let mut next = at;
     let mut first = alone;
@@ -194,6 +195,7 @@ pub(crate) fn put_pairs(
     ensures { wrote result out.new ≡ append out.old at
         (body_text (stretch (tokens_in words.now count) from end) text.now true due.Key) }
 {
+    // Counted by hand: the walk goes on behind the End of what opened, which no range gives.
     let mut i = from;
     let mut next = at;
     let mut first = true;

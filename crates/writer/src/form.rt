@@ -52,6 +52,7 @@ fn body_formed(words: &[u32], count: usize, from: usize, end: usize, first: Due)
     requires { Range (tokens_in words.now count) from end }
     ensures { result ≡ body_form (stretch (tokens_in words.now count) from end) first }
 {
+    // Counted by hand: the walk goes on behind the End of what opened, which no range gives.
     let mut i = from;
     let mut due = first;
     while i < end {

@@ -1,8 +1,6 @@
 -- `writer::bodies::put_piece` meets its contract: what stands before it and its own bytes, by what it is.
 -- Assumes nothing.
-use mathlib.Core.Path.{refl}
-use Rattle.writer.specs.Text.{piece_text}
-use Rattle.writer.proofs.Puts.{put-scalar, put-heading, put-number, put-nothing}
+use Rattle.writer.proofs.Puts.{put-scalar, put-heading, put-number}
 use Rattle.writer.proofs.bodies.put_piece.Goals as goal
 
 pub returns-in-Scalar : goal.returns-in-Scalar
