@@ -1,6 +1,5 @@
 -- Two sheets held against each other, a token at a time.
 -- Assumes nothing.
-use Rattle.std.specs.Prelude.{Some, None, Result}
 use mathlib.Core.Path.{◌≡◌, sym, ◌∙◌, ap}
 use mathlib.Core.Bool.{Bool, true, false}
 use mathlib.Core.List.{List}
@@ -17,46 +16,13 @@ use Rattle.tape.specs.Token.{no_token, scalar_named}
 use Rattle.tape.specs.Words.{words_for, tokens_in, token_in, cleared}
 use Rattle.tape.proofs.Views.{tokens-length, tokens-counted}
 use Rattle.machine.specs.declared.Parsed.{Parsed}
-use Rattle.machine.specs.Finish.{outcome, parsed}
+use Rattle.machine.specs.Finish.{outcome}
 use Rattle.tape.proofs.Clearing.{cleared-whole}
 use Rattle.alike.specs.Alike.{same_view, same_words, same_token, alike, found_alike, comes_back}
-use Rattle.machine.specs.declared.Refusal.{Refusal}
 
--- ---- one token
-module _ (text other : List ℕ) (x y : Token) where
-  pub view-other : (x.b ≡ y.b → ⊥) → false ≡ same_view text other x y
-  unfolding same_view
-  view-other h = rw (same_view, ne_eqb _ _ h)
-
-  pub code_other : (x.code ≡ y.code → ⊥) → false ≡ same_token text other x y
-  unfolding same_token
-  code_other h = rw (same_token, ne_eqb _ _ h)
-
-  pub scalars-same : {kind : ScalarKind} {r : Bool} → x.code ≡ y.code → scalar_named x.code ≡ Some kind → r ≡ same_view text other x y
-      → r ≡ same_token text other x y
-  unfolding same_token
-  scalars-same h k e = rw (same_token, eq-eqb _ _ h, k) e
-
-  pub words_same : {r : Bool} → x.code ≡ y.code → scalar_named x.code ≡ None → r ≡ same_words x y → r ≡ same_token text other x y
-  unfolding same_token
-  words_same h k e = rw (same_token, eq-eqb _ _ h, k) e
-
-pub word-other : (x y : Token) → (x.a ≡ y.a → ⊥) → false ≡ same_words x y
-unfolding same_words
-word-other x y h = rw (same_words, ne_eqb _ _ h)
-
-pub word_same : (x y : Token) → x.a ≡ y.a → eqb x.b y.b ≡ same_words x y
-unfolding same_words
-word_same x y h = rw (same_words, eq-eqb _ _ h)
-
--- ---- a parse that found tokens tells what they tell
-pub back_found : (text other : List ℕ) (ts : List Token) (tape : List ℕ) {p : Result Parsed Refusal} {n : ℕ} {bom r : Bool} → p ≡ parsed n bom
-    → r ≡ found_alike text other ts n tape → r ≡ comes_back text other ts (outcome p tape)
-back_found text other ts tape told e = as_told (λ (q : Result Parsed Refusal). comes_back text other ts (outcome q tape)) e told
-
--- ---- a tape that is cleared from its first token on, and had so many words
-pub all-cleared : (tape : List ℕ) {out : List ℕ} {n : ℕ} → out ≡ cleared tape 0 → length tape ≡ n → out ≡ replicate n 0
-all-cleared tape e h = e ∙ cleared-whole tape ∙ ap (λ (n : ℕ). replicate n 0) h
+-- ---- a tape that is cleared from its first token on
+pub all_cleared : (tape : List ℕ) → cleared tape 0 ≡ replicate (length tape) 0
+all_cleared tape = cleared-whole tape
 
 -- ---- some tokens beside as many as were found on a tape
 -- what is left of both from i on decides

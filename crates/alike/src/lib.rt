@@ -14,27 +14,27 @@ use tape::token::Token;
 use tape::{token, words};
 
 // Whether two scalars view the same bytes, each in its own text.
+#[tactic(auto, unfolding(crate::specs::Alike::same_view))]
 fn same_view(text: &[u8], other: &[u8], x: Token, y: Token) -> bool
     ensures { result ≡ same_view text.now other.now x y }
 {
-    if x.b != y.b {
-        return false;
-    }
-    let viewed = part(text, x.a as usize, x.b as usize);
-    equal_bytes(viewed, part(other, y.a as usize, y.b as usize))
+    x.b == y.b
+        && equal_bytes(
+            part(text, x.a as usize, x.b as usize),
+            part(other, y.a as usize, y.b as usize),
+        )
 }
 
 // Whether two tokens that are no scalars have the same words.
+#[tactic(auto, unfolding(crate::specs::Alike::same_words))]
 fn same_words(x: Token, y: Token) -> bool
     ensures { result ≡ same_words x y }
 {
-    if x.a != y.a {
-        return false;
-    }
-    x.b == y.b
+    x.a == y.a && x.b == y.b
 }
 
 // Whether two tokens are the same, each over its own text.
+#[tactic(auto, unfolding(crate::specs::Alike::same_token))]
 fn same_token(text: &[u8], other: &[u8], x: Token, y: Token) -> bool
     ensures { result ≡ same_token text.now other.now x y }
 {
@@ -64,13 +64,11 @@ fn found_alike(
     if !words::holds(tape, found) {
         return false;
     }
-    let mut i = 0;
-    while i < found {
+    for i in 0..found {
         let x = words::token_of(words, count, i);
         if !same_token(text, other, x, words::token_of(tape, found, i)) {
             return false;
         }
-        i += 1;
     }
     true
 }
@@ -94,6 +92,7 @@ fn parsed_alike(
 }
 
 // Whether another text, parsed, gives a sheet's tokens. The scratch is the parse's tape, and is zero afterwards.
+#[tactic(auto, using(crate::proofs::Same::all_cleared))]
 pub fn comes_back(
     text: &[u8],
     words: &[u32],

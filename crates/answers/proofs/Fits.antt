@@ -7,7 +7,8 @@ use Prim.Native.Nat.{ℕ, ◌+◌, ◌≤◌, min}
 use native.Mathlib.Omega.{arith}
 use lib.ListN.{length, take, drop, length-take, length-drop}
 use Rattle.sheet.specs.Decided.{Decided}
-use Rattle.file.specs.declared.Written.{Written}
+use Rattle.std.specs.Prelude.{Result}
+use Rattle.file.specs.declared.Refusal.{Refusal}
 use Rattle.file.specs.declared.Found.{Found}
 use Rattle.file.specs.Files as files
 use Rattle.file.specs.Files.{ReadsAs, Reads}
@@ -112,13 +113,13 @@ module _ (capacity : ℕ) (body out : List ℕ) (at : ℕ) {r : ℕ} {o : List �
           fits (sheets.written_text w b) (written w b short) (ap put_of e) (omega (arith, written-short w b)) room
 
   -- a file that was written in a buffer, or the refusal
-  pub filed-all : {Holds : Type 0} (answer : Bool → files.Left Written) {buffer : List ℕ}
+  pub filed-all : {Holds : Type 0} (answer : Bool → files.Left (Result ℕ Refusal)) {buffer : List ℕ}
       → Decided Holds (λ (sound : Bool). lines.report_file out at (answer sound)) (lines.reported (wrote r o) buffer)
       → length buffer ≤ most_input → at + most_answer ≤ length out → All capacity body out at r o
   unfolding lines.report_file
   filed-all answer {buffer} d within room = go (answer d.yes) d.gives
     where
-      go : (l : files.Left Written) → lines.reported (wrote r o) buffer ≡ lines.report_file out at l → All capacity body out at r o
+      go : (l : files.Left (Result ℕ Refusal)) → lines.reported (wrote r o) buffer ≡ lines.report_file out at l → All capacity body out at r o
       go (files.left w b) e =
           let same : b ≡ buffer = sym (ap lent_of e) in
           let short : length b ≤ most_input = rw same within in
@@ -133,7 +134,7 @@ module _ (capacity : ℕ) (body out : List ℕ) (at : ℕ) {r : ℕ} {o : List �
       let given = reads-given (lines.report_sheet out at) body lent d in
       go given.0 given.1 given.2
     where
-      go : (l : files.Left Found) → Reads body lent l → lines.reported (wrote r o) words ≡ lines.report_sheet out at l → All capacity body out at r o
+      go : (l : files.Left (Result Found Refusal)) → Reads body lent l → lines.reported (wrote r o) words ≡ lines.report_sheet out at l → All capacity body out at r o
       go (files.left f ws) reads e =
           fits (lines.sheet_text f ws) (found f ws (subst (λ (n : ℕ). Reads body n (files.left f ws)) sized reads)) (ap line_of e)
           (omega (arith, held f ws reads)) room

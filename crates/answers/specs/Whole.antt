@@ -1,7 +1,7 @@
 -- What the answer to a record leaves in the buffer: nothing more than stood there, or all of the answer. None is cut short.
-use Rattle.std.specs.Prelude.{ℕ, ◌+◌, ◌*◌, ◌≤◌, min, Bool, List, ◌≡◌, length, take, drop, Option, None}
-use Rattle.writer.specs.declared.Written.{Written}
-use Rattle.file.specs.declared.Written as file
+use Rattle.std.specs.Prelude.{ℕ, ◌+◌, ◌*◌, ◌≤◌, min, Result, Bool, List, ◌≡◌, length, take, drop, Option, None}
+use Rattle.writer.specs.declared.Refusal.{Refusal}
+use Rattle.file.specs.declared.Refusal as file
 use Rattle.file.specs.declared.Found.{Found}
 use Rattle.file.specs.Files as files
 use Rattle.packed.specs.Numbers.{width_of, field}
@@ -16,7 +16,6 @@ use Rattle.report.specs.Sheets as sheets
 use Rattle.file_lines.specs.Lines.{file_text, sheet_text}
 use Rattle.answers.specs.declared.Answer.{Answer}
 use Rattle.answers.specs.declared.Answer.TheVariants.{Put, Bad}
-use Rattle.sheet.specs.declared.views.Viewed.{Viewed}
 
 -- the most bytes of an answer: no other is as long as the longest dump
 abbrev pub most_answer : ℕ
@@ -52,10 +51,10 @@ pub data Answers (capacity : ℕ) (body : List ℕ) : List ℕ → Type 0 where
   date : Answers capacity body (date_line body)
   day : length body ≡ word_bytes → Answers capacity body (day_line (word_in body 0))
   verdict : (sound : Bool) → Answers capacity body (sheets.verdict sound)
-  view : (from size : ℕ) (v : Option Viewed) → Answers capacity body (sheets.view_text (take size (drop from body)) v)
-  written : (w : Written) (buffer : List ℕ) → length buffer ≤ most_input → Answers capacity body (sheets.written_text w buffer)
-  filed : (w : file.Written) (buffer : List ℕ) → length buffer ≤ most_input → Answers capacity body (file_text w buffer)
-  found : (f : Found) (words : List ℕ) → files.Reads body (min capacity most_words) (files.left f words) → Answers capacity body (sheet_text f words)
+  view : (from size : ℕ) (v : Option View) → Answers capacity body (sheets.view_text (take size (drop from body)) v)
+  written : (w : Result ℕ Refusal) (buffer : List ℕ) → length buffer ≤ most_input → Answers capacity body (sheets.written_text w buffer)
+  filed : (w : Result ℕ file.Refusal) (buffer : List ℕ) → length buffer ≤ most_input → Answers capacity body (file_text w buffer)
+  found : (f : Result Found file.Refusal) (words : List ℕ) → files.Reads body (min capacity most_words) (files.left f words) → Answers capacity body (sheet_text f words)
 
 -- all of such lines from the place on, and the place after the last
 pub record All (capacity : ℕ) (body out : List ℕ) (at next : ℕ) (left : List ℕ) : Type 0 where

@@ -1,6 +1,6 @@
 -- What the calls tell C: a number for the refusal, 0 for none, and beside it what is written through each pointer.
 -- What a parse tells stands beside the parse: `tell_parse` of crates/parse/specs/Told.antt.
-use Rattle.std.specs.Prelude.{ℕ, List, Float, ℤ, length, Option, Some, None}
+use Rattle.std.specs.Prelude.{ℕ, Result, List, Float, ℤ, length, Option, Some, None}
 use Rattle.parse.specs.Told.{bit}
 use Rattle.scalar.specs.Numbers.{bool_refusal_of, bool_value_of, u64_refusal_of, u64_value_of}
 use Rattle.scalar.specs.Numbers.{i64_refusal_of, i64_value_of, f64_refusal_of, f64_value_of}
@@ -13,7 +13,7 @@ use Rattle.date.specs.declared.calendar.Date.{Date}
 use Rattle.date.specs.declared.calendar.DateRead.{DateRead}
 use Rattle.date.specs.declared.calendar.DaysRead.{DaysRead}
 use Rattle.sheet.specs.Views.{refusal_of, seen}
-use Rattle.file.specs.declared.Written as file-written
+use Rattle.file.specs.declared.Refusal.{Refusal}
 use Rattle.file.specs.declared.Found.{Found}
 use Rattle.file.specs.Refusals.{write_refusal, size_of, read_refusal, text_length_of, count_of}
 use Rattle.file.specs.Files as file
@@ -21,14 +21,13 @@ use Rattle.tape.specs.declared.token.Token.{Token}
 use Rattle.writer.specs.Refusals.{length_of}
 use Rattle.writer.specs.Refusals.{refusal_of as write-refusal-of}
 use Rattle.writer.specs.Write.{Left, left}
-use Rattle.sheet.specs.declared.views.Viewed.{Viewed}
 
 -- a view: its refusal, its offset and its length
 pub data ViewTold : Type 0 where
   view_told : (refusal offset size : ℕ) → ViewTold
 
 -- a refused view is empty, at the text's start
-abbrev pub tell_view : Option Viewed → ViewTold
+abbrev pub tell_view : Option View → ViewTold
 tell_view (Some v) = view_told (refusal_of (seen v.offset v.length)) v.offset v.length
 tell_view None = view_told (refusal_of None) 0 0
 
@@ -44,14 +43,14 @@ tell_write (left w out scratch) = write_told (write-refusal-of w) (length_of w) 
 pub data FileTold : Type 0 where
   file_told : (refusal size : ℕ) → List ℕ → FileTold
 
-abbrev pub tell_file : file.Left file-written.Written → FileTold
+abbrev pub tell_file : file.Left (Result ℕ Refusal) → FileTold
 tell_file (file.left w out) = file_told (write_refusal w) (size_of w) out
 
 -- and one read: its refusal, the text's length, the count, and the words as it leaves them
 pub data SheetTold : Type 0 where
   sheet_told : (refusal text_length count : ℕ) → List ℕ → SheetTold
 
-abbrev pub tell_sheet : file.Left Found → SheetTold
+abbrev pub tell_sheet : file.Left (Result Found Refusal) → SheetTold
 tell_sheet (file.left f words) = sheet_told (read_refusal f) (text_length_of f) (count_of f) words
 
 -- a reading: its refusal and its value

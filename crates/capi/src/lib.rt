@@ -26,11 +26,9 @@ ghost use Rattle.capi.specs.Told.{file_told, tell_file, sheet_told, tell_sheet};
 ghost use Rattle.capi.specs.Told.{read_told, tell_bool, tell_u64, tell_i64, tell_f64, tell_date, tell_days, part_told, tell_part};
 
 use date::Date;
-use file::Found;
 use sheet::views;
 use sheet::views::Viewed;
 use tape::words;
-use writer::Written;
 
 // 1 for yes and 0 for no.
 fn bit_of(yes: bool) -> u32
@@ -134,11 +132,11 @@ pub fn tackacorn_write(
         (write_told result written.new out.new scratch.new) }
 {
     match writer::write(text, words, count, out, scratch) {
-        Written::Text(size) => {
+        Ok(size) => {
             *written = size;
             0
         }
-        Written::Refused(refusal) => {
+        Err(refusal) => {
             *written = 0;
             refusal.number()
         }
@@ -158,11 +156,11 @@ pub fn tackacorn_sheet_write(
         (file_told result written.new out.new) }
 {
     match file::write(text_length, words, count, out) {
-        file::Written::File(size) => {
+        Ok(size) => {
             *written = size;
             0
         }
-        file::Written::Refused(refusal) => {
+        Err(refusal) => {
             *written = 0;
             refusal.number()
         }
@@ -180,15 +178,12 @@ pub fn tackacorn_sheet_read(
         (sheet_told result text_length.new count.new words.new) }
 {
     match file::read(bytes, words) {
-        Found::Sheet {
-            text_length: length,
-            count: tokens,
-        } => {
-            *text_length = length as usize;
-            *count = tokens;
+        Ok(found) => {
+            *text_length = found.text_length as usize;
+            *count = found.count;
             0
         }
-        Found::Refused(refusal) => {
+        Err(refusal) => {
             *text_length = 0;
             *count = 0;
             refusal.number()

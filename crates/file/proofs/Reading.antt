@@ -21,13 +21,14 @@ use Rattle.sheet.proofs.Decisions.{decided_as}
 use Rattle.packed.specs.Packed.{unpacked, words_packed}
 use Rattle.packed.proofs.Packing.{unpacked-length, words_hold}
 use Rattle.file.specs.declared.layout.Version.{Version}
+use Rattle.file.specs.declared.Refusal.{Refusal}
 use Rattle.file.specs.declared.Refusal.TheVariants.{NotSound, NoRoom}
 use Rattle.file.specs.declared.Found.{Found}
 use Rattle.file.specs.Layout.{head_size, file_size}
-use Rattle.file.specs.declared.Opened.{Opened}
-use Rattle.file.specs.declared.Opened.TheVariants.{Holds}
+use Rattle.file.specs.declared.layout.Head.{Head}
+use Rattle.std.specs.Prelude.{Result, Ok, Err}
 use Rattle.file.specs.Open.{tokens_of, open_file}
-use Rattle.file.specs.Files.{zeros, Left, left, refuse_read, accept_read, read_of, ReadOpened, ReadsAs, Reads}
+use Rattle.file.specs.Files.{zeros, Left, left, found_of, refuse_read, accept_read, read_of, ReadOpened, ReadsAs, Reads}
 
 -- the tokens that stand in some bytes, as many as are asked for
 pub held-tokens : (body : List ℕ) (count : ℕ) → length (unpacked body) ≡ count → tokens_in (words_packed body) count ≡ unpacked body
@@ -85,46 +86,47 @@ module _ (v : Version) (bytes words : List ℕ) (text_length count : ℕ) (size 
     abbrev room : ℕ
     room = length words
 
-    abbrev Answered : Found → Type 0
+    abbrev Answered : Result Found Refusal → Type 0
     Answered answer = Decided (Sheet text_length (tokens_of v bytes)) (read_of text_length (tokens_of v bytes) room) (left answer after)
 
-    settle : {answer : Found} → left answer after ≡ read_of text_length (tokens_of v bytes) room sound → Answered answer
+    settle : {answer : Result Found Refusal} → left answer after ≡ read_of text_length (tokens_of v bytes) room sound → Answered answer
     settle e = record { yes = sound; holds = told; gives = e }
 
-    pub read-unsound : sound ≡ false → Answered (Found.Refused NotSound)
+    pub read-unsound : sound ≡ false → Answered (Err NotSound)
     unfolding read_of
     read-unsound no-sound =
         let zero_left : after ≡ zeros room =
         rest ∙ ap (λ (s : Bool). laid_onto s words (tokens_of v bytes)) no-sound ∙ left-unsound words (tokens_of v bytes) in
-        settle (ap (left (Found.Refused NotSound)) zero_left ∙ sym (first-here (refuse_read room) _ _ _ (ap not no-sound)))
+        settle (ap (left (Err NotSound)) zero_left ∙ sym (first-here (refuse_read room) _ _ _ (ap not no-sound)))
 
     module _ (yes-sound : sound ≡ true) {holds : Bool} (held : holds ≡ leb (words_for count) room) where
-      pub read-no_room : holds ≡ false → Answered (Found.Refused NoRoom)
+      pub read-no_room : holds ≡ false → Answered (Err NoRoom)
       unfolding read_of room_of
       read-no_room none =
           let over : room < words_for count = leb-false (words_for count) room (sym held ∙ none) in
           let zero_left : after ≡ zeros room = rest ∙ left-no_room words (tokens_of v bytes) sound (omega (arith, counted)) in
-          settle (ap (left (Found.Refused NoRoom)) zero_left ∙ sym (first-later (refuse_read room) _ _ _ (ap not yes-sound)
+          settle (ap (left (Err NoRoom)) zero_left ∙ sym (first-later (refuse_read room) _ _ _ (ap not yes-sound)
           ∙ first-here (refuse_read room) _ _ _ (lt-ltb room (words_for (length (tokens_of v bytes))) (omega (arith, counted)))))
 
-      pub read_fits : count ≤ greatest_word → holds ≡ true → Answered (Found.Sheet text_length count)
+      pub read_fits : count ≤ greatest_word → holds ≡ true → Answered (Ok (found_of text_length count))
       unfolding read_of room_of
       read_fits most there =
           let fit : words_for count ≤ room = leb-true (words_for count) room (sym held ∙ there) in
           let laid : after ≡ padded room (tokens_of v bytes) =
           rest ∙ ap (λ (s : Bool). laid_onto s words (tokens_of v bytes)) yes-sound
           ∙ left_laid words (tokens_of v bytes) (omega (arith, counted)) in
-          let given : left (Found.Sheet text_length count) after ≡ accept_read room text_length (tokens_of v bytes) = rw (laid, ← counted) in
+          let given : left (Ok (found_of text_length count)) after ≡ accept_read room text_length (tokens_of v bytes) = rw (laid, ← counted) in
           settle (given ∙ sym (first-later (refuse_read room) _ _ _ (ap not yes-sound)
           ∙ first-later (refuse_read room) _ _ _ (le-ltb room (words_for (length (tokens_of v bytes))) (omega (arith, counted)))
           ∙ first-none (refuse_read room) _))
 
 -- what is told of an answer is told of what a file is read as
-told-opened : {Told : Type 0} (tell : Left Found → Told) (bytes : List ℕ) (room : ℕ) (o : Opened) {given : Left Found} {told : Told}
-    → ReadOpened (λ (answer : Left Found). answer) bytes room o given → told ≡ tell given → ReadOpened tell bytes room o told
-told-opened tell bytes room (Holds v text_length count) d e = decided_as (read_of text_length (tokens_of v bytes) room) tell d e
-told-opened tell bytes room (Opened.Refused r) d e = e ∙ ap tell d
+told-opened : {Told : Type 0} (tell : Left (Result Found Refusal) → Told) (bytes : List ℕ) (room : ℕ) (o : Result Head Refusal)
+    → {given : Left (Result Found Refusal)} {told : Told} → ReadOpened (λ (answer : Left (Result Found Refusal)). answer) bytes room o given
+    → told ≡ tell given → ReadOpened tell bytes room o told
+told-opened tell bytes room (Ok head) d e = decided_as (read_of head.text_length (tokens_of head.version bytes) room) tell d e
+told-opened tell bytes _ (Err r) d e = e ∙ ap tell d
 
-pub reads-told : {Told : Type 0} (tell : Left Found → Told) (bytes : List ℕ) (room : ℕ) {given : Left Found} {told : Told}
-    → Reads bytes room given → told ≡ tell given → ReadsAs tell bytes room told
+pub reads-told : {Told : Type 0} (tell : Left (Result Found Refusal) → Told) (bytes : List ℕ) (room : ℕ)
+    → {given : Left (Result Found Refusal)} {told : Told} → Reads bytes room given → told ≡ tell given → ReadsAs tell bytes room told
 reads-told tell bytes room d e = told-opened tell bytes room (open_file bytes) d e

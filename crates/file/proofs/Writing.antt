@@ -27,8 +27,7 @@ use Rattle.packed.proofs.Packing.{packed-length}
 use Rattle.file.specs.declared.layout.Version.{Version}
 use Rattle.file.specs.declared.Refusal.{Refusal}
 use Rattle.file.specs.declared.Refusal.TheVariants.{NotSound, NoRoom, TooLarge}
-use Rattle.file.specs.declared.Written.{Written}
-use Rattle.file.specs.declared.Written.TheVariants.{File}
+use Rattle.std.specs.Prelude.{Result, Ok}
 use Rattle.file.specs.Layout.{version_number, total_field, version_field, text_field, count_field, version_at}
 use Rattle.file.specs.Layout.{text_at, count_at, head_size, file_size, total_of, head_of, file_of}
 use Rattle.file.specs.Files.{Left, left, zeros, too_large, refuse_write, accept_write, write_of}
@@ -152,7 +151,7 @@ module _ (v : Version) (text_length : ℕ) (ts : List Token) (out : List ℕ) (r
 
   -- and zeros behind them
   pub file-left : {after cleared : List ℕ} → after ≡ sets out 0 (file_of v text_length ts) → cleared ≡ zeroed after size
-      → left (File size) cleared ≡ accept_write (length out) (file_of v text_length ts)
+      → left (Ok size) cleared ≡ accept_write (length out) (file_of v text_length ts)
   file-left {after} {cleared} e f =
       let file : List ℕ = file_of v text_length ts in
       let long : length file ≡ file_size v (length ts) = file-length v text_length ts in
@@ -171,11 +170,11 @@ module _ (v : Version) (text_length : ℕ) (words : List ℕ) (count room : ℕ)
   abbrev ts : List Token
   ts = tokens_in words count
 
-  settle : {given : Left Written} → given ≡ write_of v text_length ts room sound
+  settle : {given : Left (Result ℕ Refusal)} → given ≡ write_of v text_length ts room sound
       → Decided (Sound text_length words count) (write_of v text_length ts room) given
   settle e = record { yes = sound; holds = told; gives = e }
 
-  pub write-unsound : {given : Left Written} → sound ≡ false → given ≡ refuse_write room NotSound
+  pub write-unsound : {given : Left (Result ℕ Refusal)} → sound ≡ false → given ≡ refuse_write room NotSound
       → Decided (Sound text_length words count) (write_of v text_length ts room) given
   unfolding write_of
   write-unsound e f = settle (f ∙ sym (first-here (refuse_write room) _ _ _ (ap not e)))
@@ -188,26 +187,26 @@ module _ (v : Version) (text_length : ℕ) (words : List ℕ) (count room : ℕ)
       large_told : large ≡ too_large v text_length (length ts)
       large_told = measured ∙ ap (too_large v text_length) (sym sound-counted)
 
-      pub write_large : {given : Left Written} → large ≡ true → given ≡ refuse_write room TooLarge
+      pub write_large : {given : Left (Result ℕ Refusal)} → large ≡ true → given ≡ refuse_write room TooLarge
           → Decided (Sound text_length words count) (write_of v text_length ts room) given
       unfolding write_of
       write_large e f =
           settle (f ∙ sym (first-later (refuse_write room) _ _ _ (ap not yes) ∙ first-here (refuse_write room) _ _ _ (sym large_told ∙ e)))
 
       module _ (small : large ≡ false) where
-        later : (accept : Left Written) (rest : List (Reason Refusal))
+        later : (accept : Left (Result ℕ Refusal)) (rest : List (Reason Refusal))
             → first_of (refuse_write room) accept (if_so (not sound) NotSound ∷ if_so (too_large v text_length (length ts)) TooLarge ∷ rest)
             ≡ first_of (refuse_write room) accept rest
         later accept rest = first-later (refuse_write room) _ _ _ (ap not yes) ∙ first-later (refuse_write room) _ _ _ (sym large_told ∙ small)
 
-        pub write-no_room : {size : ℕ} {given : Left Written} → size ≡ file_size v count → room < size → given ≡ refuse_write room NoRoom
+        pub write-no_room : {size : ℕ} {given : Left (Result ℕ Refusal)} → size ≡ file_size v count → room < size → given ≡ refuse_write room NoRoom
             → Decided (Sound text_length words count) (write_of v text_length ts room) given
         unfolding write_of
         write-no_room e h f =
             settle (f ∙ sym (later _ _ ∙ first-here (refuse_write room) _ _ _
             (lt-ltb room (file_size v (length ts)) (omega (arith, h, e, sound-counted)))))
 
-        pub write-fits : {size : ℕ} {given : Left Written} → size ≡ file_size v count → size ≤ room
+        pub write-fits : {size : ℕ} {given : Left (Result ℕ Refusal)} → size ≡ file_size v count → size ≤ room
             → given ≡ accept_write room (file_of v text_length ts)
             → Decided (Sound text_length words count) (write_of v text_length ts room) given
         unfolding write_of

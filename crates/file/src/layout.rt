@@ -6,17 +6,18 @@ ghost use Rattle.file.specs.Open.{version_named};
 use packed::numbers::Width;
 use packed::tokens;
 
-// The versions that are read and written.
-#[derive(Clone, Copy)]
+// The versions that are read and written, by their numbers.
+#[derive(Clone, Copy, PartialEq, Eq)]
 pub enum Version {
-    V1,
+    V1 = 1,
 }
 
-// The version that a number names, or none.
-#[derive(Clone, Copy)]
-pub enum VersionNamed {
-    Known(Version),
-    Unknown,
+// What a file says before its tokens.
+#[derive(Clone, Copy, PartialEq, Eq)]
+pub struct Head {
+    pub version: Version,
+    pub text_length: u32,
+    pub count: u32,
 }
 
 // The least bytes of a file.
@@ -28,6 +29,7 @@ pub(crate) const VERSION_AT: usize = 4;
 pub(crate) const TEXT_AT: usize = 5;
 
 // The width of the text's length.
+#[tactic(auto, using(crate::proofs::Fields::text_told))]
 pub(crate) fn text_width(v: Version) -> Width
     ensures { result ≡ text_field v }
 {
@@ -37,6 +39,7 @@ pub(crate) fn text_width(v: Version) -> Width
 }
 
 // Where the count stands.
+#[tactic(auto, using(crate::proofs::Fields::count_told))]
 pub(crate) fn count_at(v: Version) -> usize
     ensures { result ≡ count_at v }
 {
@@ -46,6 +49,7 @@ pub(crate) fn count_at(v: Version) -> usize
 }
 
 // Where the tokens begin.
+#[tactic(auto, using(crate::proofs::Fields::head_told))]
 pub fn head_size(v: Version) -> usize
     ensures { result ≡ head_size v }
 {
@@ -55,6 +59,7 @@ pub fn head_size(v: Version) -> usize
 }
 
 // How many bytes the file of so many tokens has.
+#[tactic(auto, using(crate::proofs::Fields::head_told))]
 pub fn file_size(v: Version, count: u32) -> usize
     ensures { result ≡ file_size v count }
 {
@@ -62,20 +67,17 @@ pub fn file_size(v: Version, count: u32) -> usize
 }
 
 // The number of a version.
+#[tactic(auto, using(crate::proofs::Fields::number_told))]
 pub(crate) fn version_number(v: Version) -> u32
     ensures { result ≡ version_number v }
 {
-    match v {
-        Version::V1 => 1,
-    }
+    v as u32
 }
 
-// The version that a number names.
-pub(crate) fn version_named(number: u32) -> VersionNamed
+// The version that a number names, or none.
+#[tactic(auto, unfolding(crate::specs::Open::version_named))]
+pub(crate) fn version_named(number: u32) -> Option<Version>
     ensures { result ≡ version_named number }
 {
-    if number == version_number(Version::V1) {
-        return VersionNamed::Known(Version::V1);
-    }
-    VersionNamed::Unknown
+    (number == version_number(Version::V1)).then_some(Version::V1)
 }

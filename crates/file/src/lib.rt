@@ -12,7 +12,7 @@ ghost use Rattle.file.specs.Open.{other_length, tokens_of, open_as, open_file};
 ghost use Rattle.file.specs.Refusals.{number};
 ghost use Rattle.file.specs.Files.{left, too_large, refuse_write, accept_write, write_of, refuse_read, read_of, Reads};
 
-use crate::layout::{Version, VersionNamed};
+use crate::layout::{Head, Version};
 use packed::numbers::Width;
 use packed::tokens::BYTES_PER_TOKEN;
 use packed::{numbers, tokens};
@@ -21,40 +21,22 @@ use tape::words;
 // What a file's bytes are.
 pub mod layout;
 
-// Why a sheet is not written or a file not read.
-#[derive(Clone, Copy)]
+// Why a sheet is not written or a file not read, by the refusals' numbers.
+#[derive(Clone, Copy, PartialEq, Eq)]
 pub enum Refusal {
-    FileLength,
-    UnknownVersion,
-    NotSound,
-    NoRoom,
-    TooLarge,
-    OtherCount,
+    FileLength = 31,
+    UnknownVersion = 32,
+    NotSound = 33,
+    NoRoom = 34,
+    TooLarge = 35,
+    OtherCount = 36,
 }
 
-// The length of the file written, or a refusal.
-#[derive(Clone, Copy)]
-pub enum Written {
-    File(usize),
-    Refused(Refusal),
-}
-
-// The length of the text and the count of tokens of the sheet read, or a refusal.
-#[derive(Clone, Copy)]
-pub enum Found {
-    Sheet { text_length: u32, count: u32 },
-    Refused(Refusal),
-}
-
-// What a file says before its tokens.
-#[derive(Clone, Copy)]
-pub enum Opened {
-    Holds {
-        version: Version,
-        text_length: u32,
-        count: u32,
-    },
-    Refused(Refusal),
+// The sheet read: the length of its text and the count of its tokens.
+#[derive(Clone, Copy, PartialEq, Eq)]
+pub struct Found {
+    pub text_length: u32,
+    pub count: u32,
 }
 
 impl Refusal {
@@ -62,14 +44,7 @@ impl Refusal {
     pub fn number(self) -> u32
         ensures { result ≡ number self }
     {
-        match self {
-            Refusal::FileLength => 31,
-            Refusal::UnknownVersion => 32,
-            Refusal::NotSound => 33,
-            Refusal::NoRoom => 34,
-            Refusal::TooLarge => 35,
-            Refusal::OtherCount => 36,
-        }
+        self as u32
     }
 }
 
@@ -87,43 +62,47 @@ fn is_too_large(v: Version, text_length: usize, count: usize) -> bool
 }
 
 // Refuses, and leaves the buffer zero.
-fn refuse_write(out: &mut [u8], r: Refusal) -> Written
+fn refuse_write(out: &mut [u8], r: Refusal) -> Result<usize, Refusal>
     ensures { left result out.new ≡ refuse_write (length out.old) r }
 {
     put::clear_from(out, 0);
-    Written::Refused(r)
+    Err(r)
 }
 
 // Puts the fields before the tokens.
-fn put_head(v: Version, text_length: u32, count: u32, out: &mut [u8])
-    requires { (too_large v text_length count ≡ false) × (head_size v ≤ length out.old) }
-    ensures { out.new ≡ sets out.old 0 (head_of v text_length count) }
+fn put_head(head: Head, out: &mut [u8])
+    requires { (too_large head.version head.text_length head.count ≡ false)
+        × (head_size head.version ≤ length out.old) }
+    ensures { out.new ≡ sets out.old 0 (head_of head.version head.text_length head.count) }
 {
-    let size = layout::file_size(v, count) as u32;
-    let number = layout::version_number(v);
-    let width = layout::text_width(v);
-    let place = layout::count_at(v);
+    let size = layout::file_size(head.version, head.count) as u32;
+    let number = layout::version_number(head.version);
+    let width = layout::text_width(head.version);
+    let place = layout::count_at(head.version);
     numbers::put_number(out, 0, Width::Four, size);
     numbers::put_number(out, layout::VERSION_AT, Width::One, number);
-    numbers::put_number(out, layout::TEXT_AT, width, text_length);
-    numbers::put_number(out, place, Width::Four, count);
+    numbers::put_number(out, layout::TEXT_AT, width, head.text_length);
+    numbers::put_number(out, place, Width::Four, head.count);
 }
 
 // Puts a file, and zeros behind it.
-fn put_file(v: Version, text_length: u32, words: &[u32], count: u32, out: &mut [u8]) -> Written
-    requires { (length (tokens_in words.now count) ≡ count) × (too_large v text_length count ≡ false) × (file_size v count ≤ length out.old) }
-    ensures { left result out.new ≡ accept_write (length out.old) (file_of v text_length (tokens_in words.now count)) }
+fn put_file(head: Head, words: &[u32], out: &mut [u8]) -> Result<usize, Refusal>
+    requires { (length (tokens_in words.now head.count) ≡ head.count)
+        × (too_large head.version head.text_length head.count ≡ false)
+        × (file_size head.version head.count ≤ length out.old) }
+    ensures { left result out.new ≡ accept_write (length out.old)
+        (file_of head.version head.text_length (tokens_in words.now head.count)) }
 {
-    let size = layout::file_size(v, count);
-    let head = layout::head_size(v);
-    put_head(v, text_length, count, out);
-    tokens::pack(words, count as usize, out, head);
+    let size = layout::file_size(head.version, head.count);
+    let from = layout::head_size(head.version);
+    put_head(head, out);
+    tokens::pack(words, head.count as usize, out, from);
     put::clear_from(out, size);
-    Written::File(size)
+    Ok(size)
 }
 
 // Writes a sheet for a text of a length as a file of a version.
-fn write_as(v: Version, text_length: usize, words: &[u32], count: usize, out: &mut [u8]) -> Written
+fn write_as(v: Version, text_length: usize, words: &[u32], count: usize, out: &mut [u8]) -> Result<usize, Refusal>
     ensures { Decided (Sound text_length words.now count)
         (write_of v text_length (tokens_in words.now count) (length out.old)) (left result out.new) }
 {
@@ -137,12 +116,17 @@ fn write_as(v: Version, text_length: usize, words: &[u32], count: usize, out: &m
     if out.len() < layout::file_size(v, tokens) {
         return refuse_write(out, Refusal::NoRoom);
     }
-    put_file(v, text_length as u32, words, tokens, out)
+    let head = Head {
+        version: v,
+        text_length: text_length as u32,
+        count: tokens,
+    };
+    put_file(head, words, out)
 }
 
 // Writes the first count tokens of the words, a sheet for a text of a length, as a file into a lent buffer. After success the buffer
 // holds the file and zeros behind it, after a refusal it is all zero.
-pub fn write(text_length: usize, words: &[u32], count: usize, out: &mut [u8]) -> Written
+pub fn write(text_length: usize, words: &[u32], count: usize, out: &mut [u8]) -> Result<usize, Refusal>
     ensures { Decided (Sound text_length words.now count)
         (write_of V1 text_length (tokens_in words.now count) (length out.old)) (left result out.new) }
 {
@@ -161,72 +145,73 @@ fn has_other_length(bytes: &[u8]) -> bool
 }
 
 // What a file of a version says before its tokens.
-fn open_as(v: Version, bytes: &[u8]) -> Opened
+#[tactic(auto, unfolding(crate::specs::Open::open_as))]
+fn open_as(v: Version, bytes: &[u8]) -> Result<Head, Refusal>
     ensures { result ≡ open_as v bytes.now }
 {
     let count = numbers::number_at(bytes, layout::count_at(v), Width::Four);
     if bytes.len() != layout::file_size(v, count) {
-        return Opened::Refused(Refusal::OtherCount);
+        return Err(Refusal::OtherCount);
     }
-    Opened::Holds {
+    Ok(Head {
         version: v,
         text_length: numbers::number_at(bytes, layout::TEXT_AT, layout::text_width(v)),
         count,
-    }
+    })
 }
 
 // What a file says before its tokens.
-fn open(bytes: &[u8]) -> Opened
+#[tactic(auto, unfolding(crate::specs::Open::open_file, crate::specs::Open::version_named))]
+fn open(bytes: &[u8]) -> Result<Head, Refusal>
     ensures { result ≡ open_file bytes.now }
 {
     if has_other_length(bytes) {
-        return Opened::Refused(Refusal::FileLength);
+        return Err(Refusal::FileLength);
     }
     let number = numbers::number_at(bytes, layout::VERSION_AT, Width::One);
-    match layout::version_named(number) {
-        VersionNamed::Known(v) => open_as(v, bytes),
-        VersionNamed::Unknown => Opened::Refused(Refusal::UnknownVersion),
-    }
+    let v = layout::version_named(number).ok_or(Refusal::UnknownVersion)?;
+    open_as(v, bytes)
 }
 
 // Refuses, and leaves the words zero.
-fn refuse_read(words: &mut [u32], r: Refusal) -> Found
+fn refuse_read(words: &mut [u32], r: Refusal) -> Result<Found, Refusal>
     ensures { left result words.new ≡ refuse_read (length words.old) r }
 {
     words::clear_from(words, 0);
-    Found::Refused(r)
+    Err(r)
 }
 
 // Reads the tokens of a file whose length is known to agree with its count. They are checked where they stand, since a sheet that finds
 // no room is refused for that only if it is sound, and where they are not laid down the words are left zero.
-fn read_tokens(v: Version, text_length: u32, count: u32, bytes: &[u8], words: &mut [u32]) -> Found
-    requires { length bytes.now ≡ file_size v count }
-    ensures { Decided (Sheet text_length (tokens_of v bytes.now))
-        (read_of text_length (tokens_of v bytes.now) (length words.old)) (left result words.new) }
+fn read_tokens(head: Head, bytes: &[u8], words: &mut [u32]) -> Result<Found, Refusal>
+    requires { length bytes.now ≡ file_size head.version head.count }
+    ensures { Decided (Sheet head.text_length (tokens_of head.version bytes.now))
+        (read_of head.text_length (tokens_of head.version bytes.now) (length words.old)) (left result words.new) }
 {
-    let from = layout::head_size(v);
+    let from = layout::head_size(head.version);
     let body = &bytes[from..];
-    let room = words::holds(words, count as usize);
-    if !sheet::check_onto(text_length as usize, body, count as usize, words) {
-        return Found::Refused(Refusal::NotSound);
+    let count = head.count as usize;
+    let room = words::holds(words, count);
+    if !sheet::check_onto(head.text_length as usize, body, count, words) {
+        return Err(Refusal::NotSound);
     }
     if !room {
-        return Found::Refused(Refusal::NoRoom);
+        return Err(Refusal::NoRoom);
     }
-    Found::Sheet { text_length, count }
+    Ok(Found {
+        text_length: head.text_length,
+        count: head.count,
+    })
 }
 
 // Reads any bytes as a sheet file onto lent words. After success the words hold the sheet's tokens and zeros behind them, after a
 // refusal they are all zero. What is read is sound.
-pub fn read(bytes: &[u8], words: &mut [u32]) -> Found
+#[tactic(auto, using(crate::proofs::Fields::opened_sized))]
+pub fn read(bytes: &[u8], words: &mut [u32]) -> Result<Found, Refusal>
     ensures { Reads bytes.now (length words.old) (left result words.new) }
 {
     match open(bytes) {
-        Opened::Holds {
-            version,
-            text_length,
-            count,
-        } => read_tokens(version, text_length, count, bytes, words),
-        Opened::Refused(r) => refuse_read(words, r),
+        Ok(head) => read_tokens(head, bytes, words),
+        Err(r) => refuse_read(words, r),
     }
 }

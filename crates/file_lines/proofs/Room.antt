@@ -17,15 +17,12 @@ use Rattle.sheet.proofs.Sheets.{one_answer}
 use Rattle.file.specs.declared.layout.Version.{Version}
 use Rattle.file.specs.declared.Refusal.{Refusal}
 use Rattle.file.specs.declared.Refusal.TheVariants.{FileLength, UnknownVersion, NotSound, NoRoom, TooLarge, OtherCount}
-use Rattle.file.specs.declared.Opened.{Opened}
-use Rattle.file.specs.declared.Opened.TheVariants.{Holds}
-use Rattle.file.specs.declared.Written.{Written}
-use Rattle.file.specs.declared.Written.TheVariants.{File}
+use Rattle.std.specs.Prelude.{Result, Ok, Err}
+use Rattle.file.specs.declared.layout.Head.{Head}
 use Rattle.file.specs.declared.Found.{Found}
-use Rattle.file.specs.declared.Found.TheVariants.{Sheet}
 use Rattle.file.specs.Layout.{head_size}
 use Rattle.file.specs.Open.{tokens_of, open_file}
-use Rattle.file.specs.Files.{Left, left, refuse_read, read_of, ReadOpened, ReadsAs, Reads}
+use Rattle.file.specs.Files.{Left, left, found_of, refuse_read, read_of, ReadOpened, ReadsAs, Reads}
 use Rattle.file.proofs.Reading.{reads-told}
 use Rattle.file.specs.Refusals.{number}
 use Rattle.report.specs.Room.{longest_other, dump_bytes}
@@ -50,9 +47,9 @@ unfolding refused_line
 refused-short r = simp length-append (omega (arith, two_short (number r) (refusal_two r)))
 
 -- a file that was written stands in its buffer
-pub file-short : (w : Written) (buffer : List ℕ) → length (file_text w buffer) ≤ 2 * length buffer + 11
-file-short (File size) buffer = simp length-append (omega (arith, hex_bytes-short (take size buffer), length-take size buffer))
-file-short (Written.Refused r) buffer = omega (arith, refused-short r)
+pub file-short : (w : Result ℕ Refusal) (buffer : List ℕ) → length (file_text w buffer) ≤ 2 * length buffer + 11
+file-short (Ok size) buffer = simp length-append (omega (arith, hex_bytes-short (take size buffer), length-take size buffer))
+file-short (Err r) buffer = omega (arith, refused-short r)
 
 -- ---- the lines of a sheet, by how many tokens it has
 line-short : (text_length count : ℕ) → text_length < 2 ^ 32 → count < 2 ^ 32 → length (sheet_line text_length count) ≤ longest_other
@@ -60,7 +57,7 @@ unfolding sheet_line
 line-short text_length count h k = simp length-append (omega (arith, word-short text_length h, word-short count k))
 
 sheet-short : (text_length count : ℕ) (ws : List ℕ) → text_length < 2 ^ 32 → count < 2 ^ 32 → Fit ws
-    → length (sheet_text (Sheet text_length count) ws) ≤ dump_bytes (min count (capacity (length ws)))
+    → length (sheet_text (Ok (found_of text_length count)) ws) ≤ dump_bytes (min count (capacity (length ws)))
 sheet-short text_length count ws h k fit =
     let few = tokens-length ws count in
     rw length-append
@@ -77,11 +74,11 @@ module _ (bytes : List ℕ) (room : ℕ) where
   tokens-few v = omega (arith, unpacked-length (drop (head_size v) bytes), length-drop (head_size v) bytes)
 
   -- a sheet is no refusal
-  no-sheet : {P : Type 0} {text_length count : ℕ} {ws : List ℕ} (r : Refusal) → left (Sheet text_length count) ws ≡ refuse_read room r → P
+  no-sheet : {P : Type 0} {text_length count : ℕ} {ws : List ℕ} (r : Refusal) → left (Ok (found_of text_length count)) ws ≡ refuse_read room r → P
   no-sheet r e = let z : ◌≡◌ {A = ℕ} 0 1 = cc in absurd (omega arith)
 
   read-few : (v : Version) (size : ℕ) (sound : Bool) {text_length count : ℕ} {ws : List ℕ}
-      → left (Sheet text_length count) ws ≡ read_of size (tokens_of v bytes) room sound → count ≤ length bytes / bytes_per_token
+      → left (Ok (found_of text_length count)) ws ≡ read_of size (tokens_of v bytes) room sound → count ≤ length bytes / bytes_per_token
   unfolding read_of
   read-few v size sound {text_length} {count} e =
       by_bool (not sound)
@@ -91,44 +88,45 @@ module _ (bytes : List ℕ) (room : ℕ) where
       (λ over. no-sheet NoRoom (rest ∙ first-here (refuse_read room) _ _ _ over))
       (λ fits.
       let is = rest ∙ first-later (refuse_read room) _ _ _ fits ∙ first-none (refuse_read room) _ in
-      let same : count ≡ length (tokens_of v bytes) = cc in
+      let found : found_of text_length count ≡ found_of size (length (tokens_of v bytes)) = cc in
+      let same : count ≡ length (tokens_of v bytes) = ap (λ (f : Found). f.count) found in
       omega (arith, tokens-few v)))
 
-  opened-few : (o : Opened) (text_length count : ℕ) (ws : List ℕ)
-      → ReadOpened (λ (answer : Left Found). answer) bytes room o (left (Sheet text_length count) ws) → count ≤ length bytes / bytes_per_token
-  opened-few (Holds v size n) text_length count ws d = read-few v size d.yes d.gives
-  opened-few (Opened.Refused r) text_length count ws e = no-sheet r e
+  opened-few : (o : Result Head Refusal) (text_length count : ℕ) (ws : List ℕ)
+      → ReadOpened (λ (answer : Left (Result Found Refusal)). answer) bytes room o (left (Ok (found_of text_length count)) ws) → count ≤ length bytes / bytes_per_token
+  opened-few (Ok head) text_length count ws d = read-few head.version head.text_length d.yes d.gives
+  opened-few (Err r) text_length count ws e = no-sheet r e
 
   -- ---- some bytes are read as one thing alone
-  opened_one : (o : Opened) (a b : Left Found) → ReadOpened (λ (answer : Left Found). answer) bytes room o a
-      → ReadOpened (λ (answer : Left Found). answer) bytes room o b → a ≡ b
-  opened_one (Holds v size n) a b x y =
-      x.gives ∙ ap (read_of size (tokens_of v bytes) room) (one_answer x.yes y.yes x.holds y.holds) ∙ sym y.gives
-  opened_one (Opened.Refused r) a b x y = x ∙ sym y
+  opened_one : (o : Result Head Refusal) (a b : Left (Result Found Refusal)) → ReadOpened (λ (answer : Left (Result Found Refusal)). answer) bytes room o a
+      → ReadOpened (λ (answer : Left (Result Found Refusal)). answer) bytes room o b → a ≡ b
+  opened_one (Ok head) a b x y =
+      x.gives ∙ ap (read_of head.text_length (tokens_of head.version bytes) room) (one_answer x.yes y.yes x.holds y.holds) ∙ sym y.gives
+  opened_one (Err r) a b x y = x ∙ sym y
 
-  held_by : (f : Found) (ws : List ℕ) → Reads bytes room (left f ws) → length (sheet_text f ws) ≤ dump_bytes (most_held bytes room)
+  held_by : (f : Result Found Refusal) (ws : List ℕ) → Reads bytes room (left f ws) → length (sheet_text f ws) ≤ dump_bytes (most_held bytes room)
       → Held bytes room
   held_by f ws d short g vs e =
       let same : left f ws ≡ left g vs = opened_one (open_file bytes) (left f ws) (left g vs) d e in
       let found : f ≡ g = cc in
       let words : ws ≡ vs = cc in
       subst (λ (us : List ℕ). length (sheet_text g us) ≤ dump_bytes (most_held bytes room)) words
-      (subst (λ (x : Found). length (sheet_text x ws) ≤ dump_bytes (most_held bytes room)) found short)
+      (subst (λ (x : Result Found Refusal). length (sheet_text x ws) ≤ dump_bytes (most_held bytes room)) found short)
 
   -- ---- so that the lines of a sheet that was read are held, and the line of a refusal
-  pub sheet-held : (ws : List ℕ) {f : Found} {text_length count : ℕ} → Reads bytes room (left f ws) → f ≡ Sheet text_length count
+  pub sheet-held : (ws : List ℕ) {f : Result Found Refusal} {text_length count : ℕ} → Reads bytes room (left f ws) → f ≡ Ok (found_of text_length count)
       → text_length < 2 ^ 32 → count < 2 ^ 32 → Fit ws → length ws ≡ room → Held bytes room
   sheet-held ws {text_length = text_length} {count = count} d told h k fit kept =
-      let is : Reads bytes room (left (Sheet text_length count) ws) = subst (λ (x : Found). Reads bytes room (left x ws)) told d in
-      held_by (Sheet text_length count) ws is
+      let is : Reads bytes room (left (Ok (found_of text_length count)) ws) = subst (λ (x : Result Found Refusal). Reads bytes room (left x ws)) told d in
+      held_by (Ok (found_of text_length count)) ws is
       (omega (arith, sheet-short text_length count ws h k fit, opened-few (open_file bytes) text_length count ws is))
 
-  pub refusal-held : (ws : List ℕ) {f : Found} {r : Refusal} → Reads bytes room (left f ws) → f ≡ Found.Refused r → Held bytes room
+  pub refusal-held : (ws : List ℕ) {f : Result Found Refusal} {r : Refusal} → Reads bytes room (left f ws) → f ≡ Err r → Held bytes room
   refusal-held ws {r = r} d told =
-      held_by (Found.Refused r) ws (subst (λ (x : Found). Reads bytes room (left x ws)) told d) (omega (arith, refused-short r))
+      held_by (Err r) ws (subst (λ (x : Result Found Refusal). Reads bytes room (left x ws)) told d) (omega (arith, refused-short r))
 
   -- and put whole where there is so much room
-  whole-given : (out : List ℕ) (at : ℕ) (given : Left Found) {told : Reported} → Reads bytes room given → told ≡ report_sheet out at given
+  whole-given : (out : List ℕ) (at : ℕ) (given : Left (Result Found Refusal)) {told : Reported} → Reads bytes room given → told ≡ report_sheet out at given
       → Held bytes room → at + dump_bytes (most_held bytes room) ≤ length out → ReadsAs (report_whole out at) bytes room told
   unfolding report_sheet report_whole
   whole-given out at (left f ws) d e held fits =

@@ -12,7 +12,6 @@ ghost use Rattle.put.specs.Append.{wrote, append};
 ghost use Rattle.report.specs.Room.{most_tokens};
 ghost use Rattle.file_lines.specs.Lines.{refused_line, sheet_line, reported, report_file, report_sheet, report_whole, Held};
 
-use file::{Found, Written};
 use put::{front, put_byte, put_bytes};
 use report::limits::{DUMP_BYTES, TAPE_WORDS};
 use report::numbers::put_decimal;
@@ -43,12 +42,12 @@ pub fn put_filed(
         (reported (wrote result out.new) buffer.new) }
 {
     match file::write(text_length, words, count, buffer) {
-        Written::File(size) => {
+        Ok(size) => {
             let word = put_bytes(out, at, b"file ");
             let bytes = put_hex_bytes(out, word, front(buffer, size));
             put_byte(out, bytes, b'\n')
         }
-        Written::Refused(refusal) => put_refusal(out, at, refusal.number()),
+        Err(refusal) => put_refusal(out, at, refusal.number()),
     }
 }
 
@@ -70,11 +69,11 @@ pub fn put_found(out: &mut [u8], at: usize, bytes: &[u8], words: &mut [u32]) -> 
     ensures held { Held bytes.now (length words.old) }
 {
     match file::read(bytes, words) {
-        Found::Sheet { text_length, count } => {
-            let next = put_sheet_line(out, at, text_length, count);
-            put_tokens(out, next, words, count)
+        Ok(found) => {
+            let next = put_sheet_line(out, at, found.text_length, found.count);
+            put_tokens(out, next, words, found.count)
         }
-        Found::Refused(refusal) => put_refusal(out, at, refusal.number()),
+        Err(refusal) => put_refusal(out, at, refusal.number()),
     }
 }
 

@@ -1,14 +1,16 @@
 -- What the contracts of `write` and `read` allow are calls of which the promises are told.
 -- Assumes nothing.
 use lib.ListN.{length}
-use Rattle.file.specs.declared.Written.{Written}
+use Prim.Native.Nat.{ℕ}
+use Rattle.std.specs.Prelude.{Result}
+use Rattle.file.specs.declared.Refusal.{Refusal}
 use Rattle.file.specs.declared.Found.{Found}
 use Rattle.file.specs.Files.{left}
 use Rattle.file.proofs.write.Reads as write
 use Rattle.file.proofs.read.Reads as read
 use Rattle.file_promises.specs.Calls.{WriteCall, Writes, ReadCall, ReadsSo}
 
-module _ (κs : _) (args : _) (r : Written) (xs : _) (post : write.Post κs args r xs) where
+module _ (κs : _) (args : _) (r : Result ℕ Refusal) (xs : _) (post : write.Post κs args r xs) where
   abbrev pub writing : WriteCall
   writing = record {
     text_length = args.0;
@@ -21,7 +23,7 @@ module _ (κs : _) (args : _) (r : Written) (xs : _) (post : write.Post κs args
   pub write_meets : Writes writing
   write_meets = post
 
-module _ (κs : _) (args : _) (r : Found) (xs : _) (post : read.Post κs args r xs) where
+module _ (κs : _) (args : _) (r : Result Found Refusal) (xs : _) (post : read.Post κs args r xs) where
   abbrev pub reading : ReadCall
   reading = record {
     bytes = args.0.now;

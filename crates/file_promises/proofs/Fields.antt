@@ -16,9 +16,9 @@ use Rattle.packed.specs.Packed.{packed, unpacked}
 use Rattle.packed.proofs.Spelling.{spelled-length, read_back}
 use Rattle.packed.proofs.Packing.{packed-length}
 use Rattle.file.specs.declared.layout.Version.TheVariants.{V1}
-use Rattle.file.specs.declared.Opened.TheVariants.{Holds}
+use Rattle.std.specs.Prelude.{Ok}
 use Rattle.file.specs.Layout.{version_number, total_field, version_field, text_field, count_field, text_at, file_size, total_of, head_of, file_of}
-use Rattle.file.specs.Open.{least_size, version_named, total_in, version_in, text_length_in, count_in, tokens_of, open_as, open_file}
+use Rattle.file.specs.Open.{least_size, version_named, total_in, version_in, text_length_in, count_in, tokens_of, says, open_as, open_file}
 use Rattle.file.specs.Files.{too_large}
 use Rattle.file.proofs.Writing.{small-text, small-total}
 use Rattle.file_promises.specs.Calls.{Bytes}
@@ -103,7 +103,7 @@ module _ (text_length : ℕ) (ts : List Token) (small : too_large V1 text_length
       ∙ spelt-last (total ++ named ++ text) counted 8 4 tvl (spelled-length 4 n)
       ∙ read_back 4 n (omega (arith, small-total V1 text_length n small))
 
-  pub written-opens : open_file (file_of V1 text_length ts) ≡ Holds V1 text_length n
+  pub written-opens : open_file (file_of V1 text_length ts) ≡ Ok (says V1 text_length n)
   unfolding file_of head_of open_file version_named open_as
   written-opens =
       rw (

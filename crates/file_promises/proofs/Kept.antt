@@ -19,13 +19,13 @@ use Rattle.sheet.specs.Sound.{Form, container, mixed_container, scalar, operator
 use Rattle.sheet.proofs.Sheets.{padded-sound}
 use Rattle.packed.specs.Numbers.{byte_values}
 use Rattle.file.specs.declared.layout.Version.TheVariants.{V1}
-use Rattle.file.specs.declared.Opened.{Opened}
-use Rattle.file.specs.declared.Opened.TheVariants.{Holds}
-use Rattle.file.specs.declared.Written.TheVariants.{File}
+use Rattle.std.specs.Prelude.{Result, Ok}
+use Rattle.file.specs.declared.Refusal.{Refusal}
+use Rattle.file.specs.declared.layout.Head.{Head}
 use Rattle.file.specs.declared.Found.{Found}
 use Rattle.file.specs.Layout.{file_of}
-use Rattle.file.specs.Open.{tokens_of, open_file}
-use Rattle.file.specs.Files.{Left, left, zeros, accept_write, write_of, accept_read, read_of, ReadOpened, Reads}
+use Rattle.file.specs.Open.{tokens_of, says, open_file}
+use Rattle.file.specs.Files.{Left, left, zeros, found_of, accept_write, write_of, accept_read, read_of, ReadOpened, Reads}
 use Rattle.file_promises.specs.Calls.{Words}
 use Rattle.file_promises.specs.Kept.{ReadSound, WriteRead, ReadWrite, OneFile}
 use Rattle.file_promises.proofs.Answers.{Wrote, wrote-file, writes-file, Took, took_sheet, takes-tokens, opened_fields}
@@ -76,18 +76,18 @@ held {bytes} {room} {count = count} t =
 pub read-sound : ReadSound
 read-sound r d text_length count words e =
     let took : Took r.bytes r.room text_length count words =
-    took_sheet r.bytes r.room text_length count words (subst (λ (g : Left Found). Reads r.bytes r.room g) e d) in
+    took_sheet r.bytes r.room text_length count words (subst (λ (g : Left (Result Found Refusal)). Reads r.bytes r.room g) e d) in
     let ts : List Token = tokens_of V1 r.bytes in
     let fits : words_for (length ts) ≤ r.room = omega (arith, took.fits, took.counted) in
     rw (took.lays, ← took.counted) (padded-sound text_length r.room ts fits took.sound)
 
 -- ---- written, then read
 -- a file whose fields and tokens are known is read, where its tokens are sound and find room
-reads-file : (bytes : List ℕ) (room text_length count : ℕ) (ts : List Token) (found : Left Found) → Reads bytes room found
-    → open_file bytes ≡ Holds V1 text_length count → tokens_of V1 bytes ≡ ts → Sheet text_length ts → words_for (length ts) ≤ room
+reads-file : (bytes : List ℕ) (room text_length count : ℕ) (ts : List Token) (found : Left (Result Found Refusal)) → Reads bytes room found
+    → open_file bytes ≡ Ok (says V1 text_length count) → tokens_of V1 bytes ≡ ts → Sheet text_length ts → words_for (length ts) ≤ room
     → found ≡ accept_read room text_length ts
 reads-file bytes room text_length count ts found d opens holds sound fits =
-    let told = subst (λ (o : Opened). ReadOpened (λ (answer : Left Found). answer) bytes room o found) opens d in
+    let told = subst (λ (o : Result Head Refusal). ReadOpened (λ (answer : Left (Result Found Refusal)). answer) bytes room o found) opens d in
     let yes : told.yes ≡ true = told.holds.1 (subst (Sheet text_length) (sym holds) sound) in
     told.gives ∙ ap (read_of text_length (tokens_of V1 bytes) room) yes ∙ ap (λ (us : List Token). read_of text_length us room true) holds
     ∙ takes-tokens text_length ts room fits
@@ -103,7 +103,7 @@ padded-words words count room h =
 pub write_read : WriteRead
 write_read w r writes reads all size out e same room =
     let ts : List Token = tokens_in w.words w.count in
-    let wrote : Wrote V1 w.text_length ts w.room writes.yes (left (File size) out) =
+    let wrote : Wrote V1 w.text_length ts w.room writes.yes (left (Ok size) out) =
     wrote-file V1 w.text_length ts w.room writes.yes size out (sym e ∙ writes.gives) in
     let sound : Sound w.text_length w.words w.count = writes.holds.0 wrote.yes in
     let counted : length ts ≡ w.count = tokens-counted w.words w.count sound.fits in
@@ -122,7 +122,7 @@ pub read-write : ReadWrite
 read-write r w reads writes all e room =
     let bytes : List ℕ = r.bytes in
     let took : Took bytes r.room w.text_length w.count w.words =
-    took_sheet bytes r.room w.text_length w.count w.words (subst (λ (g : Left Found). Reads bytes r.room g) e reads) in
+    took_sheet bytes r.room w.text_length w.count w.words (subst (λ (g : Left (Result Found Refusal)). Reads bytes r.room g) e reads) in
     let fields = opened_fields bytes w.text_length w.count took.opens in
     let ts : List Token = tokens_of V1 bytes in
     let same : tokens_in w.words w.count ≡ ts = held took in
@@ -138,9 +138,9 @@ read-write r w reads writes all e room =
 pub one-file : OneFile
 one-file r s reads others all alls text_length count words more e f same =
     let took : Took r.bytes r.room text_length count words =
-    took_sheet r.bytes r.room text_length count words (subst (λ (g : Left Found). Reads r.bytes r.room g) e reads) in
+    took_sheet r.bytes r.room text_length count words (subst (λ (g : Left (Result Found Refusal)). Reads r.bytes r.room g) e reads) in
     let took' : Took s.bytes s.room text_length count more =
-    took_sheet s.bytes s.room text_length count more (subst (λ (g : Left Found). Reads s.bytes s.room g) f others) in
+    took_sheet s.bytes s.room text_length count more (subst (λ (g : Left (Result Found Refusal)). Reads s.bytes s.room g) f others) in
     let tokens : tokens_of V1 r.bytes ≡ tokens_of V1 s.bytes =
     sym (held took) ∙ sym (tokens-first words count) ∙ ap (λ (x : List ℕ). tokens_in x count) same ∙ tokens-first more count ∙ held took' in
     sym (read_again r.bytes all text_length count (opened_fields r.bytes text_length count took.opens) took.counted)

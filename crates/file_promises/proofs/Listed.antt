@@ -18,13 +18,14 @@ use Rattle.packed.specs.Numbers.{number_of, spelt}
 use Rattle.file.specs.declared.layout.Version.TheVariants.{V1}
 use Rattle.file.specs.declared.Refusal.{Refusal}
 use Rattle.file.specs.declared.Refusal.TheVariants.{FileLength, UnknownVersion, NotSound, NoRoom, OtherCount}
-use Rattle.file.specs.declared.Opened.{Opened}
-use Rattle.file.specs.declared.Opened.TheVariants.{Holds}
+use Rattle.std.specs.Prelude.{Result, Ok, Err}
+use Rattle.file.specs.declared.Refusal.{Refusal}
+use Rattle.file.specs.declared.layout.Head.{Head}
 use Rattle.file.specs.declared.Found.{Found}
 use Rattle.file.specs.Layout.{file_size}
-use Rattle.file.specs.Open.{least_size, version_named, total_in, version_in, text_length_in, count_in, tokens_of, other_length, open_as, open_file}
+use Rattle.file.specs.Open.{least_size, version_named, total_in, version_in, text_length_in, count_in, tokens_of, other_length, says, open_as, open_file}
 use Rattle.file.specs.Refusals.{number}
-use Rattle.file.specs.Files.{Left, left, refuse_read, accept_read, read_of, ReadOpened, Reads}
+use Rattle.file.specs.Files.{Left, left, found_of, refuse_read, accept_read, read_of, ReadOpened, Reads}
 use Rattle.file.proofs.Reading.{tokens-counted}
 use Rattle.file_promises.specs.Calls.{ReadCall, ReadsSo}
 use Rattle.file_promises.specs.Listed as listed
@@ -32,10 +33,10 @@ use Rattle.file_promises.specs.Listed.{refusal_of, Measured, Listed, ReadListed,
 use Rattle.file_promises.proofs.Answers.{took_sheet, opened_fields}
 use Rattle.file_promises.proofs.Fields.{field-there}
 
-module _ (bytes : List ℕ) (room : ℕ) (found : Left Found) (reads : Reads bytes room found) where
+module _ (bytes : List ℕ) (room : ℕ) (found : Left (Result Found Refusal)) (reads : Reads bytes room found) where
   -- a file that is refused for its fields
-  refused : (why : Refusal) → open_file bytes ≡ Opened.Refused why → refusal_of found ≡ number why
-  refused why e = ap refusal_of (subst (λ (o : Opened). ReadOpened (λ (answer : Left Found). answer) bytes room o found) e reads)
+  refused : (why : Refusal) → open_file bytes ≡ Err why → refusal_of found ≡ number why
+  refused why e = ap refusal_of (subst (λ (o : Result Head Refusal). ReadOpened (λ (answer : Left (Result Found Refusal)). answer) bytes room o found) e reads)
 
   pub short-refused : length bytes < least_size → refusal_of found ≡ 31
   unfolding open_file
@@ -81,7 +82,7 @@ module _ (bytes : List ℕ) (room : ℕ) (found : Left Found) (reads : Reads byt
             (rw (open_file, well, version_named, version-is ∙ first, open_as, ne_eqb (file_size V1 (count_in V1 bytes)) (length bytes) (λ e. other (sym e))))
 
         module _ (measured : Measured bytes) where
-          opens : open_file bytes ≡ Holds V1 (listed.text_length bytes) (listed.count bytes)
+          opens : open_file bytes ≡ Ok (says V1 (listed.text_length bytes) (listed.count bytes))
           unfolding open_file version_named open_as
           opens =
               rw (
@@ -96,7 +97,7 @@ module _ (bytes : List ℕ) (room : ℕ) (found : Left Found) (reads : Reads byt
               )
 
           told : Decided (Sheet (listed.text_length bytes) (tokens_of V1 bytes)) (read_of (listed.text_length bytes) (tokens_of V1 bytes) room) found
-          told = subst (λ (o : Opened). ReadOpened (λ (answer : Left Found). answer) bytes room o found) opens reads
+          told = subst (λ (o : Result Head Refusal). ReadOpened (λ (answer : Left (Result Found Refusal)). answer) bytes room o found) opens reads
 
           tokens_are : tokens_of V1 bytes ≡ listed.tokens bytes
           unfolding tokens_of
@@ -155,10 +156,10 @@ read-listed r d = all_listed r.bytes r.room r.found d
 
 -- ---- cut short, or longer
 -- what a file that was read says of its length
-read-total : (r : ReadCall) → ReadsSo r → (text_length count : ℕ) (words : List ℕ) → r.found ≡ left (Found.Sheet text_length count) words
+read-total : (r : ReadCall) → ReadsSo r → (text_length count : ℕ) (words : List ℕ) → r.found ≡ left (Ok (found_of text_length count)) words
     → (least_size ≤ length r.bytes) × (listed.total r.bytes ≡ length r.bytes)
 read-total r d text_length count words e =
-    let took = took_sheet r.bytes r.room text_length count words (subst (λ (g : Left Found). Reads r.bytes r.room g) e d) in
+    let took = took_sheet r.bytes r.room text_length count words (subst (λ (g : Left (Result Found Refusal)). Reads r.bytes r.room g) e d) in
     let fields = opened_fields r.bytes text_length count took.opens in
     (fields.least, sym (total-is r.bytes r.room r.found d fields.least) ∙ fields.total)
 

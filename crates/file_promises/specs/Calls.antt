@@ -1,11 +1,11 @@
 -- The calls of sheet files, by their values: what each is given and lent, and its answer with what it leaves.
-use Rattle.std.specs.Prelude.{ℕ, ◌<◌, ◌≤◌, List, get_or}
+use Rattle.std.specs.Prelude.{ℕ, ◌<◌, ◌≤◌, Result, List, get_or}
 use Rattle.tape.specs.Words.{greatest_word, tokens_in}
 use Rattle.sheet.specs.Decided.{Decided}
 use Rattle.sheet.specs.Sound.{Sound}
 use Rattle.packed.specs.Numbers.{byte_values}
 use Rattle.file.specs.declared.layout.Version.TheVariants.{V1}
-use Rattle.file.specs.declared.Written.{Written}
+use Rattle.file.specs.declared.Refusal.{Refusal}
 use Rattle.file.specs.declared.Found.{Found}
 use Rattle.file.specs.Files.{Left, write_of, Reads}
 
@@ -22,7 +22,7 @@ pub record WriteCall : Type 0 where
   pub words : List ℕ
   pub count : ℕ
   pub room : ℕ
-  pub written : Left Written
+  pub written : Left (Result ℕ Refusal)
 
 abbrev pub Writes : WriteCall → Type 0
 Writes w =
@@ -32,7 +32,7 @@ Writes w =
 pub record ReadCall : Type 0 where
   pub bytes : List ℕ
   pub room : ℕ
-  pub found : Left Found
+  pub found : Left (Result Found Refusal)
 
 abbrev pub ReadsSo : ReadCall → Type 0
 ReadsSo r = Reads r.bytes r.room r.found

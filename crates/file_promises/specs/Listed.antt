@@ -1,19 +1,19 @@
 -- Every file's refusal is as listed, whatever its bytes.
-use Rattle.std.specs.Prelude.{ℕ, ◌+◌, ◌*◌, ◌≤◌, ◌<◌, ◌≡◌, List, ◌++◌, length, take, drop}
+use Rattle.std.specs.Prelude.{ℕ, ◌+◌, ◌*◌, ◌≤◌, ◌<◌, ◌≡◌, Result, Ok, List, ◌++◌, length, take, drop}
 use Rattle.tape.specs.declared.token.Token.{Token}
 use Rattle.tape.specs.Words.{words_per_token}
 use Rattle.sheet.specs.Sound as sheet
 use Rattle.packed.specs.Numbers.{number_of}
 use Rattle.packed.specs.Packed.{bytes_per_token, unpacked}
 use Rattle.file.specs.declared.Found.{Found}
-use Rattle.file.specs.declared.Found.TheVariants.{Sheet}
+use Rattle.file.specs.declared.Refusal.{Refusal}
 use Rattle.file.specs.Open.{least_size}
 use Rattle.file.specs.Refusals.{read_refusal}
-use Rattle.file.specs.Files.{Left, left}
+use Rattle.file.specs.Files.{Left, left, found_of}
 use Rattle.file_promises.specs.Calls.{ReadCall, ReadsSo}
 
 -- the number of an answer, 0 where a sheet was read
-abbrev pub refusal_of : Left Found → ℕ
+abbrev pub refusal_of : Left (Result Found Refusal) → ℕ
 refusal_of (left found words) = read_refusal found
 
 -- ---- the numbers of a file, by its bytes: four, one, three and four of them, and the tokens behind
@@ -55,10 +55,10 @@ ReadListed = (r : ReadCall) → ReadsSo r → Listed r.bytes r.room (refusal_of 
 -- a file that was read is refused by 31 where it is cut short, wherever that is, and where anything is added to it
 abbrev pub CutRefused : Type 0
 CutRefused =
-    (r s : ReadCall) → ReadsSo r → ReadsSo s → (text_length count : ℕ) (words : List ℕ) → r.found ≡ left (Sheet text_length count) words
+    (r s : ReadCall) → ReadsSo r → ReadsSo s → (text_length count : ℕ) (words : List ℕ) → r.found ≡ left (Ok (found_of text_length count)) words
     → (n : ℕ) → n < length r.bytes → s.bytes ≡ take n r.bytes → refusal_of s.found ≡ 31
 
 abbrev pub LongerRefused : Type 0
 LongerRefused =
-    (r s : ReadCall) → ReadsSo r → ReadsSo s → (text_length count : ℕ) (words : List ℕ) → r.found ≡ left (Sheet text_length count) words
+    (r s : ReadCall) → ReadsSo r → ReadsSo s → (text_length count : ℕ) (words : List ℕ) → r.found ≡ left (Ok (found_of text_length count)) words
     → (more : List ℕ) → 0 < length more → s.bytes ≡ r.bytes ++ more → refusal_of s.found ≡ 31

@@ -18,6 +18,7 @@ use Rattle.machine.specs.declared.State.TheVariants.{Key, KeyValueSeparator, Obj
 use Rattle.machine.specs.declared.bytes.KeyByte as KeyBytes
 use Rattle.machine.specs.declared.bytes.OpenByte as OpenBytes
 use Rattle.machine.specs.declared.bytes.ValueByte as ValueBytes
+use Rattle.tape.specs.declared.token.Container.{Container}
 
 pub by_skipped : {P : Type 0} (s : Skipped) → ((p : ℕ) → s ≡ At p → P) → (s ≡ End → P) → P
 by_skipped (At p) f g = f p refl

@@ -7,8 +7,9 @@ use mathlib.Core.List.{List}
 use mathlib.Core.Logic.{◌↔◌}
 use Prim.Native.Nat.{ℕ}
 use Rattle.sheet.specs.Decided.{Decided}
-use Rattle.file.specs.declared.Opened.{Opened}
-use Rattle.file.specs.declared.Opened.TheVariants.{Holds}
+use Rattle.std.specs.Prelude.{Result, Ok, Err}
+use Rattle.file.specs.declared.layout.Head.{Head}
+use Rattle.file.specs.declared.Refusal.{Refusal}
 use Rattle.file.specs.declared.Found.{Found}
 use Rattle.file.specs.Open.{open_file}
 use Rattle.file.specs.Files.{Left, left, ReadOpened, ReadsAs}
@@ -224,17 +225,17 @@ one_decided : {Answer : Type 0} (P : Type 0) (answer : Bool → Answer) (x y : A
 one_decided P answer x y p q = p.gives ∙ ap answer (one-verdict P p.yes q.yes p.holds q.holds) ∙ sym q.gives
 
 -- and so does one that names what a file is read as, by what stands before its tokens
-one-opened : {Told : Type 0} (tell : Left Found → Told) (bytes : List ℕ) (room : ℕ) (o : Opened) (x y : Told)
+one-opened : {Told : Type 0} (tell : Left (Result Found Refusal) → Told) (bytes : List ℕ) (room : ℕ) (o : Result Head Refusal) (x y : Told)
     → ReadOpened tell bytes room o x → ReadOpened tell bytes room o y → x ≡ y
-one-opened tell bytes room (Holds v text_length count) x y p q = one_decided _ _ x y p q
-one-opened tell bytes room (Opened.Refused r) x y p q = p ∙ sym q
+one-opened tell bytes room (Ok head) x y p q = one_decided _ _ x y p q
+one-opened tell bytes room (Err r) x y p q = p ∙ sym q
 
-one-read : {Told : Type 0} (tell : Left Found → Told) (bytes : List ℕ) (room : ℕ) (x y : Told)
+one-read : {Told : Type 0} (tell : Left (Result Found Refusal) → Told) (bytes : List ℕ) (room : ℕ) (x y : Told)
     → ReadsAs tell bytes room x → ReadsAs tell bytes room y → x ≡ y
 one-read tell bytes room x y p q = one-opened tell bytes room (open_file bytes) x y p q
 
 -- told as lines: one place, one buffer and one list of words
-one_reported : (tell : Left Found → Reported) (bytes : List ℕ) (room : ℕ) {r s : ℕ} {out more words left : List ℕ}
+one_reported : (tell : Left (Result Found Refusal) → Reported) (bytes : List ℕ) (room : ℕ) {r s : ℕ} {out more words left : List ℕ}
     → ReadsAs tell bytes room (reported (wrote r out) words) → ReadsAs tell bytes room (reported (wrote s more) left)
     → (r ≡ s) × (out ≡ more) × (words ≡ left)
 one_reported tell bytes room {r} {s} {out} {more} {words} {left} p q =

@@ -1,6 +1,6 @@
 -- How long the lines are that answer for a scalar and for a sheet.
 -- Assumes nothing.
-use Rattle.std.specs.Prelude.{Option, Some, None}
+use Rattle.std.specs.Prelude.{Option, Some, None, Result, Ok, Err}
 use mathlib.Core.Path.{◌≡◌, refl, ◌∙◌, ap}
 use mathlib.Core.Bool.{Bool, true, false}
 use mathlib.Core.List.{List, [], ◌∷◌}
@@ -39,8 +39,7 @@ use Rattle.scalar.specs.declared.whole.I64Read.{I64Read}
 use Rattle.scalar.proofs.Wholes.{by_part, by_size, rest-within}
 use Rattle.writer.specs.declared.Refusal.{Refusal}
 use Rattle.writer.specs.declared.Refusal.TheVariants.{NotSound, TooDeep, TooLong, NoRoom, ReadsOtherwise, OtherForm}
-use Rattle.writer.specs.declared.Written.{Written}
-use Rattle.writer.specs.declared.Written.TheVariants.{Text, Refused}
+use Rattle.std.specs.Prelude.{Result, Ok, Err}
 use Rattle.writer.specs.Refusals.{number}
 use Rattle.report.proofs.Room.{decimal-short, bit-short, number_short}
 use Rattle.report.specs.Dates.{year_month_day, date_text, date_line, day_line}
@@ -49,7 +48,6 @@ use Rattle.report.specs.Dump.{field}
 use Rattle.report.specs.Readings.{integer, bool_text, u64_text, i64_text, f64_text, exact_of, readings_of, left_text, leading_of}
 use Rattle.report.specs.Room.{most_input}
 use Rattle.report.specs.Sheets.{verdict, hex_bytes, view_text, written_text}
-use Rattle.sheet.specs.declared.views.Viewed.{Viewed}
 
 -- a refusal of a reading has two digits
 pub two_short : (n : ℕ) → n < 100 → length (decimal n) ≤ 2
@@ -215,7 +213,7 @@ pub verdict-short : (sound : Bool) → length (verdict sound) ≤ 8
 verdict-short true = omega arith
 verdict-short false = omega arith
 
-pub view-short : (text : List ℕ) (v : Option Viewed) → length (view_text text v) ≤ 2 * length text + 11
+pub view-short : (text : List ℕ) (v : Option Option View) → length (view_text text v) ≤ 2 * length text + 11
 view-short text (Some v) =
     simp length-append
     (omega (arith, hex_bytes-short (take v.length (drop v.offset text)), length-take v.length (drop v.offset text), length-drop v.offset text))
@@ -230,6 +228,6 @@ refusal_two NoRoom = omega arith
 refusal_two ReadsOtherwise = omega arith
 refusal_two OtherForm = omega arith
 
-pub written-short : (w : Written) (buffer : List ℕ) → length (written_text w buffer) ≤ 2 * length buffer + 11
-written-short (Text size) buffer = simp length-append (omega (arith, hex_bytes-short (take size buffer), length-take size buffer))
-written-short (Refused r) buffer = simp length-append (omega (arith, two_short (number r) (refusal_two r)))
+pub written-short : (w : Result ℕ Refusal) (buffer : List ℕ) → length (written_text w buffer) ≤ 2 * length buffer + 11
+written-short (Ok size) buffer = simp length-append (omega (arith, hex_bytes-short (take size buffer), length-take size buffer))
+written-short (Err r) buffer = simp length-append (omega (arith, two_short (number r) (refusal_two r)))

@@ -1,16 +1,14 @@
 -- The answers about a sheet as lines: whether it is sound, and the view of a token.
-use Rattle.std.specs.Prelude.{ℕ, Bool, true, false, List, [], ◌∷◌, ◌++◌, take, drop, Option, Some, None}
+use Rattle.std.specs.Prelude.{ℕ, Result, Ok, Err, Bool, true, false, List, [], ◌∷◌, ◌++◌, take, drop, Option, Some, None}
 use Rattle.data.specs.Bytes.{line_feed}
 use Rattle.sheet.specs.Views.{refusal_of}
 use Rattle.sheet.specs.Decided.{Decided}
-use Rattle.writer.specs.declared.Written.{Written}
-use Rattle.writer.specs.declared.Written.TheVariants.{Text, Refused}
+use Rattle.writer.specs.declared.Refusal.{Refusal}
 use Rattle.writer.specs.Refusals.{number}
 use Rattle.writer.specs.Write.{Left, left}
 use Rattle.put.specs.Append.{Wrote, append}
 use Rattle.report.specs.Digits.{decimal, hex}
 use Rattle.report.specs.Words as words
-use Rattle.sheet.specs.declared.views.Viewed.{Viewed}
 
 -- the verdict on a sheet
 abbrev pub verdict : Bool → List ℕ
@@ -27,14 +25,14 @@ hex_bytes [] = []
 hex_bytes (b ∷ bs) = hex 2 b ++ hex_bytes bs
 
 -- a token's part of the text, or the refusal
-abbrev pub view_text : List ℕ → Option Viewed → List ℕ
+abbrev pub view_text : List ℕ → Option View → List ℕ
 view_text text (Some v) = words.view ++ hex_bytes (take v.length (drop v.offset text)) ++ (line_feed ∷ [])
 view_text text None = words.refused ++ decimal (refusal_of None) ++ (line_feed ∷ [])
 
 -- the text that was written, which stands at the front of its buffer, or the refusal
-abbrev pub written_text : Written → List ℕ → List ℕ
-written_text (Text size) buffer = words.text ++ hex_bytes (take size buffer) ++ (line_feed ∷ [])
-written_text (Refused r) buffer = words.refused ++ decimal (number r) ++ (line_feed ∷ [])
+abbrev pub written_text : Result ℕ Refusal → List ℕ → List ℕ
+written_text (Ok size) buffer = words.text ++ hex_bytes (take size buffer) ++ (line_feed ∷ [])
+written_text (Err r) buffer = words.refused ++ decimal (number r) ++ (line_feed ∷ [])
 
 -- what was put, with the buffer and the scratch as the way back leaves them
 pub data Reported : Type 0 where

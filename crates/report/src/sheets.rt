@@ -10,7 +10,6 @@ ghost use Rattle.report.specs.Sheets.{Judged, hex_bytes, view_text, reported, re
 
 use crate::numbers::{put_decimal, put_hex};
 use put::{front, put_byte, put_bytes};
-use writer::Written;
 
 // Puts whether the first count tokens of the words are a sound sheet for a text of a length.
 pub fn put_check(
@@ -84,12 +83,12 @@ pub fn put_written(
         (reported (wrote result out.new) buffer.new scratch.new) }
 {
     match writer::write(text, words, count, buffer, scratch) {
-        Written::Text(size) => {
+        Ok(size) => {
             let word = put_bytes(out, at, b"text ");
             let bytes = put_hex_bytes(out, word, front(buffer, size));
             put_byte(out, bytes, b'\n')
         }
-        Written::Refused(refusal) => {
+        Err(refusal) => {
             let number = refusal.number() as u64;
             let word = put_bytes(out, at, b"refused ");
             let digits = put_decimal(out, word, number);

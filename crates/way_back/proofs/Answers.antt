@@ -14,15 +14,14 @@ use Rattle.tape.specs.Words.{capacity}
 use Rattle.parse.specs.Parse.{text_limit, parse_of}
 use Rattle.writer.specs.declared.Refusal.{Refusal}
 use Rattle.writer.specs.declared.Refusal.TheVariants.{NotSound, TooDeep, TooLong, NoRoom, ReadsOtherwise, OtherForm}
-use Rattle.writer.specs.declared.Written.{Written}
-use Rattle.writer.specs.declared.Written.TheVariants.{Text, Refused}
+use Rattle.std.specs.Prelude.{Result, Ok, Err}
 use Rattle.writer.specs.Refusals.{number}
 use Rattle.alike.specs.Alike.{comes_back}
 use Rattle.data.specs.Reasons.{first_of}
 use Rattle.writer.specs.Write.{Left, refuse, text_of, formed, too_deep, no_room, weigh, read_back, write_of}
 use Rattle.way_back.specs.Accepted.{Given, Accepted, ReadsBack, answer_of, AnswersLength, Promised}
 
-length-apart : {P : Type 0} (answer : Written) (size : ℕ) (r : Refusal) → answer ≡ Text size → answer ≡ Refused r → P
+length-apart : {P : Type 0} (answer : Result ℕ Refusal) (size : ℕ) (r : Refusal) → answer ≡ Ok size → answer ≡ Err r → P
 length-apart answer size r e f = let z : ◌≡◌ {A = ℕ} 0 1 = cc in absurd (omega arith)
 
 module _ (text : List ℕ) (ts : List Token) (room scratch : ℕ) where
@@ -127,8 +126,8 @@ module _ (text : List ℕ) (ts : List Token) (room scratch : ℕ) where
       record { not_45 = λ e. length-apart _ _ ReadsOtherwise a e; not_46 = λ e. length-apart _ _ OtherForm a e })
     where
       later : (r s : Refusal) → number r < number ReadsOtherwise → number ReadsOtherwise ≤ number s → answered ≡ refuse room scratch r
-          → answer_of answered ≡ Refused s → ⊥
+          → answer_of answered ≡ Err s → ⊥
       later r s n m a e =
-          let same : Refused r ≡ Refused s = sym (ap answer_of a) ∙ e in
+          let same : ◌≡◌ {A = Result ℕ Refusal} (Err r) (Err s) = sym (ap answer_of a) ∙ e in
           let one : r ≡ s = cc in
           omega (arith, n, m, ap number one)

@@ -1,6 +1,5 @@
 -- The promises, of whatever answers the contracts of `write` and `parse` allow.
 -- Assumes nothing.
-use Rattle.std.specs.Prelude.{Result}
 use mathlib.Core.Path.{◌≡◌, sym, ◌∙◌, ap}
 use mathlib.Core.Bool.{true}
 use mathlib.Core.List.{List}
@@ -16,8 +15,8 @@ use Rattle.parse.specs.Parse.{parse_of}
 use Rattle.parse.proofs.parse.Reads as parse
 use Rattle.sheet.specs.Decided.{Decided}
 use Rattle.sheet.specs.Sound.{Sound}
-use Rattle.writer.specs.declared.Written.{Written}
-use Rattle.writer.specs.declared.Written.TheVariants.{Text}
+use Rattle.std.specs.Prelude.{Result, Ok}
+use Rattle.writer.specs.declared.Refusal.{Refusal}
 use Rattle.writer.specs.Write.{Left, left, zeros, accept, text_of, write_of}
 use Rattle.writer.proofs.write.Reads as write
 use Rattle.way_back.specs.Accepted.{AcceptedAs, Accepted, answer_of}
@@ -27,7 +26,6 @@ use Rattle.way_back.proofs.Answers.{given_accepts, settled, length-sound}
 use Rattle.way_back.proofs.Exactly.{length-exactly}
 use Rattle.way_back.proofs.Promised.{plain-accepted, plain-promised}
 use Rattle.way_back.proofs.Stable.{parses_again, stable}
-use Rattle.machine.specs.declared.Refusal.{Refusal}
 
 -- ---- what the contracts say of a call's values
 abbrev written_of : WriteCall → Left
@@ -62,10 +60,10 @@ plain-told w d fits p =
 
 -- ---- writing is stable
 -- the bytes that are counted are the text
-counted : (room scratch size : ℕ) (bytes : List ℕ) (written : Left) → written ≡ accept room scratch bytes → answer_of written ≡ Text size
+counted : (room scratch size : ℕ) (bytes : List ℕ) (written : Left) → written ≡ accept room scratch bytes → answer_of written ≡ Ok size
     → (size ≡ length bytes) × (front_of size written ≡ bytes)
 counted room scratch size bytes written e f =
-    let same : Text size ≡ Text (length bytes) = sym f ∙ ap answer_of e in
+    let same : ◌≡◌ {A = Result ℕ Refusal} (Ok size) (Ok (length bytes)) = sym f ∙ ap answer_of e in
     let n : size ≡ length bytes = cc in
     (n, ap (front_of size) e ∙ rw n (take-append_seam bytes (zeros (room - length bytes))))
 
@@ -98,7 +96,7 @@ stable_told w p v d q f size h k =
     rw (told v f (rw k.text s.sound), k.text, again, ← h.text, c.size_is)
 
 -- ---- of the contracts
-module _ (κs : _) (args : _) (r : Written) (xs : _) (post : write.Post κs args r xs) where
+module _ (κs : _) (args : _) (r : Result ℕ Refusal) (xs : _) (post : write.Post κs args r xs) where
   -- the call by its values
   abbrev pub writing : WriteCall
   writing = record {
@@ -117,7 +115,7 @@ module _ (κs : _) (args : _) (p : Result Parsed Refusal) (xs : _) (post : parse
   abbrev pub parsing : ParseCall
   parsing = record { text = args.0.now; len = length args.1.0.now; parsed = outcome p xs.1.0.now }
 
-module _ (κs : _) (args : _) (r : Written) (xs : _) (post : write.Post κs args r xs)
+module _ (κs : _) (args : _) (r : Result ℕ Refusal) (xs : _) (post : write.Post κs args r xs)
     (ls : _) (asked : _) (p : Result Parsed Refusal) (ys : _) (q : parse.Post ls asked p ys) where
   pub write-exactly : WriteExactly (writing κs args r xs post) (parsing ls asked p ys q)
   write-exactly = exactly-told _ _ post q
@@ -125,6 +123,6 @@ module _ (κs : _) (args : _) (r : Written) (xs : _) (post : write.Post κs args
   pub write_parses : WriteParses (writing κs args r xs post) (parsing ls asked p ys q)
   write_parses = parses_told _ _ post q
 
-  pub write_stable : (ms : _) (taken : _) (s : Written) (zs : _) (t : write.Post ms taken s zs)
+  pub write_stable : (ms : _) (taken : _) (s : Result ℕ Refusal) (zs : _) (t : write.Post ms taken s zs)
       → WriteStable (writing κs args r xs post) (parsing ls asked p ys q) (writing ms taken s zs t)
   write_stable ms taken s zs t = stable_told _ _ _ post q t

@@ -1,6 +1,5 @@
 -- The text of a sound sheet is no longer than the text that its views lie in, with the bytes that each token adds.
 -- Assumes nothing.
-use Rattle.std.specs.Prelude.{Option, Some, None}
 use mathlib.Core.Path.{◌≡◌, refl, sym, ◌∙◌, ap}
 use mathlib.Core.Bool.{Bool, true, false}
 use mathlib.Core.List.{List, ◌++◌}
@@ -36,7 +35,7 @@ use Rattle.writer.specs.declared.pieces.Piece.{Piece}
 use Rattle.writer.specs.declared.pieces.Piece.TheVariants.{Scalar, Heading, Sign, Mixed, Opener, Other}
 use Rattle.writer.specs.declared.Refusal.{Refusal}
 use Rattle.writer.specs.declared.Refusal.TheVariants.{NotSound, TooDeep, TooLong, NoRoom, ReadsOtherwise, OtherForm}
-use Rattle.writer.specs.declared.Written.TheVariants.{Text, Refused}
+use Rattle.std.specs.Prelude.{Result, Ok, Err, Option, Some, None}
 use Rattle.put.specs.Parts.{view_of}
 use Rattle.writer.specs.Pieces.{quote_if, symbol_bytes, numbered_bytes, sign_bytes, own_bytes, bare_piece, piece_of}
 use Rattle.writer.specs.Text.{lead, piece_text}
@@ -46,7 +45,7 @@ use Rattle.writer.specs.Refusals.{number}
 use Rattle.alike.specs.Alike.{comes_back}
 use Rattle.data.specs.Reasons.{first_of}
 use Rattle.writer.specs.Write.{text_of, formed, too_deep, weigh, read_back, write_of}
-use Rattle.writer.proofs.Sizes.{lead-same, lead-short, quoted-size, view-short}
+use Rattle.writer.proofs.Sizes.{lead_same, lead_short, quoted-size, view-short}
 use Rattle.writer.proofs.Grown.{tokens-on}
 use Rattle.writer.proofs.Scanned.{size-told, size_none}
 use Rattle.way_back.specs.Accepted.{answer_of}
@@ -70,7 +69,7 @@ scalar-short text false offset size = omega (arith, view-short text offset size)
 
 -- and the byte before them
 led-short : (first sign : Bool) (own : List ℕ) (size : ℕ) → length own ≤ size + 2 → length (lead first Entry sign ++ own) ≤ size + most_added
-led-short first sign own size h = omega (arith, length-append (lead first Entry sign) own, lead-same first Entry sign, lead-short first)
+led-short first sign own size h = omega (arith, length-append (lead first Entry sign) own, lead_same first Entry sign, lead_short first)
 
 -- the bytes that a piece views
 abbrev viewed_by : Piece → ℕ
@@ -93,7 +92,7 @@ piece-short text first Other = omega arith
 -- a token by its link: an opening brace with what stands before it, a closing one, or a piece
 token-short : (text : List ℕ) (first : Bool) (x : Token) (l : Option Link) → token_size text first x l ≤ viewed_by (piece_of x) + most_added
 unfolding token_size
-token-short text first x (Some (ToEnd end)) = omega (arith, lead-short first)
+token-short text first x (Some (ToEnd end)) = omega (arith, lead_short first)
 token-short text first x (Some (ToOpener opener)) = omega arith
 token-short text first x None = piece-short text first (piece_of x)
 
@@ -184,21 +183,21 @@ enough-room text ts s =
 
 -- ---- what is answered
 -- no other refusal is 44, and no length
-apart : (r : Refusal) → (number r ≡ 44 → ⊥) → Refused r ≡ Refused NoRoom → ⊥
+apart : (r : Refusal) → (number r ≡ 44 → ⊥) → ◌≡◌ {A = Result ℕ Refusal} (Err r) (Err NoRoom) → ⊥
 apart r n e = let same : r ≡ NoRoom = cc in n (ap number same)
 
-length-apart : (size : ℕ) → Text size ≡ Refused NoRoom → ⊥
+length-apart : (size : ℕ) → ◌≡◌ {A = Result ℕ Refusal} (Ok size) (Err NoRoom) → ⊥
 length-apart size e = let z : ◌≡◌ {A = ℕ} 0 1 = cc in omega arith
 
 module _ (text : List ℕ) (ts : List Token) (room scratch : ℕ) where
   -- a sheet that is not sound is refused by 41
-  unsound-apart : answer_of (write_of text ts room scratch false) ≡ Refused NoRoom → ⊥
+  unsound-apart : answer_of (write_of text ts room scratch false) ≡ Err NoRoom → ⊥
   unfolding write_of weigh first_of
   unsound-apart e = apart NotSound (omega arith) e
 
   -- and a sound one for which there is room, by its form, its depth, its length or what it reads back as
   sound-apart : length (text_of text ts) ≤ room → length ts ≤ capacity scratch
-      → answer_of (write_of text ts room scratch true) ≡ Refused NoRoom → ⊥
+      → answer_of (write_of text ts room scratch true) ≡ Err NoRoom → ⊥
   unfolding write_of weigh first_of read_back
   sound-apart fits tape e =
       let b = le-ltb room (length (text_of text ts)) fits in

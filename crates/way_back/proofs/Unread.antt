@@ -22,7 +22,8 @@ use Rattle.parse.specs.Parse.{text_limit, parse_of}
 use Rattle.sheet.specs.Decided.{Decided}
 use Rattle.sheet.specs.Sound.{Views, Sound}
 use Rattle.sheet.proofs.Sheets.{one_answer, later_ignored}
-use Rattle.writer.specs.declared.Written.{Written}
+use Rattle.std.specs.Prelude.{Result}
+use Rattle.writer.specs.declared.Refusal.{Refusal}
 use Rattle.put.specs.Parts.{view_of}
 use Rattle.alike.specs.Alike.{same_view, same_token, alike, found_alike, comes_back}
 use Rattle.data.specs.Reasons.{first_of}
@@ -142,7 +143,7 @@ module _ (text other words others : List ℕ) (count : ℕ) (read : SameRead tex
       ∙ sym q.gives
 
 -- an answer, a buffer and a scratch together, and each by itself
-parts : {r s : Written} {out out' tape tape' : List ℕ} → left r out tape ≡ left s out' tape' → SameLeft r s out out' tape tape'
+parts : {r s : Result ℕ Refusal} {out out' tape tape' : List ℕ} → left r out tape ≡ left s out' tape' → SameLeft r s out out' tape tape'
 parts e = record { answers = cc; buffers = cc; scratches = cc }
 
 pub write_ignores : WriteIgnores

@@ -1,12 +1,11 @@
 -- When a sheet is accepted.
-use Rattle.std.specs.Prelude.{ℕ, ◌≤◌, true, false, ◌≡◌, List, ◌↔◌, length}
+use Rattle.std.specs.Prelude.{ℕ, ◌≤◌, Result, Ok, Err, true, false, ◌≡◌, List, ◌↔◌, length}
 use Rattle.tape.specs.declared.token.Token.{Token}
 use Rattle.tape.specs.Words.{capacity}
 use Rattle.machine.specs.Finish.{Outcome}
 use Rattle.parse.specs.Parse.{text_limit, parse_of}
+use Rattle.writer.specs.declared.Refusal.{Refusal}
 use Rattle.writer.specs.declared.Refusal.TheVariants.{ReadsOtherwise, OtherForm}
-use Rattle.writer.specs.declared.Written.{Written}
-use Rattle.writer.specs.declared.Written.TheVariants.{Text, Refused}
 use Rattle.alike.specs.Alike.{comes_back}
 use Rattle.writer.specs.Write.{Left, left, accept, text_of, formed, too_deep, write_of}
 use Rattle.way_back.specs.Plain.{Plain}
@@ -32,12 +31,12 @@ abbrev pub ReadsBack : List ℕ → List Token → ℕ → Type 0
 ReadsBack text ts len = comes_back text (text_of text ts) ts (parse_of (text_of text ts) len) ≡ true
 
 -- the answer alone
-abbrev pub answer_of : Left → Written
+abbrev pub answer_of : Left → Result ℕ Refusal
 answer_of (left answer buffer scratch) = answer
 
 -- the answer is a length
 abbrev pub AnswersLength : Left → Type 0
-AnswersLength written = (size : ℕ) × (answer_of written ≡ Text size)
+AnswersLength written = (size : ℕ) × (answer_of written ≡ Ok size)
 
 -- ---- accepted exactly when the text written parses to the same tokens, on any tape with room for the count
 -- a sheet of the form
@@ -65,9 +64,9 @@ abbrev pub PlainAccepted : List ℕ → List Token → Type 0
 PlainAccepted text ts = Plain text ts → (room scratch : ℕ) → Given text ts room scratch → Accepted text ts room scratch
 
 -- never 45 or 46
-pub record Promised (answer : Written) : Type 0 where
-  pub not_45 : answer ≡ Refused ReadsOtherwise → ⊥
-  pub not_46 : answer ≡ Refused OtherForm → ⊥
+pub record Promised (answer : Result ℕ Refusal) : Type 0 where
+  pub not_45 : answer ≡ Err ReadsOtherwise → ⊥
+  pub not_46 : answer ≡ Err OtherForm → ⊥
 
 -- with whatever room
 abbrev pub PlainPromised : List ℕ → List Token → Type 0

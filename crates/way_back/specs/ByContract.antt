@@ -1,10 +1,9 @@
 -- What the contracts of the calls themselves promise together, told of the values of calls.
-use Rattle.std.specs.Prelude.{ℕ, ◌-◌, ◌≤◌, Bool, ◌≡◌, List, ◌++◌, length, take}
+use Rattle.std.specs.Prelude.{ℕ, Ok, ◌-◌, ◌≤◌, Bool, ◌≡◌, List, ◌++◌, length, take}
 use Rattle.tape.specs.declared.token.Token.{Token}
 use Rattle.tape.specs.Words.{capacity, words_for, tokens_in}
 use Rattle.machine.specs.Finish.{Outcome, outcome, parsed}
 use Rattle.sheet.specs.Sound.{Sound}
-use Rattle.writer.specs.declared.Written.TheVariants.{Text}
 use Rattle.writer.specs.Write.{Left, left, zeros, accept, text_of}
 use Rattle.way_back.specs.Plain.{Plain}
 use Rattle.way_back.specs.Accepted.{Given, answer_of, Exactly, Promised}
@@ -54,7 +53,7 @@ front_of size (left answer buffer scratch) = take size buffer
 
 -- a length was answered, and that many bytes of the buffer are parsed
 pub record ParsesWritten (w : WriteCall) (size : ℕ) (p : ParseCall) : Type 0 where
-  pub answered : answer_of w.written ≡ Text size
+  pub answered : answer_of w.written ≡ Ok size
   pub text : p.text ≡ front_of size w.written
 
 -- what a parse left is written, over the text that it parsed, with room
@@ -74,4 +73,4 @@ WriteParses w p =
 abbrev pub WriteStable : WriteCall → ParseCall → WriteCall → Type 0
 WriteStable w p v =
     (size : ℕ) → ParsesWritten w size p → WritesParsed p v
-    → v.written ≡ left (Text size) (front_of size w.written ++ zeros (v.room - size)) (zeros v.scratch)
+    → v.written ≡ left (Ok size) (front_of size w.written ++ zeros (v.room - size)) (zeros v.scratch)

@@ -1,11 +1,10 @@
 -- How much room is always enough for the text of a sound sheet.
-use Rattle.std.specs.Prelude.{ℕ, ◌+◌, ◌*◌, ◌≤◌, ◌≡◌, List, length}
+use Rattle.std.specs.Prelude.{ℕ, Result, Err, ◌+◌, ◌*◌, ◌≤◌, ◌≡◌, List, length}
 use Rattle.tape.specs.declared.token.Token.{Token}
 use Rattle.tape.specs.Words.{words_for}
 use Rattle.sheet.specs.Sound.{Sheet}
 use Rattle.writer.specs.declared.Refusal.TheVariants.{NoRoom}
-use Rattle.writer.specs.declared.Written.{Written}
-use Rattle.writer.specs.declared.Written.TheVariants.{Refused}
+use Rattle.writer.specs.declared.Refusal.{Refusal}
 use Rattle.writer.specs.Write.{text_of}
 use Rattle.writer.proofs.write.Reads as write
 
@@ -25,9 +24,9 @@ EnoughRoom = (text : List ℕ) (ts : List Token) → Sheet (length text) ts → 
 -- of any other
 abbrev pub WriteFindsRoom : Type 0
 WriteFindsRoom =
-    (κs : _) (args : _) (r : Written) (xs : _) → write.Post κs args r xs
+    (κs : _) (args : _) (r : Result ℕ Refusal) (xs : _) → write.Post κs args r xs
     → let text : List ℕ = args.0.now in
     let count : ℕ = args.1.1.0 in
     let buffer : List ℕ = args.1.1.1.0.now in
     let scratch : List ℕ = args.1.1.1.1.0.now in
-    bytes_for (length text) count ≤ length buffer → words_for count ≤ length scratch → r ≡ Refused NoRoom → ⊥
+    bytes_for (length text) count ≤ length buffer → words_for count ≤ length scratch → r ≡ Err NoRoom → ⊥

@@ -1,10 +1,10 @@
 -- Nothing is read past the first count tokens and their views.
-use Rattle.std.specs.Prelude.{ℕ, Bool, ◌≡◌, List, length}
+use Rattle.std.specs.Prelude.{ℕ, Result, Bool, ◌≡◌, List, length}
 use Rattle.tape.specs.declared.token.Token.{Token}
 use Rattle.tape.specs.Token.{nth}
 use Rattle.tape.specs.Words.{tokens_in}
 use Rattle.sheet.specs.Sound.{Views}
-use Rattle.writer.specs.declared.Written.{Written}
+use Rattle.writer.specs.declared.Refusal.{Refusal}
 use Rattle.put.specs.Parts.{view_of}
 use Rattle.writer.specs.Write.{write_of}
 use Rattle.writer.proofs.write.Reads as write
@@ -27,7 +27,7 @@ pub record SameRead (text other words others : List ℕ) (count : ℕ) : Type 0 
   pub views : SameViews text other (tokens_in words count)
 
 -- the same answer, the same buffer and the same scratch
-pub record SameLeft (answer other : Written) (buffer buffer' scratch scratch' : List ℕ) : Type 0 where
+pub record SameLeft (answer other : Result ℕ Refusal) (buffer buffer' scratch scratch' : List ℕ) : Type 0 where
   pub answers : answer ≡ other
   pub buffers : buffer ≡ buffer'
   pub scratches : scratch ≡ scratch'
@@ -38,8 +38,8 @@ pub record SameLeft (answer other : Written) (buffer buffer' scratch scratch' : 
 -- and the scratch
 abbrev pub WriteIgnores : Type 0
 WriteIgnores =
-    (κs : _) (args : _) (r : Written) (xs : _) → write.Post κs args r xs
-    → (ls : _) (asked : _) (s : Written) (ys : _) → write.Post ls asked s ys
+    (κs : _) (args : _) (r : Result ℕ Refusal) (xs : _) → write.Post κs args r xs
+    → (ls : _) (asked : _) (s : Result ℕ Refusal) (ys : _) → write.Post ls asked s ys
     → args.1.1.0 ≡ asked.1.1.0
     → SameRead args.0.now asked.0.now args.1.0.now asked.1.0.now args.1.1.0
     → length args.1.1.1.0.now ≡ length asked.1.1.1.0.now

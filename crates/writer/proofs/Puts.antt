@@ -15,14 +15,9 @@ use Rattle.writer.specs.Pieces.{quote_if, sign_bytes, own_bytes}
 use Rattle.writer.specs.Text.{gap, lead, piece_text}
 use Rattle.data.proofs.Told.{as_told}
 
--- nothing before the first of a body
-pub put_first : (out : List ℕ) (at : ℕ) (due : Due) (sign : Bool) {first : Bool} → first ≡ true → wrote at out ≡ append out at (lead first due sign)
-put_first out at due sign e = same_bytes out at [] _ (put-empty out at) (rw e)
-
--- and before another what is due there
-pub put-gap : (out : List ℕ) (at : ℕ) (sign : Bool) {first : Bool} {due is : Due} {r : ℕ} {o bytes : List ℕ} → first ≡ false → due ≡ is
-    → gap is sign ≡ bytes → wrote r o ≡ append out at bytes → wrote r o ≡ append out at (lead first due sign)
-put-gap out at sign e told g p = same_bytes out at _ _ p (rw (e, told) (sym g))
+-- nothing at all
+pub put_none : (out : List ℕ) (at : ℕ) → wrote at out ≡ append out at []
+put_none out at = put-empty out at
 
 -- a scalar in quotes, and one without
 pub put-quoted : (out : List ℕ) (at : ℕ) (view : List ℕ) {quoted : Bool} {bytes a b c : List ℕ} {r s t : ℕ} → quoted ≡ true → bytes ≡ view
@@ -59,6 +54,3 @@ module _ (out : List ℕ) (at : ℕ) (text : List ℕ) (first : Bool) (due : Due
   unfolding piece_text own_bytes
   put-number told before own =
       as_told (λ (x : Piece). append out at (piece_text text first due x)) (chain out at (lead first due true) _ before own) told
-
-  pub put-nothing : {is : Piece} → p ≡ is → piece_text text first due is ≡ [] → wrote at out ≡ append out at (piece_text text first due p)
-  put-nothing told e = same_bytes out at [] _ (put-empty out at) (sym (ap (piece_text text first due) told ∙ e))

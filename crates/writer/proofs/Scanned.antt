@@ -1,6 +1,5 @@
 -- What one pass over a sheet's tokens tells of its levels and of its text's length.
 -- Assumes nothing.
-use Rattle.std.specs.Prelude.{Option, Some, None}
 use mathlib.Core.Path.{◌≡◌, refl, sym, ◌∙◌, ap}
 use mathlib.Core.Bool.{Bool, true, false, ◌||◌}
 use mathlib.Core.List.{List, [], ◌∷◌, ◌++◌}
@@ -20,9 +19,7 @@ use Rattle.parse.specs.Parse.{text_limit}
 use Rattle.tape.specs.Shape.{link_of, linked, Opens}
 use Rattle.tape.proofs.Shapes.{opens-link, end-link, mixed_container-shape, scalar-shape, operator-shape}
 use Rattle.sheet.specs.Sound.{Form, container, mixed_container, scalar, operator, closing}
-use Rattle.writer.specs.declared.levels.Sunk.{Sunk}
-use Rattle.writer.specs.declared.levels.Sunk.TheVariants.{To, TooDeep}
-use Rattle.writer.specs.declared.measure.Measured.TheVariants.{Size, Over}
+use Rattle.std.specs.Prelude.{Option, Some, None}
 use Rattle.writer.specs.declared.dues.Due.{Due}
 use Rattle.writer.specs.declared.dues.Due.TheVariants.{Entry, Key}
 use Rattle.writer.specs.declared.pieces.Piece.{Piece}
@@ -36,7 +33,7 @@ use Rattle.writer.specs.Scans.{sunk, sinks, token_size, first_behind, text_size,
 use Rattle.writer.specs.Ranges.{Range, Whole}
 use Rattle.writer.specs.Write.{text_of, too_deep}
 use Rattle.writer.proofs.Grown.{by_token, opens_not, tokens-on, stretch-none, stretch-leaf, stretch-box}
-use Rattle.writer.proofs.Sizes.{lead-same}
+use Rattle.writer.proofs.Sizes.{lead_same}
 use Rattle.writer.proofs.Forms.{whole-count, whole-range}
 
 -- ---- links, by what stands there
@@ -127,7 +124,7 @@ module _ (ts : List Token) where
 -- ---- bytes
 led-same : (first : Bool) (due : Due) (sign : Bool) (own : List ℕ) → length (lead first due sign ++ own) ≡ length (lead first Entry sign ++ own)
 led-same first due sign own =
-    omega (arith, length-append (lead first due sign) own, length-append (lead first Entry sign) own, lead-same first due sign, lead-same first Entry sign)
+    omega (arith, length-append (lead first due sign) own, length-append (lead first Entry sign) own, lead_same first due sign, lead_same first Entry sign)
 
 -- a piece has as many whatever is due
 pub piece-same : (text : List ℕ) (first : Bool) (due : Due) (p : Piece) → length (piece_text text first due p) ≡ length (piece_text text first Entry p)
@@ -188,7 +185,7 @@ module _ (text : List ℕ) (ts : List Token) where
       let f = size-end text ts e (omega (arith, b.within)) (first_past (stretch ts (i + 1) e) true) (end-link (nth ts e) c) in
       let g = size-part n (e + 1) j false (after_container due) (omega arith) (omega arith) rest in
       let whole = box-size (lead first due false) within then in
-      let led = lead-same first due false in
+      let led = lead_same first due false in
       rw (stretch-box ts i j kind e flag b h o) (omega (arith, a, d, f, g, whole, led)))
       (λ o rest.
       let p = piece_of (nth ts i) in
@@ -223,23 +220,23 @@ module _ {words : List ℕ} {count : ℕ} (w : Whole words count) where
       size-part text ts count 0 count true Key (omega arith) (omega arith) (whole-range w)
       ∙ rw (none, whole-count w) (add-zero _)
 
-to_same : {a b : ℕ} → To a ≡ To b → a ≡ b
+to_same : {a b : ℕ} → Some a ≡ Some b → a ≡ b
 to_same e = cc
 
-to_not : {a : ℕ} → TooDeep ≡ To a → ⊥
+to_not : {a : ℕ} → None ≡ Some a → ⊥
 to_not e = let z : ◌≡◌ {A = ℕ} 0 1 = cc in omega arith
 
 -- a step of the pass for levels: it goes on, or what is left sinks too deep
-module _ (ts : List Token) (i level : ℕ) (h : i < length ts) {s : Sunk} (told : s ≡ sunk level (link_of (nth ts i))) where
-  pub sinks_on : {next : ℕ} → s ≡ To next → sinks (drop i ts) level ≡ sinks (drop (i + 1) ts) next
+module _ (ts : List Token) (i level : ℕ) (h : i < length ts) {s : Option ℕ} (told : s ≡ sunk level (link_of (nth ts i))) where
+  pub sinks_on : {next : ℕ} → s ≡ Some next → sinks (drop i ts) level ≡ sinks (drop (i + 1) ts) next
   unfolding sinks
   sinks_on e = rw (tokens-on ts i h, sinks, sym told ∙ e)
 
-  pub sinks-now : s ≡ TooDeep → sinks (drop i ts) level ≡ true
+  pub sinks-now : s ≡ None → sinks (drop i ts) level ≡ true
   unfolding sinks
   sinks-now e = rw (tokens-on ts i h, sinks, sym told ∙ e)
 
-pub sunk-within : (level : ℕ) (link : Option Link) {next : ℕ} → level ≤ most_levels → sunk level link ≡ To next → next ≤ most_levels
+pub sunk-within : (level : ℕ) (link : Option Link) {next : ℕ} → level ≤ most_levels → sunk level link ≡ Some next → next ≤ most_levels
 unfolding sunk
 sunk-within level (Some (Link.ToEnd end)) h e =
     by_bool (ltb level most_levels)
@@ -248,21 +245,8 @@ sunk-within level (Some (Link.ToEnd end)) h e =
 sunk-within level (Some (Link.ToOpener opener)) h e = let same : level - 1 ≡ _ = to_same e in omega (arith, h, same)
 sunk-within level None h e = let same : level ≡ _ = to_same e in omega (arith, h, same)
 
--- the levels behind a token, by its link
-pub sunk-down : (level end : ℕ) → level < most_levels → To (level + 1) ≡ sunk level (Some (Link.ToEnd end))
-unfolding sunk
-sunk-down level end h = rw (sunk, lt-ltb level most_levels h)
-
-pub sunk_deep : (level end : ℕ) → most_levels ≤ level → TooDeep ≡ sunk level (Some (Link.ToEnd end))
-unfolding sunk
-sunk_deep level end h = rw (sunk, le-ltb level most_levels h)
-
-pub sunk-up : (level opener next : ℕ) → next ≡ level - 1 → To next ≡ sunk level (Some (Link.ToOpener opener))
-unfolding sunk
-sunk-up level opener next h = ap To h
-
 -- what a step of either pass has read
-pub read-sunk : (words : List ℕ) (count i level : ℕ) {x : Token} {link : Option Link} {s : Sunk} → x ≡ token_in words count i → link ≡ link_of x
+pub read-sunk : (words : List ℕ) (count i level : ℕ) {x : Token} {link : Option Link} {s : Option ℕ} → x ≡ token_in words count i → link ≡ link_of x
     → s ≡ sunk level link → s ≡ sunk level (link_of (nth (tokens_in words count) i))
 unfolding token_in
 read-sunk words count i level e f g = g ∙ ap (sunk level) (f ∙ ap link_of e)
@@ -275,13 +259,13 @@ unfolding text_size token_in
 size-on text words count i first h e f = rw (f, e, tokens-on (tokens_in words count) i h)
 
 -- a size that is over the limit, and one that is not
-pub measured-over : (n : ℕ) → text_limit < n → Over ≡ measured n
+pub measured-over : (n : ℕ) → text_limit < n → None ≡ measured n
 unfolding measured
 measured-over n h = rw (measured, lt-ltb text_limit n h)
 
-pub measured-size : (m n : ℕ) → m ≡ n → m ≤ text_limit → Size m ≡ measured n
+pub measured-size : (m n : ℕ) → m ≡ n → m ≤ text_limit → Some m ≡ measured n
 unfolding measured
-measured-size m n e h = ap Size e ∙ rw (measured, le-ltb text_limit n (omega (arith, e, h)))
+measured-size m n e h = ap Some e ∙ rw (measured, le-ltb text_limit n (omega (arith, e, h)))
 
 -- where no token is left, nothing sinks and nothing is written
 pub sinks-none : (ts : List Token) (i level : ℕ) → length ts ≤ i → sinks (drop i ts) level ≡ false

@@ -19,17 +19,17 @@ use Rattle.writer.specs.Pieces.{quote_if, symbol_bytes, sign_bytes}
 use Rattle.writer.specs.Text.{lead}
 
 -- before a token stands one byte, whichever it is, or none
-pub lead-same : (first : Bool) (due : Due) (sign : Bool) → length (lead first due sign) ≡ length (lead first Entry false)
-lead-same true due sign = refl
-lead-same false Entry sign = refl
-lead-same false Key sign = refl
-lead-same false AfterKey true = refl
-lead-same false AfterKey false = refl
-lead-same false Value sign = refl
+pub lead_same : (first : Bool) (due : Due) (sign : Bool) → length (lead first due sign) ≡ length (lead first Entry false)
+lead_same true due sign = refl
+lead_same false Entry sign = refl
+lead_same false Key sign = refl
+lead_same false AfterKey true = refl
+lead_same false AfterKey false = refl
+lead_same false Value sign = refl
 
-pub lead-short : (first : Bool) → length (lead first Entry false) ≤ 1
-lead-short true = omega arith
-lead-short false = omega arith
+pub lead_short : (first : Bool) → length (lead first Entry false) ≤ 1
+lead_short true = omega arith
+lead_short false = omega arith
 
 -- ---- a sign, by the operator that its number stands for
 module _ (n : ℕ) {k : Numbered} {o : Operator} (named : k ≡ numbered n) (is : k ≡ Numbered.Is o) where
@@ -54,7 +54,3 @@ quoted-size bytes = sym (omega (arith, length-append bytes (quote ∷ [])))
 
 pub view-short : (text : List ℕ) (offset size : ℕ) → length (view_of text offset size) ≤ size
 view-short text offset size = omega (arith, length-take size (drop offset text))
-
--- ---- a piece's bytes: those before it and its own
-pub both-sized : (lead own : List ℕ) {a b : ℕ} → a ≡ length lead → b ≡ length own → a + b ≡ length (lead ++ own)
-both-sized lead own e f = rw (e, f) (sym (length-append lead own))

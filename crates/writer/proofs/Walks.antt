@@ -52,11 +52,11 @@ scalar-bare Parameter offset size = other
 scalar-bare UndefinedParameter offset size = other
 
 shape-bare : (s : Shape.Shape) → Bare (bare_piece s)
-shape-bare (Some (Shape.TheVariants.Scalar kind offset size)) = scalar-bare kind offset size
-shape-bare (Some (Shape.TheVariants.Operator number)) = sign number
-shape-bare (Some Shape.TheVariants.MixedContainer) = mixed
-shape-bare (Some (Shape.TheVariants.Opener link)) = other
-shape-bare (Some (Shape.TheVariants.End opener)) = other
+shape-bare (Some (Some (Shape.TheVariants.Scalar kind offset size))) = scalar-bare kind offset size
+shape-bare (Some (Some (Shape.TheVariants.Operator number))) = sign number
+shape-bare (Some (Some Shape.TheVariants.MixedContainer)) = mixed
+shape-bare (Some (Some (Shape.TheVariants.Opener link))) = other
+shape-bare (Some (Some (Shape.TheVariants.End opener))) = other
 shape-bare None = other
 
 pub leaf-bare : (x : Token) → container_of x ≡ None → Bare (piece_of x)
@@ -194,7 +194,3 @@ module _ {ts : List Token} {i j : ℕ} {p : Piece} (met : Met ts i j p) where
     pub step_text : (text : List ℕ) (first : Bool) (due : Due) {still : Bool} {after : Due} → still ≡ still_first first p → after ≡ due_after due p
         → body_text (stretch ts i j) text first due ≡ token_text text ts (i + 1) first due p ++ body_text (stretch ts next j) text still after
     step_text text first due e g = text-on ts i j met.range met.early text first due ∙ rw (e, g, there, met.piece)
-
--- the same body by what is due in it under another name
-pub due_as : (f : Forest) {d e : Due} {r : Bool} → r ≡ body_form f d → d ≡ e → r ≡ body_form f e
-due_as f p q = p ∙ ap (body_form f) q

@@ -1,9 +1,7 @@
 -- The refusals of the way back, by their numbers.
-use Rattle.std.specs.Prelude.{ℕ}
+use Rattle.std.specs.Prelude.{ℕ, Result, Ok, Err}
 use Rattle.writer.specs.declared.Refusal.{Refusal}
 use Rattle.writer.specs.declared.Refusal.TheVariants.{NotSound, TooDeep, TooLong, NoRoom, ReadsOtherwise, OtherForm}
-use Rattle.writer.specs.declared.Written.{Written}
-use Rattle.writer.specs.declared.Written.TheVariants.{Text, Refused}
 
 -- 41 not sound, 42 too deep, 43 text over the limit, 44 no room, 45 would read differently, 46 not of this form
 abbrev pub number : Refusal → ℕ
@@ -15,10 +13,10 @@ number ReadsOtherwise = 45
 number OtherForm = 46
 
 -- the number of an answer, 0 where there is no refusal, and the length of the text, 0 where there is none
-abbrev pub refusal_of : Written → ℕ
-refusal_of (Text length) = 0
-refusal_of (Refused r) = number r
+abbrev pub refusal_of : Result ℕ Refusal → ℕ
+refusal_of (Ok length) = 0
+refusal_of (Err r) = number r
 
-abbrev pub length_of : Written → ℕ
-length_of (Text length) = length
-length_of (Refused r) = 0
+abbrev pub length_of : Result ℕ Refusal → ℕ
+length_of (Ok length) = length
+length_of (Err r) = 0

@@ -1,14 +1,10 @@
 -- What is known of a sheet's text from one pass over its tokens, in the order in which they stand.
-use Rattle.std.specs.Prelude.{ℕ, ◌+◌, ◌-◌, Bool, true, false, List, [], ◌∷◌, ltb, length, Option, Some, None}
+use Rattle.std.specs.Prelude.{ℕ, ◌+◌, ◌-◌, Option, Some, None, Bool, true, false, List, [], ◌∷◌, ltb, length}
 use Rattle.tape.specs.declared.token.Token.{Token}
 use Rattle.tape.specs.declared.shape.Link.{Link}
 use Rattle.tape.specs.declared.shape.Link.TheVariants.{ToEnd, ToOpener}
 use Rattle.tape.specs.Shape.{link_of}
 use Rattle.parse.specs.Parse.{text_limit}
-use Rattle.writer.specs.declared.levels.Sunk.{Sunk}
-use Rattle.writer.specs.declared.levels.Sunk.TheVariants.{To, TooDeep}
-use Rattle.writer.specs.declared.measure.Measured.{Measured}
-use Rattle.writer.specs.declared.measure.Measured.TheVariants.{Size, Over}
 use Rattle.writer.specs.declared.dues.Due.TheVariants.{Entry}
 use Rattle.writer.specs.Levels.{most_levels}
 use Rattle.writer.specs.Pieces.{piece_of}
@@ -16,15 +12,15 @@ use Rattle.writer.specs.Text.{lead, still_first, piece_text}
 
 -- ---- levels: an opener goes one down, an End one up
 -- the levels behind a token, unless they are more than may be
-unfoldable pub sunk : ℕ → Option Link → Sunk
-sunk level (Some (ToEnd end)) = elim (ltb level most_levels) [ true ↦ To (level + 1) | false ↦ TooDeep ]
-sunk level (Some (ToOpener opener)) = To (level - 1)
-sunk level None = To level
+unfoldable pub sunk : ℕ → Option Link → Option ℕ
+sunk level (Some (ToEnd end)) = elim (ltb level most_levels) [ true ↦ Some (level + 1) | false ↦ None ]
+sunk level (Some (ToOpener opener)) = Some (level - 1)
+sunk level None = Some level
 
 -- whether more than may be are open somewhere
 unfoldable pub sinks : List Token → ℕ → Bool
 sinks [] level = false
-sinks (x ∷ xs) level = elim (sunk level (link_of x)) [ To next ↦ sinks xs next | TooDeep ↦ true ]
+sinks (x ∷ xs) level = elim (sunk level (link_of x)) [ Some next ↦ sinks xs next | None ↦ true ]
 
 -- ---- bytes: the byte before a token is one, whichever it is, unless the token is the first of its body
 -- those of a token by its link: an opening brace with what stands before it, a closing one, or those of a piece
@@ -45,5 +41,5 @@ text_size text [] first = 0
 text_size text (x ∷ xs) first = token_size text first x (link_of x) + text_size text xs (first_behind first x (link_of x))
 
 -- a size, unless it is over the limit
-unfoldable pub measured : ℕ → Measured
-measured size = elim (ltb text_limit size) [ true ↦ Over | false ↦ Size size ]
+unfoldable pub measured : ℕ → Option ℕ
+measured size = elim (ltb text_limit size) [ true ↦ None | false ↦ Some size ]

@@ -1,5 +1,5 @@
 -- From a sheet back to save text: the answer, and what it leaves in the lent buffer and on the scratch.
-use Rattle.std.specs.Prelude.{ℕ, ◌-◌, Bool, true, false, not, ◌||◌, List, [], ◌∷◌, ◌++◌, ltb, length, replicate}
+use Rattle.std.specs.Prelude.{ℕ, ◌-◌, Result, Ok, Err, Bool, true, false, not, ◌||◌, List, [], ◌∷◌, ◌++◌, ltb, length, replicate}
 use Rattle.data.specs.Reasons.{Reason, if_so, first_of}
 use Rattle.tape.specs.declared.token.Token.{Token}
 use Rattle.tape.specs.Words.{capacity}
@@ -7,10 +7,6 @@ use Rattle.parse.specs.Parse.{text_limit, parse_of}
 use Rattle.alike.specs.Alike.{comes_back}
 use Rattle.writer.specs.declared.Refusal.{Refusal}
 use Rattle.writer.specs.declared.Refusal.TheVariants.{NotSound, TooDeep, TooLong, NoRoom, ReadsOtherwise, OtherForm}
-use Rattle.writer.specs.declared.Written.{Written}
-use Rattle.writer.specs.declared.Written.TheVariants.{Text, Refused}
-use Rattle.writer.specs.declared.Weighed.{Weighed}
-use Rattle.writer.specs.declared.Weighed.TheVariants.{Fits}
 use Rattle.writer.specs.declared.dues.Due.TheVariants.{Key}
 use Rattle.writer.specs.Forest.{forest_of}
 use Rattle.writer.specs.Form.{has_form}
@@ -19,7 +15,7 @@ use Rattle.writer.specs.Text.{sheet_text}
 
 -- an answer, with the buffer and the scratch as it leaves them
 pub data Left : Type 0 where
-  left : Written → List ℕ → List ℕ → Left
+  left : Result ℕ Refusal → List ℕ → List ℕ → Left
 
 -- so many zeros
 abbrev pub zeros : ℕ → List ℕ
@@ -27,11 +23,11 @@ zeros n = replicate n 0
 
 -- The scratch ends zero, and the buffer is all zero after a refusal
 abbrev pub refuse : ℕ → ℕ → Refusal → Left
-refuse room scratch r = left (Refused r) (zeros room) (zeros scratch)
+refuse room scratch r = left (Err r) (zeros room) (zeros scratch)
 
 -- the buffer zero past the text
 abbrev pub accept : ℕ → ℕ → List ℕ → Left
-accept room scratch bytes = left (Text (length bytes)) (bytes ++ zeros (room - length bytes)) (zeros scratch)
+accept room scratch bytes = left (Ok (length bytes)) (bytes ++ zeros (room - length bytes)) (zeros scratch)
 
 -- the text that is written for some tokens over a text
 unfoldable pub text_of : List ℕ → List Token → List ℕ
@@ -51,8 +47,8 @@ no_room room scratch ts bytes = ltb room (length bytes) || ltb (capacity scratch
 
 -- ---- what can be said before a byte is written
 -- the first of some reasons that is there; where none is, the text fits
-abbrev pub first_there : List (Reason Refusal) → Weighed
-first_there rs = first_of Weighed.Refused Fits rs
+abbrev pub first_there : List (Reason Refusal) → Result (Unit {0}) Refusal
+first_there rs = first_of Err (Ok tt) rs
 
 -- 43 text over the limit of 01, 44 no room, in that order: by a buffer of so many bytes and a scratch of so many words
 abbrev pub text_reasons : ℕ → ℕ → List Token → List ℕ → List (Reason Refusal)
@@ -70,10 +66,10 @@ reasons text ts room scratch sound =
     ∷ text_reasons room scratch ts (text_of text ts)
 
 -- what is said of a text that is to be written, and of any sheet
-unfoldable pub weigh_text : ℕ → ℕ → List Token → List ℕ → Weighed
+unfoldable pub weigh_text : ℕ → ℕ → List Token → List ℕ → Result (Unit {0}) Refusal
 weigh_text room scratch ts bytes = first_there (text_reasons room scratch ts bytes)
 
-unfoldable pub weigh : List ℕ → List Token → ℕ → ℕ → Bool → Weighed
+unfoldable pub weigh : List ℕ → List Token → ℕ → ℕ → Bool → Result (Unit {0}) Refusal
 weigh text ts room scratch sound = first_there (reasons text ts room scratch sound)
 
 -- ---- the whole
@@ -85,9 +81,9 @@ read_back text ts room scratch bytes =
       | false ↦ refuse room scratch ReadsOtherwise
     ]
 
-abbrev pub carry_out : List ℕ → List Token → ℕ → ℕ → Weighed → Left
-carry_out text ts room scratch (Weighed.Refused r) = refuse room scratch r
-carry_out text ts room scratch Fits = read_back text ts room scratch (text_of text ts)
+abbrev pub carry_out : List ℕ → List Token → ℕ → ℕ → Result (Unit {0}) Refusal → Left
+carry_out text ts room scratch (Err r) = refuse room scratch r
+carry_out text ts room scratch (Ok fits) = read_back text ts room scratch (text_of text ts)
 
 -- the sheet of some tokens over a text, lent a buffer of so many bytes and a scratch of so many words, by whether it is sound
 unfoldable pub write_of : List ℕ → List Token → ℕ → ℕ → Bool → Left

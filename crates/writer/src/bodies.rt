@@ -20,23 +20,17 @@ use tape::words;
 
 // Puts what stands before a token: nothing before the first of its body, `=` between a key and its entry where no operator stands, and
 // else a space.
+#[tactic(auto, using(crate::proofs::Puts::put_none))]
 fn put_lead(out: &mut [u8], at: usize, first: bool, due: Due, sign: bool) -> usize
     ensures { wrote result out.new ≡ append out.old at (lead first due sign) }
 {
     if first {
         return at;
     }
-    match due {
-        Due::Entry => put_byte(out, at, b' '),
-        Due::Key => put_byte(out, at, b' '),
-        Due::AfterKey => {
-            if sign {
-                return put_byte(out, at, b' ');
-            }
-            put_byte(out, at, b'=')
-        }
-        Due::Value => put_byte(out, at, b' '),
+    if due == Due::AfterKey && !sign {
+        return put_byte(out, at, b'=');
     }
+    put_byte(out, at, b' ')
 }
 
 // Puts an operator's sign.
@@ -70,6 +64,7 @@ fn put_scalar(out: &mut [u8], at: usize, text: &[u8], quoted: bool, offset: u32,
 }
 
 // Puts a token that opens nothing, with what stands before it.
+#[tactic(auto, using(crate::proofs::Puts::put_none), unfolding(crate::specs::Text::piece_text))]
 fn put_piece(out: &mut [u8], at: usize, text: &[u8], first: bool, due: Due, piece: Piece) -> usize
     ensures { wrote result out.new ≡ append out.old at (piece_text text.now first due piece) }
 {
@@ -90,9 +85,7 @@ fn put_piece(out: &mut [u8], at: usize, text: &[u8], first: bool, due: Due, piec
             let next = put_lead(out, at, first, due, true);
             put_sign(out, next, number)
         }
-        Piece::Mixed => at,
-        Piece::Opener { kind: _, end: _ } => at,
-        Piece::Other => at,
+        Piece::Mixed | Piece::Opener { .. } | Piece::Other => at,
     }
 }
 
@@ -100,42 +93,14 @@ fn put_piece(out: &mut [u8], at: usize, text: &[u8], first: bool, due: Due, piec
 fn is_mixed(piece: Piece) -> bool
     ensures { result ≡ is_mixed piece }
 {
-    match piece {
-        Piece::Mixed => true,
-        Piece::Scalar {
-            quoted: _,
-            offset: _,
-            length: _,
-        } => false,
-        Piece::Heading {
-            offset: _,
-            length: _,
-        } => false,
-        Piece::Sign { number: _ } => false,
-        Piece::Opener { kind: _, end: _ } => false,
-        Piece::Other => false,
-    }
+    matches!(piece, Piece::Mixed)
 }
 
 // Whether a piece opens a container.
 fn opens(piece: Piece) -> bool
     ensures { result ≡ is_opener piece }
 {
-    match piece {
-        Piece::Opener { kind: _, end: _ } => true,
-        Piece::Scalar {
-            quoted: _,
-            offset: _,
-            length: _,
-        } => false,
-        Piece::Heading {
-            offset: _,
-            length: _,
-        } => false,
-        Piece::Sign { number: _ } => false,
-        Piece::Mixed => false,
-        Piece::Other => false,
-    }
+    matches!(piece, Piece::Opener { .. })
 }
 
 // Puts a container that a piece opens, with what stands before it and all that stands in it.
@@ -188,6 +153,7 @@ fn put_entries(
     ensures { wrote result out.new ≡ append out.old at
         (body_text (stretch (tokens_in words.now count) from end) text.now alone due.Entry) }
 {
+    // Counted by hand: the walk goes on behind the End of what opened, which no range gives.
     let mut i = from;
     let mut next = at;
     let mut first = alone;
@@ -229,6 +195,7 @@ pub(crate) fn put_pairs(
     ensures { wrote result out.new ≡ append out.old at
         (body_text (stretch (tokens_in words.now count) from end) text.now true due.Key) }
 {
+    // Counted by hand: the walk goes on behind the End of what opened, which no range gives.
     let mut i = from;
     let mut next = at;
     let mut first = true;

@@ -6,7 +6,7 @@ use crate::pieces::Piece;
 use tape::token::ContainerKind;
 
 // An entry of an array, or behind a MixedContainer; a key; what stands right behind a key; or the entry that is still missing.
-#[derive(Clone, Copy)]
+#[derive(Clone, Copy, PartialEq, Eq)]
 pub enum Due {
     Entry,
     Key,
@@ -31,8 +31,7 @@ fn after_scalar(due: Due) -> Due
     match due {
         Due::Entry => Due::Entry,
         Due::Key => Due::AfterKey,
-        Due::AfterKey => Due::Key,
-        Due::Value => Due::Key,
+        Due::AfterKey | Due::Value => Due::Key,
     }
 }
 
@@ -42,9 +41,7 @@ fn after_container(due: Due) -> Due
 {
     match due {
         Due::Entry => Due::Entry,
-        Due::Key => Due::Key,
-        Due::AfterKey => Due::Key,
-        Due::Value => Due::Key,
+        Due::Key | Due::AfterKey | Due::Value => Due::Key,
     }
 }
 
@@ -54,29 +51,20 @@ fn to_value(due: Due) -> Due
 {
     match due {
         Due::Entry => Due::Entry,
-        Due::Key => Due::Value,
-        Due::AfterKey => Due::Value,
-        Due::Value => Due::Value,
+        Due::Key | Due::AfterKey | Due::Value => Due::Value,
     }
 }
 
 // What is due behind a piece.
+#[tactic(auto, unfolding(crate::specs::Dues::due_after))]
 pub(crate) fn due_after(due: Due, piece: Piece) -> Due
     ensures { result ≡ due_after due piece }
 {
     match piece {
-        Piece::Scalar {
-            quoted: _,
-            offset: _,
-            length: _,
-        } => after_scalar(due),
-        Piece::Heading {
-            offset: _,
-            length: _,
-        } => to_value(due),
-        Piece::Sign { number: _ } => to_value(due),
+        Piece::Scalar { .. } => after_scalar(due),
+        Piece::Heading { .. } | Piece::Sign { .. } => to_value(due),
         Piece::Mixed => Due::Entry,
-        Piece::Opener { kind: _, end: _ } => after_container(due),
+        Piece::Opener { .. } => after_container(due),
         Piece::Other => due,
     }
 }

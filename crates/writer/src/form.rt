@@ -16,55 +16,33 @@ use tape::words;
 fn takes_entry(due: Due) -> bool
     ensures { result ≡ takes_entry due }
 {
-    match due {
-        Due::Entry => true,
-        Due::Key => false,
-        Due::AfterKey => true,
-        Due::Value => true,
-    }
+    due != Due::Key
 }
 
 // Whether an operator may stand where something is due.
 fn takes_sign(due: Due) -> bool
     ensures { result ≡ takes_sign due }
 {
-    match due {
-        Due::Entry => true,
-        Due::Key => false,
-        Due::AfterKey => true,
-        Due::Value => false,
-    }
+    matches!(due, Due::Entry | Due::AfterKey)
 }
 
 // Whether pairs may end where something is due.
 fn may_end(due: Due) -> bool
     ensures { result ≡ may_end due }
 {
-    match due {
-        Due::Entry => true,
-        Due::Key => true,
-        Due::AfterKey => false,
-        Due::Value => false,
-    }
+    matches!(due, Due::Entry | Due::Key)
 }
 
 // Whether a piece may stand where something is due.
+#[tactic(auto, unfolding(crate::specs::Form::takes))]
 fn takes(due: Due, piece: Piece) -> bool
     ensures { result ≡ takes due piece }
 {
     match piece {
-        Piece::Scalar {
-            quoted: _,
-            offset: _,
-            length: _,
-        } => true,
-        Piece::Heading {
-            offset: _,
-            length: _,
-        } => takes_entry(due),
-        Piece::Sign { number: _ } => takes_sign(due),
+        Piece::Scalar { .. } => true,
+        Piece::Heading { .. } | Piece::Opener { .. } => takes_entry(due),
+        Piece::Sign { .. } => takes_sign(due),
         Piece::Mixed => may_end(due),
-        Piece::Opener { kind: _, end: _ } => takes_entry(due),
         Piece::Other => false,
     }
 }
@@ -74,6 +52,7 @@ fn body_formed(words: &[u32], count: usize, from: usize, end: usize, first: Due)
     requires { Range (tokens_in words.now count) from end }
     ensures { result ≡ body_form (stretch (tokens_in words.now count) from end) first }
 {
+    // Counted by hand: the walk goes on behind the End of what opened, which no range gives.
     let mut i = from;
     let mut due = first;
     while i < end {
@@ -88,25 +67,15 @@ fn body_formed(words: &[u32], count: usize, from: usize, end: usize, first: Due)
 }
 
 // Whether the direct tokens of the body that a piece opens are what is due in it, where it opens one.
+#[tactic(auto, unfolding(crate::specs::Ranges::inside_form))]
 fn inside_formed(words: &[u32], count: usize, from: usize, piece: Piece) -> bool
     requires { Inside (tokens_in words.now count) from piece }
     ensures { result ≡ inside_form (tokens_in words.now count) from piece }
 {
-    match piece {
-        Piece::Opener { kind, end } => body_formed(words, count, from, end as usize, due_in(kind)),
-        Piece::Scalar {
-            quoted: _,
-            offset: _,
-            length: _,
-        } => true,
-        Piece::Heading {
-            offset: _,
-            length: _,
-        } => true,
-        Piece::Sign { number: _ } => true,
-        Piece::Mixed => true,
-        Piece::Other => true,
-    }
+    let Piece::Opener { kind, end } = piece else {
+        return true;
+    };
+    body_formed(words, count, from, end as usize, due_in(kind))
 }
 
 // Whether the root and every container is of the form.
@@ -117,17 +86,11 @@ pub(crate) fn all_formed(words: &[u32], count: usize) -> bool
     if !body_formed(words, count, 0, count, Due::Key) {
         return false;
     }
-    let mut i = 0;
-    while i < count {
-        if !inside_formed(
-            words,
-            count,
-            i + 1,
-            piece_of(words::token_of(words, count, i)),
-        ) {
+    for i in 0..count {
+        let piece = piece_of(words::token_of(words, count, i));
+        if !inside_formed(words, count, i + 1, piece) {
             return false;
         }
-        i += 1;
     }
     true
 }

@@ -12,32 +12,16 @@ use tape::{shape, words};
 // Bodies nest to so many levels, the root not counted.
 const MOST_LEVELS: usize = 64;
 
-// How many levels are open, or one more than may be.
-#[derive(Clone, Copy)]
-pub(crate) enum Sunk {
-    To(usize),
-    TooDeep,
-}
-
-// The levels behind a token: an opener goes one down, an End one up.
-fn sink(level: usize, link: Option<Link>) -> Sunk
+// The levels behind a token, unless they are more than may be: an opener goes one down, an End one up.
+#[tactic(auto, unfolding(crate::specs::Scans::sunk))]
+fn sink(level: usize, link: Option<Link>) -> Option<usize>
     requires { level ≤ most_levels }
     ensures { result ≡ sunk level link }
 {
     match link {
-        Some(Link::ToEnd(_)) => {
-            if level < MOST_LEVELS {
-                return Sunk::To(level + 1);
-            }
-            Sunk::TooDeep
-        }
-        Some(Link::ToOpener(_)) => {
-            if level == 0 {
-                return Sunk::To(0);
-            }
-            Sunk::To(level - 1)
-        }
-        None => Sunk::To(level),
+        Some(Link::ToEnd(_)) => (level < MOST_LEVELS).then_some(level + 1),
+        Some(Link::ToOpener(_)) => Some(level.saturating_sub(1)),
+        None => Some(level),
     }
 }
 
@@ -46,15 +30,13 @@ pub(crate) fn sinks_too_deep(words: &[u32], count: usize) -> bool
     requires { Whole words.now count }
     ensures { result ≡ too_deep (tokens_in words.now count) }
 {
-    let mut level: usize = 0;
-    let mut i = 0;
-    while i < count {
+    let mut level = 0;
+    for i in 0..count {
         let link = shape::link_of(words::token_of(words, count, i));
-        let Sunk::To(next) = sink(level, link) else {
+        let Some(next) = sink(level, link) else {
             return true;
         };
         level = next;
-        i += 1;
     }
     false
 }

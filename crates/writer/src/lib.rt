@@ -10,7 +10,6 @@ ghost use Rattle.writer.specs.Write.{left, text_of, refuse, weigh_text, weigh, r
 ghost use Rattle.writer.specs.Ranges.{Whole};
 
 use crate::bodies::put_pairs;
-use crate::measure::Measured;
 use tape::words;
 
 // What a body is written as.
@@ -28,29 +27,15 @@ pub mod pieces;
 // Walks over a body's direct tokens.
 mod ranges;
 
-// What can be said before a byte is written: that there is room, or a refusal.
-#[derive(Clone, Copy)]
-enum Weighed {
-    Fits,
-    Refused(Refusal),
-}
-
-// Why a sheet is not written.
-#[derive(Clone, Copy)]
+// Why a sheet is not written, by the refusals' numbers.
+#[derive(Clone, Copy, PartialEq, Eq)]
 pub enum Refusal {
-    NotSound,
-    TooDeep,
-    TooLong,
-    NoRoom,
-    ReadsOtherwise,
-    OtherForm,
-}
-
-// The length of the text written, or a refusal.
-#[derive(Clone, Copy)]
-pub enum Written {
-    Text(usize),
-    Refused(Refusal),
+    NotSound = 41,
+    TooDeep = 42,
+    TooLong = 43,
+    NoRoom = 44,
+    ReadsOtherwise = 45,
+    OtherForm = 46,
 }
 
 impl Refusal {
@@ -58,61 +43,47 @@ impl Refusal {
     pub fn number(self) -> u32
         ensures { result ≡ number self }
     {
-        match self {
-            Refusal::NotSound => 41,
-            Refusal::TooDeep => 42,
-            Refusal::TooLong => 43,
-            Refusal::NoRoom => 44,
-            Refusal::ReadsOtherwise => 45,
-            Refusal::OtherForm => 46,
-        }
+        self as u32
     }
 }
 
 // Whether a sound sheet's text is within the limit and finds room, by a buffer of so many bytes and a scratch of so many words.
-fn weigh_text(text: &[u8], words: &[u32], count: usize, room: usize, scratch: &[u32]) -> Weighed
+fn weigh_text(text: &[u8], words: &[u32], count: usize, room: usize, scratch: &[u32]) -> Result<(), Refusal>
     requires { Whole words.now count }
     ensures { result ≡ weigh_text room (length scratch.now) (tokens_in words.now count)
         (text_of text.now (tokens_in words.now count)) }
 {
-    match measure::measure(text, words, count) {
-        Measured::Size(size) => {
-            if room < size {
-                return Weighed::Refused(Refusal::NoRoom);
-            }
-            if words::capacity(scratch) < count {
-                return Weighed::Refused(Refusal::NoRoom);
-            }
-            Weighed::Fits
-        }
-        Measured::Over => Weighed::Refused(Refusal::TooLong),
+    let size = measure::measure(text, words, count).ok_or(Refusal::TooLong)?;
+    if room < size || words::capacity(scratch) < count {
+        return Err(Refusal::NoRoom);
     }
+    Ok(())
 }
 
 // What can be said of a sheet before a byte is written. Each reason is looked for in the whole sheet before the next.
-fn weigh(text: &[u8], words: &[u32], count: usize, room: usize, scratch: &[u32]) -> Weighed
+fn weigh(text: &[u8], words: &[u32], count: usize, room: usize, scratch: &[u32]) -> Result<(), Refusal>
     ensures { Decided (Sound (length text.now) words.now count)
         (weigh text.now (tokens_in words.now count) room (length scratch.now)) result }
 {
     if !sheet::check(text.len(), words, count) {
-        return Weighed::Refused(Refusal::NotSound);
+        return Err(Refusal::NotSound);
     }
     if !form::all_formed(words, count) {
-        return Weighed::Refused(Refusal::OtherForm);
+        return Err(Refusal::OtherForm);
     }
     if levels::sinks_too_deep(words, count) {
-        return Weighed::Refused(Refusal::TooDeep);
+        return Err(Refusal::TooDeep);
     }
     weigh_text(text, words, count, room, scratch)
 }
 
 // Refuses, and leaves all that was lent zero.
-fn refuse(out: &mut [u8], scratch: &mut [u32], r: Refusal) -> Written
+fn refuse(out: &mut [u8], scratch: &mut [u32], r: Refusal) -> Result<usize, Refusal>
     ensures { left result out.new scratch.new ≡ refuse (length out.old) (length scratch.old) r }
 {
     put::clear_from(out, 0);
     words::clear_from(scratch, 0);
-    Written::Refused(r)
+    Err(r)
 }
 
 // Writes a sheet that fits, and reads it back.
@@ -122,7 +93,7 @@ fn write_fitting(
     count: usize,
     out: &mut [u8],
     scratch: &mut [u32],
-) -> Written
+) -> Result<usize, Refusal>
     requires { Whole words.now count × (length (text_of text.now (tokens_in words.now count)) ≤ length out.old) }
     ensures { left result out.new scratch.new
         ≡ read_back text.now (tokens_in words.now count) (length out.old) (length scratch.old)
@@ -131,10 +102,10 @@ fn write_fitting(
     let size = put_pairs(out, 0, text, words, count, 0, count);
     put::clear_from(out, size);
     if alike::comes_back(text, words, count, put::front(out, size), scratch) {
-        return Written::Text(size);
+        return Ok(size);
     }
     put::clear_from(out, 0);
-    Written::Refused(Refusal::ReadsOtherwise)
+    Err(Refusal::ReadsOtherwise)
 }
 
 // Writes a sheet, with the text that its views lie in, as save text into a lent buffer. The text is read back by the parse, with a lent
@@ -146,13 +117,13 @@ pub fn write(
     count: usize,
     out: &mut [u8],
     scratch: &mut [u32],
-) -> Written
+) -> Result<usize, Refusal>
     ensures { Decided (Sound (length text.now) words.now count)
         (write_of text.now (tokens_in words.now count) (length out.old) (length scratch.old))
         (left result out.new scratch.new) }
 {
     match weigh(text, words, count, out.len(), scratch) {
-        Weighed::Refused(r) => refuse(out, scratch, r),
-        Weighed::Fits => write_fitting(text, words, count, out, scratch),
+        Err(r) => refuse(out, scratch, r),
+        Ok(()) => write_fitting(text, words, count, out, scratch),
     }
 }

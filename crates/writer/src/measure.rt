@@ -16,13 +16,6 @@ use tape::shape::Link;
 use tape::token::Token;
 use tape::{shape, words};
 
-// The bytes of a text, or that there are more than the limit.
-#[derive(Clone, Copy)]
-pub(crate) enum Measured {
-    Size(usize),
-    Over,
-}
-
 // How many bytes stand before a token: one, whichever it is, unless the token is the first of its body.
 fn lead_size(first: bool) -> usize
     ensures { result ≡ length (lead first Entry false) }
@@ -59,6 +52,7 @@ fn scalar_size(text: &[u8], quoted: bool, offset: u32, size: u32) -> usize
 }
 
 // How many bytes are written for a token that opens nothing and closes nothing.
+#[tactic(auto, using(crate::proofs::Sizes::lead_short, crate::proofs::Sizes::lead_same), unfolding(crate::specs::Text::piece_text, crate::specs::Pieces::own_bytes))]
 fn piece_size(text: &[u8], first: bool, piece: Piece) -> usize
     ensures exact { result ≡ length (piece_text text.now first Entry piece) }
     ensures small { result ≤ greatest_word + 3 }
@@ -73,13 +67,12 @@ fn piece_size(text: &[u8], first: bool, piece: Piece) -> usize
             lead_size(first) + scalar_size(text, false, offset, length)
         }
         Piece::Sign { number } => lead_size(first) + sign_size(number),
-        Piece::Mixed => 0,
-        Piece::Opener { kind: _, end: _ } => 0,
-        Piece::Other => 0,
+        Piece::Mixed | Piece::Opener { .. } | Piece::Other => 0,
     }
 }
 
 // How many bytes are written for a token: for an opener its brace, for an End the other.
+#[tactic(auto, using(crate::proofs::Sizes::lead_short), unfolding(crate::specs::Scans::token_size))]
 fn token_size(text: &[u8], first: bool, x: Token, link: Option<Link>) -> usize
     ensures exact { result ≡ token_size text.now first x link }
     ensures small { result ≤ greatest_word + 3 }
@@ -92,6 +85,7 @@ fn token_size(text: &[u8], first: bool, x: Token, link: Option<Link>) -> usize
 }
 
 // Whether the token behind one is the first of its body.
+#[tactic(auto, unfolding(crate::specs::Scans::first_behind))]
 fn first_behind(first: bool, x: Token, link: Option<Link>) -> bool
     ensures { result ≡ first_behind first x link }
 {
@@ -102,24 +96,22 @@ fn first_behind(first: bool, x: Token, link: Option<Link>) -> bool
     }
 }
 
-// How long a sheet's text will be.
-pub(crate) fn measure(text: &[u8], words: &[u32], count: usize) -> Measured
+// How long a sheet's text will be, unless that is over the limit.
+pub(crate) fn measure(text: &[u8], words: &[u32], count: usize) -> Option<usize>
     requires { Whole words.now count }
     ensures { result ≡ measured (length (text_of text.now (tokens_in words.now count))) }
 {
     let mut first = true;
-    let mut total: usize = 0;
-    let mut i = 0;
-    while i < count {
+    let mut total = 0;
+    for i in 0..count {
         let x = words::token_of(words, count, i);
         let link = shape::link_of(x);
         let size = token_size(text, first, x, link);
         if TEXT_LIMIT - total < size {
-            return Measured::Over;
+            return None;
         }
         total += size;
         first = first_behind(first, x, link);
-        i += 1;
     }
-    Measured::Size(total)
+    Some(total)
 }

@@ -40,19 +40,13 @@ fn scalar_piece(kind: ScalarKind, offset: u32, length: u32) -> Piece
             offset,
             length,
         },
-        ScalarKind::Quoted => Piece::Scalar {
-            quoted: true,
-            offset,
-            length,
-        },
-        ScalarKind::QuotedEscape => Piece::Scalar {
+        ScalarKind::Quoted | ScalarKind::QuotedEscape => Piece::Scalar {
             quoted: true,
             offset,
             length,
         },
         ScalarKind::Header => Piece::Heading { offset, length },
-        ScalarKind::Parameter => Piece::Other,
-        ScalarKind::UndefinedParameter => Piece::Other,
+        ScalarKind::Parameter | ScalarKind::UndefinedParameter => Piece::Other,
     }
 }
 
@@ -73,6 +67,7 @@ fn bare_piece(shape: Option<Shape>) -> Piece
 }
 
 // What a token is to the writer.
+#[tactic(auto, unfolding(crate::specs::Pieces::piece_of))]
 pub(crate) fn piece_of(t: Token) -> Piece
     ensures { result ≡ piece_of t }
 {
@@ -89,19 +84,5 @@ pub(crate) fn piece_of(t: Token) -> Piece
 pub(crate) fn still_first(first: bool, piece: Piece) -> bool
     ensures { result ≡ still_first first piece }
 {
-    match piece {
-        Piece::Scalar {
-            quoted: _,
-            offset: _,
-            length: _,
-        } => false,
-        Piece::Heading {
-            offset: _,
-            length: _,
-        } => false,
-        Piece::Sign { number: _ } => false,
-        Piece::Mixed => first,
-        Piece::Opener { kind: _, end: _ } => false,
-        Piece::Other => first,
-    }
+    first && matches!(piece, Piece::Mixed | Piece::Other)
 }

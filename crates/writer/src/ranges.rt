@@ -10,18 +10,7 @@ pub(crate) fn behind(piece: Piece, next: usize) -> usize
     ensures { result ≡ behind piece next }
 {
     match piece {
-        Piece::Opener { kind: _, end } => (end as usize) + 1,
-        Piece::Scalar {
-            quoted: _,
-            offset: _,
-            length: _,
-        } => next,
-        Piece::Heading {
-            offset: _,
-            length: _,
-        } => next,
-        Piece::Sign { number: _ } => next,
-        Piece::Mixed => next,
-        Piece::Other => next,
+        Piece::Opener { end, .. } => (end as usize) + 1,
+        _ => next,
     }
 }

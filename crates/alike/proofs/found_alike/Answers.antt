@@ -1,6 +1,5 @@
 -- `alike::found_alike` meets its contract. The invariant: the tokens that are left of both decide.
 -- Assumes nothing.
-use native.Mathlib.Omega.{arith}
 use Rattle.alike.proofs.Same.{found-other, found-short, beside, beside_on, beside_not, beside_end}
 use Rattle.alike.proofs.found_alike.Goals as goal
 
@@ -19,12 +18,6 @@ pub returns-then-not-same_token : goal.returns-then-not-same_token
 returns-then-not-same_token c =
     beside_not _ _ _ _ _ _ _ c.loop-i.invariant c.loop-i-test.true
     c.token_of-x.ensures c.token_of.ensures c.same_token.ensures c.if-not-same_token.true
-
-pub overflow_add-i : goal.overflow_add-i
-overflow_add-i c = omega arith
-
-pub loop-i-smaller : goal.loop-i-smaller
-loop-i-smaller c = omega arith
 
 pub loop-i-preserved : goal.loop-i-preserved
 loop-i-preserved c =

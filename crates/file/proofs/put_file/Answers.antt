@@ -13,9 +13,9 @@ use Rattle.file.proofs.put_file.Goals as goal
 pub returns : goal.returns
 returns c =
     let counted = c.requires.0 in
-    let ts : List Token = tokens_in c.args.words.now c.args.count in
-    let fits : file_size c.args.v (length ts) ≤ length c.args.out.now = omega (arith, c.requires.2, counted) in
-    file-left c.args.v c.args.text_length ts c.args.out.now fits c.file_size-size.ensures counted
-    (file-put c.args.v c.args.text_length ts c.args.out.now fits c.file_size-size.ensures counted
-    c.put_head.ensures c.head_size-head.ensures c.pack.ensures)
+    let ts : List Token = tokens_in c.args.words.now c.args.head.count in
+    let fits : file_size c.args.head.version (length ts) ≤ length c.args.out.now = omega (arith, c.requires.2, counted) in
+    file-left c.args.head.version c.args.head.text_length ts c.args.out.now fits c.file_size-size.ensures counted
+    (file-put c.args.head.version c.args.head.text_length ts c.args.out.now fits c.file_size-size.ensures counted
+    c.put_head.ensures c.head_size-from.ensures c.pack.ensures)
     c.clear_from.ensures

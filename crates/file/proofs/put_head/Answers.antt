@@ -6,11 +6,11 @@ use Rattle.file.proofs.put_head.Goals as goal
 
 pub overflow_cast-size : goal.overflow_cast-size
 overflow_cast-size c =
-    omega (arith, c.file_size-size.ensures, small-total c.args.v c.args.text_length c.args.count c.requires.0)
+    omega (arith, c.file_size-size.ensures, small-total c.args.head.version c.args.head.text_length c.args.head.count c.requires.0)
 
 pub returns : goal.returns
 returns c =
-    head_put c.args.v _ _ _ c.requires.1
+    head_put c.args.head.version _ _ _ c.requires.1
     c.file_size-size.ensures c.put_number.ensures
     c.version_number-number.ensures c.put_number-2.ensures
     c.text_width-width.ensures c.put_number-3.ensures

@@ -2,10 +2,10 @@
 -- Assumes nothing.
 use mathlib.Core.Path.{◌∙◌, ap}
 use Rattle.tape.proofs.Clearing.{cleared-whole}
-use Rattle.file.specs.declared.Found.TheVariants as Found
+use Rattle.std.specs.Prelude.{Err}
 use Rattle.file.specs.Files.{left}
 use Rattle.file.proofs.refuse_read.Goals as goal
 
 pub returns : goal.returns
 returns c =
-    ap (left (Found.Refused c.args.r)) (c.clear_from.ensures ∙ cleared-whole c.args.words.now)
+    ap (left (Err c.args.r)) (c.clear_from.ensures ∙ cleared-whole c.args.words.now)

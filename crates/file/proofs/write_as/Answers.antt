@@ -29,8 +29,8 @@ returns-then-out-file_size c =
     c.is_too_large.ensures c.if-is_too_large.false c.file_size.ensures c.if-out-file_size.true
     c.refuse_write-then-out-file_size.ensures
 
-pub overflow_cast-text_length : goal.overflow_cast-text_length
-overflow_cast-text_length c =
+pub overflow_cast-head : goal.overflow_cast-head
+overflow_cast-head c =
     omega (
       arith,
       small-text c.args.v c.args.text_length c.args.count (sym c.is_too_large.ensures ∙ c.if-is_too_large.false),

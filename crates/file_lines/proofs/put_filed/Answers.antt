@@ -11,13 +11,13 @@ use Rattle.file_lines.specs.Words as words
 use Rattle.file_lines.proofs.Told.{filed_as}
 use Rattle.file_lines.proofs.put_filed.Goals as goal
 
-pub returns-in-File : goal.returns-in-File
-returns-in-File c =
-    filed_as _ _ _ c.write.ensures c.in-File.is
+pub returns-in-Ok : goal.returns-in-Ok
+returns-in-Ok c =
+    filed_as _ _ _ c.write.ensures c.in-Ok.is
     (chain _ _ _ _ (chain _ _ _ _ c.put_bytes-word.ensures c.put_hex_bytes-bytes.ensures) c.put_byte.ensures)
     (ap (λ (l : List ℕ). words.file ++ hex_bytes l ++ (line_feed ∷ [])) c.front.ensures.bytes)
 
-pub returns-in-Refused : goal.returns-in-Refused
-returns-in-Refused c =
-    filed_as _ _ _ c.write.ensures c.in-Refused.is c.put_refusal.ensures
+pub returns-in-Err : goal.returns-in-Err
+returns-in-Err c =
+    filed_as _ _ _ c.write.ensures c.in-Err.is c.put_refusal.ensures
     (ap refused_line c.number.ensures)

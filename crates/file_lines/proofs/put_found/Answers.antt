@@ -8,24 +8,24 @@ use Rattle.file_lines.proofs.Room.{sheet-held, refusal-held}
 use borrow.Author.Rules.{rules}
 use Rattle.file_lines.proofs.put_found.Goals as goal
 
-pub returns-in-Sheet : goal.returns-in-Sheet
-returns-in-Sheet c =
+pub returns-in-Ok : goal.returns-in-Ok
+returns-in-Ok c =
     let words = c.read.new.words in
     record {
-      lines = found_as _ _ _ _ words c.read.ensures c.in-Sheet.is
+      lines = found_as _ _ _ _ words c.read.ensures c.in-Ok.is
           (chain _ _ _ _ c.put_sheet_line-next.ensures c.put_tokens.ensures) refl;
-      held = sheet-held _ _ words c.read.ensures c.in-Sheet.is
+      held = sheet-held _ _ words c.read.ensures c.in-Ok.is
           (search rules)
           (search rules)
           (search rules)
           (search rules);
     }
 
-pub returns-in-Refused : goal.returns-in-Refused
-returns-in-Refused c =
+pub returns-in-Err : goal.returns-in-Err
+returns-in-Err c =
     let words = c.read.new.words in
     record {
-      lines = found_as _ _ _ _ words c.read.ensures c.in-Refused.is c.put_refusal.ensures
+      lines = found_as _ _ _ _ words c.read.ensures c.in-Err.is c.put_refusal.ensures
           (ap refused_line c.number.ensures);
-      held = refusal-held _ _ words c.read.ensures c.in-Refused.is;
+      held = refusal-held _ _ words c.read.ensures c.in-Err.is;
     }

@@ -10,20 +10,20 @@ write_fitting-requires c =
     let args = c.args in
     let fits =
     settled-fits args.text.now (tokens_in args.words.now args.count) (length args.out.now) (length args.scratch.now)
-    c.weigh.ensures c.in-Fits.is
+    c.weigh.ensures c.in-Ok.is
     in
     (record { text_length = _; sound = fits.0 }, fits.1)
 
-pub returns-in-Refused : goal.returns-in-Refused
-returns-in-Refused c =
+pub returns-in-Err : goal.returns-in-Err
+returns-in-Err c =
     let args = c.args in
     settled args.text.now (tokens_in args.words.now args.count) (length args.out.now) (length args.scratch.now)
-    c.weigh.ensures c.in-Refused.is
+    c.weigh.ensures c.in-Err.is
     c.refuse.ensures
 
-pub returns-in-Fits : goal.returns-in-Fits
-returns-in-Fits c =
+pub returns-in-Ok : goal.returns-in-Ok
+returns-in-Ok c =
     let args = c.args in
     settled args.text.now (tokens_in args.words.now args.count) (length args.out.now) (length args.scratch.now)
-    c.weigh.ensures c.in-Fits.is
+    c.weigh.ensures c.in-Ok.is
     c.write_fitting.ensures

@@ -11,14 +11,14 @@ use Rattle.report.specs.Words as words
 use Rattle.report.proofs.Hexes.{written_as}
 use Rattle.report.proofs.sheets.put_written.Goals as goal
 
-pub returns-in-Text : goal.returns-in-Text
-returns-in-Text c =
-    written_as _ _ _ c.write.ensures c.in-Text.is
+pub returns-in-Ok : goal.returns-in-Ok
+returns-in-Ok c =
+    written_as _ _ _ c.write.ensures c.in-Ok.is
     (chain _ _ _ _ (chain _ _ _ _ c.put_bytes-word.ensures c.put_hex_bytes-bytes.ensures) c.put_byte.ensures)
     (ap (λ (l : List ℕ). words.text ++ hex_bytes l ++ (line_feed ∷ [])) c.front.ensures.bytes)
 
-pub returns-in-Refused : goal.returns-in-Refused
-returns-in-Refused c =
-    written_as _ _ _ c.write.ensures c.in-Refused.is
-    (chain _ _ _ _ (chain _ _ _ _ c.put_bytes-word-in-Refused.ensures c.put_decimal-digits.ensures) c.put_byte-in-Refused.ensures)
+pub returns-in-Err : goal.returns-in-Err
+returns-in-Err c =
+    written_as _ _ _ c.write.ensures c.in-Err.is
+    (chain _ _ _ _ (chain _ _ _ _ c.put_bytes-word-in-Err.ensures c.put_decimal-digits.ensures) c.put_byte-in-Err.ensures)
     (ap (λ (n : ℕ). words.refused ++ decimal n ++ (line_feed ∷ [])) c.number-number.ensures)

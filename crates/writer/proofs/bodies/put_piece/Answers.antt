@@ -1,8 +1,6 @@
 -- `writer::bodies::put_piece` meets its contract: what stands before it and its own bytes, by what it is.
 -- Assumes nothing.
-use mathlib.Core.Path.{refl}
-use Rattle.writer.specs.Text.{piece_text}
-use Rattle.writer.proofs.Puts.{put-scalar, put-heading, put-number, put-nothing}
+use Rattle.writer.proofs.Puts.{put-scalar, put-heading, put-number}
 use Rattle.writer.proofs.bodies.put_piece.Goals as goal
 
 pub returns-in-Scalar : goal.returns-in-Scalar
@@ -16,15 +14,3 @@ returns-in-Heading c =
 pub returns-in-Sign : goal.returns-in-Sign
 returns-in-Sign c =
     put-number _ _ _ _ _ c.in-Sign.is c.put_lead-next-in-Sign.ensures c.put_sign.ensures
-
-pub returns-in-Mixed : goal.returns-in-Mixed
-unfolding piece_text
-returns-in-Mixed c = put-nothing _ _ _ _ _ c.in-Mixed.is refl
-
-pub returns-in-Opener : goal.returns-in-Opener
-unfolding piece_text
-returns-in-Opener c = put-nothing _ _ _ _ _ c.in-Opener.is refl
-
-pub returns-in-Other : goal.returns-in-Other
-unfolding piece_text
-returns-in-Other c = put-nothing _ _ _ _ _ c.in-Other.is refl

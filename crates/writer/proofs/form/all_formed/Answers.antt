@@ -17,34 +17,25 @@ pub loop-i-init : goal.loop-i-init
 loop-i-init c =
     ((λ k u v. absurd (omega (arith, v))), sym c.body_formed.ensures ∙ c.if-not-body_formed.false, omega arith)
 
-pub overflow_add-i : goal.overflow_add-i
-overflow_add-i c = omega arith
-
 pub inside_formed-requires : goal.inside_formed-requires
 inside_formed-requires c =
     let whole = c.requires in
     let i = c.loop-i.i in
-    let is = read-piece _ _ _ c.token_of.ensures c.piece_of.ensures in
+    let is = read-piece _ _ _ c.token_of.ensures c.piece_of-piece.ensures in
     whole-inside whole i _ c.loop-i-test.true is
 
 pub returns-then-not-inside_formed : goal.returns-then-not-inside_formed
 returns-then-not-inside_formed c =
     let whole = c.requires in
     let i = c.loop-i.i in
-    let is = read-piece _ _ _ c.token_of.ensures c.piece_of.ensures in
+    let is = read-piece _ _ _ c.token_of.ensures c.piece_of-piece.ensures in
     inside_wrong whole i _ c.loop-i-test.true is c.inside_formed.ensures c.if-not-inside_formed.true
-
-pub overflow_add-i-in-loop-i : goal.overflow_add-i-in-loop-i
-overflow_add-i-in-loop-i c = omega arith
-
-pub loop-i-smaller : goal.loop-i-smaller
-loop-i-smaller c = omega arith
 
 pub loop-i-preserved : goal.loop-i-preserved
 loop-i-preserved c =
     let whole = c.requires in
     let i = c.loop-i.i in
-    let is = read-piece _ _ _ c.token_of.ensures c.piece_of.ensures in
+    let is = read-piece _ _ _ c.token_of.ensures c.piece_of-piece.ensures in
     (one_more _ i _ c.loop-i.invariant.0 is c.inside_formed.ensures c.if-not-inside_formed.false, c.loop-i.invariant.1, omega arith)
 
 pub returns : goal.returns

@@ -1,7 +1,7 @@
--- What each turn keeps, and what gets less.
+-- What each turn keeps.
 use mathlib.Core.Path.{◌≡◌}
 use mathlib.Core.Bool.{true}
-use Prim.Native.Nat.{◌-◌, ◌≤◌}
+use Prim.Native.Nat.{◌≤◌}
 use Rattle.tape.specs.Words.{tokens_in}
 use Rattle.writer.specs.declared.dues.Due.TheVariants.{Key}
 use Rattle.writer.specs.Forest.{stretch}
@@ -11,6 +11,3 @@ use Rattle.writer.proofs.form.all_formed.Given as goal
 
 abbrev pub invariant-loop-i : goal.invariant-loop-i
 invariant-loop-i l = Insides (tokens_in l.words l.count) 0 l.i × (body_form (stretch (tokens_in l.words l.count) 0 l.count) Key ≡ true) × (l.i ≤ l.count)
-
-abbrev pub decreases-loop-i : goal.decreases-loop-i
-decreases-loop-i l = l.count - l.i

@@ -7,7 +7,7 @@ use Rattle.tape.specs.Words.{tokens_in}
 use Rattle.writer.specs.Forest.{Forest}
 use Rattle.writer.specs.Ranges.{body_form}
 use Rattle.writer.proofs.Grown.{stretch-none}
-use Rattle.writer.proofs.Walks.{read-piece, Met, step_wrong, step_range, step_ahead, step_form}
+use Rattle.writer.proofs.Walks.{read_met, step_wrong, step_range, step_ahead, step_form}
 use native.Mathlib.Omega.{arith}
 use Rattle.writer.proofs.form.body_formed.Goals as goal
 
@@ -16,40 +16,19 @@ loop-i-init c = (c.requires, refl)
 
 pub returns-then-not-takes : goal.returns-then-not-takes
 returns-then-not-takes c =
-    let met : let args = c.args in
-    Met (tokens_in args.words.now args.count) c.loop-i.i args.end c.piece_of-piece.result =
-    record {
-      range = c.loop-i.invariant.0;
-      early = c.loop-i-test.true;
-      piece = read-piece _ _ _ c.token_of.ensures c.piece_of-piece.ensures;
-    } in
+    let met = read_met _ _ _ c.loop-i.invariant.0 c.loop-i-test.true c.token_of.ensures c.piece_of-piece.ensures in
     let m = c.loop-i in
     sym (m.invariant.1 ∙ sym (step_wrong met m.due c.takes.ensures c.if-not-takes.true))
 
-pub overflow_add-i : goal.overflow_add-i
-overflow_add-i c = omega arith
-
 pub loop-i-smaller : goal.loop-i-smaller
 loop-i-smaller c =
-    let met : let args = c.args in
-    Met (tokens_in args.words.now args.count) c.loop-i.i args.end c.piece_of-piece.result =
-    record {
-      range = c.loop-i.invariant.0;
-      early = c.loop-i-test.true;
-      piece = read-piece _ _ _ c.token_of.ensures c.piece_of-piece.ensures;
-    } in
+    let met = read_met _ _ _ c.loop-i.invariant.0 c.loop-i-test.true c.token_of.ensures c.piece_of-piece.ensures in
     let on = step_ahead met _ c.behind-i.ensures in
     omega (arith, on.0)
 
 pub loop-i-preserved : goal.loop-i-preserved
 loop-i-preserved c =
-    let met : let args = c.args in
-    Met (tokens_in args.words.now args.count) c.loop-i.i args.end c.piece_of-piece.result =
-    record {
-      range = c.loop-i.invariant.0;
-      early = c.loop-i-test.true;
-      piece = read-piece _ _ _ c.token_of.ensures c.piece_of-piece.ensures;
-    } in
+    let met = read_met _ _ _ c.loop-i.invariant.0 c.loop-i-test.true c.token_of.ensures c.piece_of-piece.ensures in
     let m = c.loop-i in (
       step_range met _ c.behind-i.ensures,
       m.invariant.1

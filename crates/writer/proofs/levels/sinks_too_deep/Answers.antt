@@ -12,9 +12,6 @@ use Rattle.writer.proofs.levels.sinks_too_deep.Goals as goal
 pub loop-i-init : goal.loop-i-init
 loop-i-init c = (refl, omega arith)
 
-pub sink-requires : goal.sink-requires
-sink-requires c = c.loop-i.invariant.1
-
 pub returns-in_default : goal.returns-in_default
 returns-in_default c =
     let args = c.args in
@@ -27,12 +24,6 @@ returns-in_default c =
     let inside : m.i < length (tokens_in args.words.now args.count) = omega (arith, whole-count whole, c.loop-i-test.true) in
     sym (sym (deep_told whole) ∙ m.invariant.0 ∙ sinks-now _ m.i m.level inside read c.in_default.is)
 
-pub overflow_add-i : goal.overflow_add-i
-overflow_add-i c = omega arith
-
-pub loop-i-smaller : goal.loop-i-smaller
-loop-i-smaller c = omega arith
-
 pub loop-i-preserved : goal.loop-i-preserved
 loop-i-preserved c =
     let args = c.args in
@@ -43,7 +34,7 @@ loop-i-preserved c =
     c.token_of.ensures c.link_of-link.ensures c.sink.ensures
     in
     let inside : m.i < length (tokens_in args.words.now args.count) = omega (arith, whole-count whole, c.loop-i-test.true) in
-    let next = c.in-To.is in
+    let next = c.in-Some.is in
     (m.invariant.0 ∙ sinks_on _ m.i m.level inside read next, sunk-within m.level _ m.invariant.1 (sym read ∙ next))
 
 pub returns : goal.returns

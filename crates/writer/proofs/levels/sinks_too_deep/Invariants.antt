@@ -1,5 +1,5 @@
--- What each turn keeps, and what gets less.
-use Prim.Native.Nat.{◌-◌, ◌≤◌}
+-- What each turn keeps.
+use Prim.Native.Nat.{◌≤◌}
 use mathlib.Core.Path.{◌≡◌}
 use lib.ListN.{drop}
 use Rattle.tape.specs.Words.{tokens_in}
@@ -10,6 +10,3 @@ use Rattle.writer.proofs.levels.sinks_too_deep.Given as goal
 abbrev pub invariant-loop-i : goal.invariant-loop-i
 invariant-loop-i l =
     (sinks (tokens_in l.words l.count) 0 ≡ sinks (drop l.i (tokens_in l.words l.count)) l.level) × (l.level ≤ most_levels)
-
-abbrev pub decreases-loop-i : goal.decreases-loop-i
-decreases-loop-i l = l.count - l.i

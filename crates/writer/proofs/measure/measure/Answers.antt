@@ -13,9 +13,6 @@ use Rattle.writer.proofs.measure.measure.Goals as goal
 pub loop-i-init : goal.loop-i-init
 loop-i-init c = (zero-add _ ∙ size-told c.requires _, omega arith)
 
-pub overflow_sub-total : goal.overflow_sub-total
-overflow_sub-total c = c.loop-i.invariant.1
-
 pub returns-then-total-size : goal.returns-then-total-size
 returns-then-total-size c =
     let args = c.args in
@@ -28,15 +25,6 @@ returns-then-total-size c =
     in
     let size = c.token_size-size.ensures.exact in
     measured-over _ (omega (arith, on, size, m.invariant.0, m.invariant.1, c.if-total-size.true))
-
-pub overflow_add-total : goal.overflow_add-total
-overflow_add-total c = omega arith
-
-pub overflow_add-i : goal.overflow_add-i
-overflow_add-i c = omega arith
-
-pub loop-i-smaller : goal.loop-i-smaller
-loop-i-smaller c = omega arith
 
 pub loop-i-preserved : goal.loop-i-preserved
 loop-i-preserved c =

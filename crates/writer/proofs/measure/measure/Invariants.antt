@@ -1,5 +1,5 @@
--- What each turn keeps, and what gets less.
-use Prim.Native.Nat.{◌+◌, ◌-◌, ◌≤◌}
+-- What each turn keeps.
+use Prim.Native.Nat.{◌+◌, ◌≤◌}
 use mathlib.Core.Path.{◌≡◌}
 use lib.ListN.{length, drop}
 use Rattle.tape.specs.Words.{tokens_in}
@@ -11,6 +11,3 @@ use Rattle.writer.proofs.measure.measure.Given as goal
 abbrev pub invariant-loop-i : goal.invariant-loop-i
 invariant-loop-i l =
     (l.total + text_size l.text (drop l.i (tokens_in l.words l.count)) l.first ≡ length (text_of l.text (tokens_in l.words l.count))) × (l.total ≤ text_limit)
-
-abbrev pub decreases-loop-i : goal.decreases-loop-i
-decreases-loop-i l = l.count - l.i
