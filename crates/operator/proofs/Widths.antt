@@ -7,9 +7,10 @@ use native.Mathlib.Omega.{arith}
 use lib.Dec.{eqb}
 use Rattle.data.proofs.Cases.{by_bool}
 use Rattle.data.specs.Bytes.{equals}
+use Rattle.operator.specs.declared.Operator.{Operator}
 use Rattle.operator.specs.declared.Sighted.{Sighted}
 use Rattle.std.specs.Prelude.{Option, Some, None}
-use Rattle.operator.specs.Operators.{Line, line, line_tells, lines_tell, decision, sighted}
+use Rattle.operator.specs.Operators.{Line, line, line_tells, lines_tell, decision, sign, sighted}
 
 pub record Width (w : ℕ) : Type 0 where
   pub some : 1 ≤ w
@@ -32,6 +33,6 @@ lines-width (line byte followed alone ∷ ls) first second hs =
     (λ f. rw (lines_tell, line_tells, e, f) hs.1))
     (λ e. rw (lines_tell, line_tells, e) (lines-width ls first second hs.2))
 
-pub sighted-width : (a b : ℕ) (s : Sighted) → sighted a b ≡ Some s → Width s.width
+pub sighted-width : (a b : ℕ) (operator : Operator) (w : ℕ) → sighted a b ≡ sign operator w → Width w
 unfolding sighted
-sighted-width a b s e = subst Widths e (lines-width decision a b (omega arith))
+sighted-width a b operator w e = subst Widths e (lines-width decision a b (omega arith))

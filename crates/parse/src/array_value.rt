@@ -40,7 +40,7 @@ pub(crate) fn operator_then(text: &[u8], tape: &mut [u32], m: Machine) -> Turn
 {
     let at = m.at;
     match operator::operator_at(byte_at(text, at), byte_at(text, at + 1)) {
-        Sighted::Sign { operator, width } => {
+        Some(Sighted { operator, width }) => {
             lay(
                 tape,
                 m,
@@ -49,7 +49,7 @@ pub(crate) fn operator_then(text: &[u8], tape: &mut [u32], m: Machine) -> Turn
                 State::ArrayValue,
             )
         }
-        Sighted::Nothing => Turn::Refused(Refusal::UnknownOperator(before(at))),
+        None => Turn::Refused(Refusal::UnknownOperator(before(at))),
     }
 }
 

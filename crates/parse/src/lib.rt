@@ -10,7 +10,6 @@ ghost use Rattle.parse.specs.Parse.{text_limit, state_turn, turn, run, ending, e
 ghost use Rattle.parse.specs.Here.{Here, Lent, LentHere};
 
 use crate::step::Step;
-use cut::Skipped;
 use machine::finish::{finish, refuse};
 use machine::start::{has_bom, start};
 use machine::{Ending, Machine, Parsed, Refusal, State, Turn, mixed_on};
@@ -64,8 +63,8 @@ fn turn(text: &[u8], table: &[u8; data::BYTE_COUNT], tape: &mut [u32], m: Machin
 {
     let state = m.state;
     match cut::skip_ws_t(text, m.at) {
-        Skipped::At(p) => state_turn(text, table, tape, m.to(p, state, m.count)),
-        Skipped::End => containers::text_end(tape, m),
+        Some(p) => state_turn(text, table, tape, m.to(p, state, m.count)),
+        None => containers::text_end(tape, m),
     }
 }
 

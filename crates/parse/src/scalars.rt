@@ -30,19 +30,21 @@ pub(crate) fn scalar_at(text: &[u8], at: usize) -> Scalar
     ensures { result ≡ scalar_found (scalar_cut text.now at) }
 {
     match cut::scalar_at(text, at) {
-        Cut::Unquoted { start, end, rest } => Scalar::Cut {
+        Some(Cut::Unquoted { start, end, rest }) => Scalar::Cut {
             token: viewed(ScalarKind::Unquoted, start, end),
             rest,
         },
-        Cut::Quoted {
-            start,
-            end,
-            rest,
-            escaped,
-        } => Scalar::Cut {
+        Some(
+            Cut::Quoted {
+                start,
+                end,
+                rest,
+                escaped,
+            },
+        ) => Scalar::Cut {
             token: viewed(token::quoted_kind(escaped), start, end),
             rest,
         },
-        Cut::End => Scalar::End,
+        None => Scalar::End,
     }
 }

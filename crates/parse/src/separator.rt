@@ -49,8 +49,8 @@ pub(crate) fn separator_turn(text: &[u8], tape: &mut [u32], m: Machine) -> Turn
     let at = m.at;
     let b = byte_at(text, at);
     match operator::operator_at(b, byte_at(text, at + 1)) {
-        Sighted::Sign { operator, width } => separator_then(tape, m, operator, width),
-        Sighted::Nothing => {
+        Some(Sighted { operator, width }) => separator_then(tape, m, operator, width),
+        None => {
             if b == b'{' {
                 return Turn::Next(m.to(at, State::ObjectValue, m.count));
             }

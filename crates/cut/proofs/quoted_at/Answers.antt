@@ -1,6 +1,6 @@
 -- `cut::quoted_at` meets its contract: what the run of the later part says, said of the text; a closed run ends within the text, so that the sums fit.
 -- Assumes nothing.
-use mathlib.Core.Path.{◌≡◌, sym, ◌∙◌, ap}
+use mathlib.Core.Path.{sym, ◌∙◌, ap}
 use native.Mathlib.Omega.{arith}
 use Rattle.cut.specs.Scalars.{quoted}
 use Rattle.cut.proofs.Scalars.{quoted-part, quoted-part-closes}

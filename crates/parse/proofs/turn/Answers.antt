@@ -7,14 +7,14 @@ use Rattle.parse.proofs.turn.Goals as goal
 
 pub state_turn-requires : goal.state_turn-requires
 state_turn-requires c =
-    (c.requires.0, c.requires.1, rw c.to.ensures (skip_lands _ _ _ (sym c.skip_ws_t.ensures ∙ c.in-At.is)).within)
+    (c.requires.0, c.requires.1, rw c.to.ensures (skip_lands _ _ _ (sym c.skip_ws_t.ensures ∙ c.in-Some.is)).within)
 
-pub returns-in-At : goal.returns-in-At
+pub returns-in-Some : goal.returns-in-Some
 unfolding turn
-returns-in-At c =
-    rw (turn, ← c.skip_ws_t.ensures, c.in-At.is, c.state_turn.ensures, c.to.ensures)
+returns-in-Some c =
+    rw (turn, ← c.skip_ws_t.ensures, c.in-Some.is, c.state_turn.ensures, c.to.ensures)
 
-pub returns-in-End : goal.returns-in-End
+pub returns-in-None : goal.returns-in-None
 unfolding turn
-returns-in-End c =
-    rw (turn, ← c.skip_ws_t.ensures, c.in-End.is) c.text_end.ensures
+returns-in-None c =
+    rw (turn, ← c.skip_ws_t.ensures, c.in-None.is) c.text_end.ensures

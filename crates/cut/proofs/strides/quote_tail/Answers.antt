@@ -1,6 +1,6 @@
 -- `cut::strides::quote_tail` meets its contract: the plain cut of what is left, counted from the place on, with the flag as it was.
 -- Assumes nothing.
-use mathlib.Core.Path.{◌≡◌, sym, ◌∙◌, ap}
+use mathlib.Core.Path.{sym, ◌∙◌, ap}
 use native.Mathlib.Omega.{arith}
 use lib.ListN.{drop, length-drop}
 use Rattle.cut.proofs.Quotes.{quoted-past, quoted-moved, quoted_run-closes, moved}

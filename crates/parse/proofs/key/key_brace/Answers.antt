@@ -13,7 +13,7 @@ returns-in_default c = rw (key_brace, ← c.skip_ws_t.ensures, c.in_default.is)
 
 pub overflow_add-p : goal.overflow_add-p
 overflow_add-p c =
-    let h = skip_lands _ _ _ (sym c.skip_ws_t.ensures ∙ c.in-At.is) in omega (arith, h.within)
+    let h = skip_lands _ _ _ (sym c.skip_ws_t.ensures ∙ c.in-Some.is) in omega (arith, h.within)
 
 pub returns-then-byte_at-eq125 : goal.returns-then-byte_at-eq125
 unfolding key_brace
@@ -21,7 +21,7 @@ returns-then-byte_at-eq125 c =
     rw (
       key_brace,
       ← c.skip_ws_t.ensures,
-      c.in-At.is,
+      c.in-Some.is,
       ← c.byte_at.ensures,
       eq-eqb _ _ c.if-byte_at-eq125.true,
       c.to.ensures,
@@ -33,7 +33,7 @@ returns c =
     rw (
       key_brace,
       ← c.skip_ws_t.ensures,
-      c.in-At.is,
+      c.in-Some.is,
       ← c.byte_at.ensures,
       ne_eqb _ _ c.if-byte_at-eq125.false,
     ) c.key_header.ensures

@@ -13,7 +13,7 @@ returns-in_default c = rw (parameter_value, ← c.skip_ws_t.ensures, c.in_defaul
 
 pub run_from-end-requires : goal.run_from-end-requires
 run_from-end-requires c =
-    let landed = skip_lands _ _ _ (sym c.skip_ws_t.ensures ∙ c.in-At.is) in
+    let landed = skip_lands _ _ _ (sym c.skip_ws_t.ensures ∙ c.in-Some.is) in
     (c.requires.1, landed.within)
 
 pub returns-in_default-skip_ws_t : goal.returns-in_default-skip_ws_t
@@ -22,7 +22,7 @@ returns-in_default-skip_ws_t c =
     rw (
       parameter_value,
       ← c.skip_ws_t.ensures,
-      c.in-At.is,
+      c.in-Some.is,
       ← c.run_from-end.ensures,
       ← c.skip_ws_t-2.ensures,
       c.in_default-skip_ws_t.is,
@@ -30,9 +30,9 @@ returns-in_default-skip_ws_t c =
 
 pub value_or_object-requires : goal.value_or_object-requires
 value_or_object-requires c =
-    let s = skip_lands _ _ _ (sym c.skip_ws_t.ensures ∙ c.in-At.is) in
-    let e = run_end-run c.args.text.now c.in-At.start s.within in
-    let q = skip_lands _ _ _ (sym c.skip_ws_t-2.ensures ∙ c.in-At-skip_ws_t.is) in
+    let s = skip_lands _ _ _ (sym c.skip_ws_t.ensures ∙ c.in-Some.is) in
+    let e = run_end-run c.args.text.now c.in-Some.start s.within in
+    let q = skip_lands _ _ _ (sym c.skip_ws_t-2.ensures ∙ c.in-Some-skip_ws_t.is) in
     omega (arith, e.moves, e.within, q.within, c.run_from-end.ensures, c.requires.0)
 
 pub returns : goal.returns
@@ -41,10 +41,10 @@ returns c =
     rw (
       parameter_value,
       ← c.skip_ws_t.ensures,
-      c.in-At.is,
+      c.in-Some.is,
       ← c.run_from-end.ensures,
       ← c.skip_ws_t-2.ensures,
-      c.in-At-skip_ws_t.is,
+      c.in-Some-skip_ws_t.is,
       c.value_or_object.ensures,
       c.run_from-end.ensures,
     )

@@ -13,7 +13,7 @@ returns-then-follows_key c =
     rw (
       open_as,
       ← c.skip_ws_t.ensures,
-      c.in-At.is,
+      c.in-Some.is,
       ← c.byte_at.ensures,
       ← c.follows_key.ensures,
       c.if-follows_key.true,
@@ -25,7 +25,7 @@ returns c =
     rw (
       open_as,
       ← c.skip_ws_t.ensures,
-      c.in-At.is,
+      c.in-Some.is,
       ← c.byte_at.ensures,
       ← c.follows_key.ensures,
       c.if-follows_key.false,
