@@ -1,5 +1,5 @@
 -- The parse with no bound on tokens, and how many tokens it lays down before it ends or refuses.
-use Rattle.std.specs.Prelude.{ℕ, zero, suc, ◌+◌, ◌-◌, Bool, true, false, ◌&&◌, List, [], eqb, ltb, length}
+use Rattle.std.specs.Prelude.{ℕ, zero, suc, ◌+◌, ◌-◌, Bool, true, false, ◌&&◌, List, [], Option, Some, None, eqb, ltb, length}
 use Rattle.data.specs.Bytes.{exclamation, bracket_open, bracket_close}
 use Rattle.cut.specs.declared.Cut as Cut
 use Rattle.cut.specs.Blanks.{skip_ws}

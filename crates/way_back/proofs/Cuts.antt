@@ -12,12 +12,12 @@ use lib.ListN.{length, get_or, drop}
 use Rattle.data.proofs.Cases.{by_bool}
 use Rattle.data.specs.Bytes.{space, hash, quote, backslash, at_sign}
 use Rattle.data.specs.Classes.{is_boundary}
-use Rattle.std.specs.Prelude.{Option, Some, None}
+use Rattle.std.specs.Prelude.{Some, None}
 use Rattle.cut.specs.declared.Cut.{Cut}
 use Rattle.cut.specs.declared.Cut as Cut
 use Rattle.cut.specs.Blanks.{is_blank, blanks_from, comment_from, skip_ws}
 use Rattle.cut.specs.Runs.{stop_from, run_of, run_end_of}
-use Rattle.cut.specs.Quotes.{quoted_from, skipped_from, quoted_run}
+use Rattle.cut.specs.Quotes.{quoted_from, skipped_from, quoted_run, closed}
 use Rattle.cut.specs.Scalars.{scalar_cut, cut_of}
 use Rattle.cut.proofs.Scalars.{opens_not}
 use Rattle.way_back.specs.Plain.{bare_byte, AllPlain, AllBare}

@@ -46,7 +46,7 @@ use Rattle.writer.specs.Refusals.{number}
 use Rattle.alike.specs.Alike.{comes_back}
 use Rattle.data.specs.Reasons.{first_of}
 use Rattle.writer.specs.Write.{text_of, formed, too_deep, weigh, read_back, write_of}
-use Rattle.writer.proofs.Sizes.{lead-same, lead-short, quoted-size, view-short}
+use Rattle.writer.proofs.Sizes.{lead-same, lead-short, symbol-short, quoted-size, view-short}
 use Rattle.writer.proofs.Grown.{tokens-on}
 use Rattle.writer.proofs.Scanned.{size-told, size_none}
 use Rattle.way_back.specs.Accepted.{answer_of}
