@@ -27,7 +27,7 @@ use Rattle.way_back.proofs.Bytes.{plain_runs, plain_unquoted, plain-no_variable}
 -- ---- blanks
 blanks_at : (b : ℕ) (bs : List ℕ) (at : ℕ)
     → blanks_from (b ∷ bs) at
-    ≡ elim (is_blank b) [ true ↦ blanks_from bs (at + 1) | false ↦ elim (eqb b hash) [ true ↦ comment_from bs (at + 1) | false ↦ At at ] ]
+    ≡ elim (is_blank b) [ true ↦ blanks_from bs (at + 1) | false ↦ elim (eqb b hash) [ true ↦ comment_from bs (at + 1) | false ↦ Some at ] ]
 unfolding blanks_from
 blanks_at b bs at = refl
 
