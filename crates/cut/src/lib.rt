@@ -80,18 +80,8 @@ pub fn skip_ws_t(text: &[u8], at: usize) -> Option<usize>
 pub fn split_at_scalar(d: &[u8], classes: &[u8; data::BYTE_COUNT]) -> usize
     ensures { result ≡ run_by classes.now d.now }
 {
-    let mut i = 0;
-    while i < d.len() {
-        let b = d[i] as usize;
-        if classes[b] != 0 {
-            if i == 0 {
-                return 1;
-            }
-            return i;
-        }
-        i += 1;
-    }
-    i
+    let boundary = d.iter().position(|&b| classes[b as usize] != 0);
+    boundary.unwrap_or(d.len()).max(1).min(d.len())
 }
 
 // The quoted run after an opening quote, or none where no quote closes it.
@@ -119,14 +109,7 @@ pub fn parse_quote_scalar(d: &[u8]) -> Option<QuotedRun>
 pub fn parse_variable(d: &[u8]) -> usize
     ensures { result ≡ bracket_run d.now }
 {
-    let mut i = 0;
-    while i < d.len() {
-        if d[i] == b']' {
-            return i;
-        }
-        i += 1;
-    }
-    i
+    d.iter().position(|&b| b == b']').unwrap_or(d.len())
 }
 
 // The place after the unquoted run that starts at a place.

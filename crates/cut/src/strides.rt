@@ -100,14 +100,10 @@ fn strides(n: usize) -> usize
 fn stop_tail(d: &[u8], at: usize) -> usize
     ensures { result ≡ stop_from is_boundary (drop at d.now) at }
 {
-    let mut i = at;
-    while i < d.len() {
-        if data::is_boundary(d[i]) {
-            return i;
-        }
-        i += 1;
+    match d.get(at..) {
+        Some(left) => at + left.iter().position(|&b| data::is_boundary(b)).unwrap_or(left.len()),
+        None => at,
     }
-    i
 }
 
 // The same, by strides. One without a mark is passed whole.
