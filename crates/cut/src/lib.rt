@@ -80,8 +80,12 @@ pub fn skip_ws_t(text: &[u8], at: usize) -> Option<usize>
 pub fn split_at_scalar(d: &[u8], classes: &[u8; data::BYTE_COUNT]) -> usize
     ensures { result ≡ run_by classes.now d.now }
 {
-    let boundary = d.iter().position(|&b| classes[b as usize] != 0);
-    boundary.unwrap_or(d.len()).max(1).min(d.len())
+    for (i, &b) in d.iter().enumerate() {
+        if classes[b as usize] != 0 {
+            return i.max(1);
+        }
+    }
+    d.len()
 }
 
 // The quoted run after an opening quote, or none where no quote closes it.

@@ -101,7 +101,11 @@ fn stop_tail(d: &[u8], at: usize) -> usize
     ensures { result ≡ stop_from is_boundary (drop at d.now) at }
 {
     match d.get(at..) {
-        Some(left) => at + left.iter().position(|&b| data::is_boundary(b)).unwrap_or(left.len()),
+        Some(left) => at
+            + left
+                .iter()
+                .position(|&b| data::is_boundary(b))
+                .unwrap_or(left.len()),
         None => at,
     }
 }

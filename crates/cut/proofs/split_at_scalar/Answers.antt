@@ -1,21 +1,39 @@
--- `cut::split_at_scalar` meets its contract: the library's search ends where the scan does, and the run has a byte where there is one.
+-- `cut::split_at_scalar` meets its contract: the invariant says what is left, that the scan of the whole part ends where the scan from `i` on does.
 -- Assumes nothing.
-use mathlib.Core.Path.{◌∙◌, ap}
-use Prim.Native.Nat.{ℕ, min}
-use lib.ListN.{length}
-use Rattle.std.proofs.Common.{rules, tests}
-use Rattle.std.proofs.lemmas.Iterator.{YieldsList-from_slice}
-use Rattle.std.proofs.lemmas.Iterator.Search.{position_from_yields_List}
+use mathlib.Core.Bool.{true, false, not}
+use mathlib.Core.List.{List}
+use mathlib.Core.Path.{◌≡◌, refl, sym, ◌∙◌, ap}
+use Prim.Native.Nat.{ℕ}
+use native.Mathlib.Omega.{arith}
+use borrow.Author.Tests.{eq-eqb, ne_eqb}
+use lib.ListN.{get_or}
 use Rattle.cut.specs.Runs.{classed, run_by}
-use Rattle.cut.proofs.Positions.{stop-found, run-clamped}
+use Rattle.cut.proofs.Positions.{run-clamped}
+use Rattle.cut.proofs.Runs.{stop_past, stop_here, stop_later}
 use Rattle.cut.proofs.split_at_scalar.Goals as goal
 
+classed-yes : (table : List ℕ) (b : ℕ) → (get_or table b 0 ≡ 0 → ⊥) → classed table b ≡ true
+unfolding classed
+classed-yes table b n = ap not (ne_eqb (get_or table b 0) 0 n)
+
+classed-no : (table : List ℕ) (b : ℕ) → get_or table b 0 ≡ 0 → classed table b ≡ false
+unfolding classed
+classed-no table b e = ap not (eq-eqb (get_or table b 0) 0 e)
+
+pub loop-i-init : goal.loop-i-init
+loop-i-init c = refl
+
+pub returns-then-classes-b-ne0 : goal.returns-then-classes-b-ne0
+unfolding run_by
+returns-then-classes-b-ne0 c =
+    let here = stop_here (classed _) _ _ c.loop-i-test.true (classed-yes _ _ c.if-classes-b-ne0.true) in
+    omega (arith, c.max.ensures, c.loop-i-test.true, run-clamped (classed _) _ _ (sym (c.loop-i.invariant ∙ here)))
+
+pub loop-i-preserved : goal.loop-i-preserved
+loop-i-preserved c = c.loop-i.invariant ∙ stop_later (classed _) _ _ c.loop-i-test.true (classed-no _ _ c.if-classes-b-ne0.false)
+
 pub returns : goal.returns
-unfolding run_by classed
+unfolding run_by
 returns c =
-    let d = c.args.d.now in
-    let stops = classed c.args.classes.now in
-    let found = position_from_yields_List stops _ _ c.position-boundary.result c.position-boundary.ensures.ran
-    (YieldsList-from_slice d c.iter.ensures.rest) (λ x b q k. search (rules, tests)) in
-    let ends = c.unwrap_or.ensures ∙ stop-found stops d c.position-boundary.result found in
-    c.min.ensures ∙ ap (λ (n : ℕ). min n (length d)) c.max.ensures ∙ run-clamped stops d _ ends
+    let past = stop_past (classed _) _ _ c.loop-i-test.false in
+    omega (arith, c.loop-i.auto.i-end, c.loop-i-test.false, run-clamped (classed _) _ _ (sym (c.loop-i.invariant ∙ past)))
