@@ -12,14 +12,13 @@ use lib.Seq.{get_or-take, length-take-le}
 use Rattle.data.proofs.Cases.{by_bool}
 use Rattle.data.specs.Bytes.{hash, line_feed}
 use Rattle.cut.specs.Blanks.{is_blank, blanks_from, comment_from, skip_ws}
-use Rattle.cut.specs.declared.Skipped.{Skipped}
-use Rattle.cut.specs.declared.Skipped.TheVariants.{At, End}
+use Rattle.std.specs.Prelude.{Option, Some, None}
 use Rattle.cut.proofs.Places.{drop_here, by_place}
 
 -- a byte outside a comment, and inside one
 blanks_at : (b : ℕ) (bs : List ℕ) (at : ℕ)
     → blanks_from (b ∷ bs) at
-    ≡ elim (is_blank b) [ true ↦ blanks_from bs (at + 1) | false ↦ elim (eqb b hash) [ true ↦ comment_from bs (at + 1) | false ↦ At at ] ]
+    ≡ elim (is_blank b) [ true ↦ blanks_from bs (at + 1) | false ↦ elim (eqb b hash) [ true ↦ comment_from bs (at + 1) | false ↦ Some at ] ]
 unfolding blanks_from
 blanks_at b bs at = refl
 
@@ -29,11 +28,11 @@ unfolding comment_from
 comment-at b bs at = refl
 
 -- skipping blanks from inside a comment
-unfoldable pub skip_comment : List ℕ → ℕ → Skipped
+unfoldable pub skip_comment : List ℕ → ℕ → Option ℕ
 skip_comment text at = comment_from (drop at text) at
 
 -- past the last byte there is nothing to find
-pub skip-past : (text : List ℕ) (at : ℕ) → length text ≤ at → skip_ws text at ≡ End
+pub skip-past : (text : List ℕ) (at : ℕ) → length text ≤ at → skip_ws text at ≡ None
 unfolding skip_ws blanks_from
 skip-past text at h = rw (skip_ws, drop_of_length-le text h)
 
@@ -50,12 +49,12 @@ skip-hash text at h f e = rw (skip_ws, drop_here text at h, blanks_at, f, eq-eqb
 
 -- any other byte is where it lands
 pub skip-here : (text : List ℕ) (at : ℕ) → at < length text → is_blank (get_or text at 0) ≡ false → (get_or text at 0 ≡ hash → ⊥)
-    → skip_ws text at ≡ At at
+    → skip_ws text at ≡ Some at
 unfolding skip_ws
 skip-here text at h f n = rw (skip_ws, drop_here text at h, blanks_at, f, ne_eqb (get_or text at 0) hash n)
 
 -- a comment that meets the end of the text is the end
-pub comment-past : (text : List ℕ) (at : ℕ) → length text ≤ at → skip_comment text at ≡ End
+pub comment-past : (text : List ℕ) (at : ℕ) → length text ≤ at → skip_comment text at ≡ None
 unfolding skip_comment comment_from
 comment-past text at h = rw (skip_comment, drop_of_length-le text h)
 
@@ -78,9 +77,9 @@ pub record Landed (text : List ℕ) (at place : ℕ) : Type 0 where
   pub no_comment : get_or text place 0 ≡ hash → ⊥
 
 -- landed there, with nothing but blanks passed: the text cut off there has nothing to find from here on
-record Reached (text : List ℕ) (at place : ℕ) (cut_off : Skipped) : Type 0 where
+record Reached (text : List ℕ) (at place : ℕ) (cut_off : Option ℕ) : Type 0 where
   landed : Landed text at place
-  passed : cut_off ≡ End
+  passed : cut_off ≡ None
 
 -- a byte before the place stands in the text cut off there
 record Uncut (text : List ℕ) (at place : ℕ) : Type 0 where
@@ -93,7 +92,7 @@ uncut text at place l =
     record { below = rw (length-take-le place text (omega (arith, l.within))) h; byte = get_or-take place text at 0 h }
 
 -- one byte is passed before what is left reaches it
-reach_later : (text : List ℕ) (at place : ℕ) (now later : Skipped) → (Uncut text at place → now ≡ later)
+reach_later : (text : List ℕ) (at place : ℕ) (now later : Option ℕ) → (Uncut text at place → now ≡ later)
     → Reached text (at + 1) place later → Reached text at place now
 reach_later text at place now later step r =
     let l = r.landed in
@@ -112,16 +111,16 @@ reach_here text at place e within no_blank no_comment =
       passed = skip-past (take at text) at (omega (arith, length-take-le at text (omega arith)));
     }
 
-nowhere : {P : Type 0} (s : Skipped) (place : ℕ) → s ≡ End → s ≡ At place → P
+nowhere : {P : Type 0} (s : Option ℕ) (place : ℕ) → s ≡ None → s ≡ Some place → P
 nowhere s place gone found = let no : ◌≡◌ {A = ℕ} 0 1 = cc in absurd (omega arith)
 
-same_place : (s : Skipped) (at place : ℕ) → s ≡ At at → s ≡ At place → at ≡ place
+same_place : (s : Option ℕ) (at place : ℕ) → s ≡ Some at → s ≡ Some place → at ≡ place
 same_place s at place here found = cc
 
 -- by as many turns as there are bytes left, outside a comment and inside one
 reach : (text : List ℕ) (turns at place : ℕ) → length text ≤ at + turns
-    → (skip_ws text at ≡ At place → Reached text at place (skip_ws (take place text) at))
-    × (skip_comment text at ≡ At place → Reached text at place (skip_comment (take place text) at))
+    → (skip_ws text at ≡ Some place → Reached text at place (skip_ws (take place text) at))
+    × (skip_comment text at ≡ Some place → Reached text at place (skip_comment (take place text) at))
 reach text zero at place enough =
     (λ e. nowhere _ place (skip-past text at (omega arith)) e, λ e. nowhere _ place (comment-past text at (omega arith)) e)
 reach text (suc turns) at place enough =
@@ -148,13 +147,13 @@ reach text (suc turns) at place enough =
     (λ past. (λ e. nowhere _ place (skip-past text at past) e, λ e. nowhere _ place (comment-past text at past) e))
 
 -- skipping lands at a byte that is no blank
-pub skip_lands : (text : List ℕ) (at place : ℕ) → skip_ws text at ≡ At place → Landed text at place
+pub skip_lands : (text : List ℕ) (at place : ℕ) → skip_ws text at ≡ Some place → Landed text at place
 skip_lands text at place e = ((reach text (length text) at place (omega arith)).0 e).landed
 
 -- nothing but blanks lies between: the text cut off where it lands has nothing to find
-pub skip-passes : (text : List ℕ) (at place : ℕ) → skip_ws text at ≡ At place → skip_ws (take place text) at ≡ End
+pub skip-passes : (text : List ℕ) (at place : ℕ) → skip_ws text at ≡ Some place → skip_ws (take place text) at ≡ None
 skip-passes text at place e = ((reach text (length text) at place (omega arith)).0 e).passed
 
 -- a place that was landed on is landed on again
-pub skip-again : (text : List ℕ) (at place : ℕ) → skip_ws text at ≡ At place → skip_ws text place ≡ At place
+pub skip-again : (text : List ℕ) (at place : ℕ) → skip_ws text at ≡ Some place → skip_ws text place ≡ Some place
 skip-again text at place e = let l = skip_lands text at place e in skip-here text place l.within l.no_blank l.no_comment

@@ -8,3 +8,4 @@ pub mod Lanes
 pub mod Zeros
 pub mod Marks
 pub mod Scans
+pub mod Positions

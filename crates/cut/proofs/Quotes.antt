@@ -12,9 +12,10 @@ use lib.ListN.{length, get_or, drop, drop_of_length-le}
 use Rattle.data.proofs.Cases.{by_bool, both}
 use Rattle.data.specs.Bytes.{quote, backslash}
 use Rattle.cut.specs.Marks.{turns_quote}
-use Rattle.cut.specs.Quotes.{quoted_from, skipped_from, quoted_run, closes_soon, Backslash, Tells}
-use Rattle.cut.specs.declared.Quoted.{Quoted}
-use Rattle.cut.specs.declared.Quoted.TheVariants.{Closed, Unclosed}
+use Rattle.cut.specs.Quotes.{quoted_from, skipped_from, quoted_run, closed, closes_soon, Backslash, Tells}
+use Rattle.std.specs.Prelude.{Option, Some, None}
+use Rattle.std.proofs.lemmas.Option.{same_Some}
+use Rattle.cut.specs.declared.QuotedRun.{QuotedRun}
 use Rattle.cut.proofs.Marks.{no-turn}
 use Rattle.cut.proofs.Places.{drop_here, by_place}
 
@@ -28,12 +29,12 @@ skipped d n =
 
 module _ (d : List ℕ) (n : ℕ) (e : Bool) where
   -- past the last byte nothing closes it
-  pub quoted-past : length d ≤ n → quoted_from (drop n d) n e ≡ Unclosed
+  pub quoted-past : length d ≤ n → quoted_from (drop n d) n e ≡ None
   unfolding quoted_from
   quoted-past h = rw (drop_of_length-le d h)
 
   -- a quote closes it
-  pub quoted-closes : n < length d → get_or d n 0 ≡ quote → quoted_from (drop n d) n e ≡ Closed n e
+  pub quoted-closes : n < length d → get_or d n 0 ≡ quote → quoted_from (drop n d) n e ≡ closed n e
   unfolding quoted_from
   quoted-closes h q = rw (drop_here d n h) (rw (quoted_from, eq-eqb (get_or d n 0) quote q))
 
@@ -103,16 +104,20 @@ closing-here d n e within q =
     before (inl t) = t
     before (inr s) = absurd (omega (arith, s.from, s.before))
 
+-- one run is closed at one place, with one flag
+same-closed : {n end : ℕ} {e escaped : Bool} → closed n e ≡ closed end escaped → (n ≡ end) × (e ≡ escaped)
+same-closed h = let r = same_Some _ _ h in (ap (λ (x : QuotedRun). x.length) r, ap (λ (x : QuotedRun). x.escaped) r)
+
 -- by as many turns as there are bytes left
 closing : (d : List ℕ) (turns n : ℕ) (e : Bool) (end : ℕ) (escaped : Bool) → length d ≤ n + turns
-    → quoted_from (drop n d) n e ≡ Closed end escaped → Closing d n e end escaped
+    → quoted_from (drop n d) n e ≡ closed end escaped → Closing d n e end escaped
 closing d zero n e end escaped enough q =
     let past = quoted-past d n e (omega arith) in let no : ◌≡◌ {A = ℕ} 0 1 = cc in absurd (omega arith)
 closing d (suc turns) n e end escaped enough q =
     by_place d n
     (λ within. by_bool (eqb (get_or d n 0) quote)
-    (λ t. let here = quoted-closes d n e within (eqb-true _ _ t) in let same : n ≡ end = cc in let told : e ≡ escaped = cc in
-    rw (← same, ← told) (closing-here d n e within (eqb-true _ _ t)))
+    (λ t. let here = quoted-closes d n e within (eqb-true _ _ t) in let same = same-closed (sym here ∙ q) in
+    rw (← same.0, ← same.1) (closing-here d n e within (eqb-true _ _ t)))
     (λ not-quote. by_bool (eqb (get_or d n 0) backslash)
     (λ b. closing-escaped d n e end escaped (eqb-true _ _ b)
     (closing d turns (n + 2) true end escaped (omega arith) (sym (quoted_escapes d n e within (eqb-true _ _ b)) ∙ q)))
@@ -129,7 +134,7 @@ pub record ClosedRun (bytes : List ℕ) (start end : ℕ) (escaped : Bool) : Typ
   pub tells : Tells bytes start end escaped
 
 -- as the quoted run of a part is
-pub quoted_run-closes : (d : List ℕ) (end : ℕ) (escaped : Bool) → quoted_run d ≡ Closed end escaped → ClosedRun d 0 end escaped
+pub quoted_run-closes : (d : List ℕ) (end : ℕ) (escaped : Bool) → quoted_run d ≡ closed end escaped → ClosedRun d 0 end escaped
 unfolding quoted_run
 quoted_run-closes d end escaped q =
     let c = closing d (length d) 0 false end escaped (omega arith) q in
@@ -147,9 +152,9 @@ quoted_run-closes d end escaped q =
 -- ---- a run that begins further on
 
 -- what is read of later bytes, counted from m on, with a backslash before them or none
-abbrev pub moved : ℕ → Bool → Quoted → Quoted
-moved m e (Closed n f) = Closed (m + n) (e || f)
-moved m e Unclosed = Unclosed
+abbrev pub moved : ℕ → Bool → Option QuotedRun → Option QuotedRun
+moved m e (Some run) = closed (m + run.length) (e || run.escaped)
+moved m e None = None
 
 or_true : (e : Bool) → (e || true) ≡ true
 or_true true = refl
@@ -207,7 +212,7 @@ soon_quote (b ∷ []) h q = absurd (omega arith)
 soon_quote (b ∷ next ∷ bs) h q = rw (eq-eqb next quote q)
 
 -- then the run is closed at its second byte
-pub soon_run : (d : List ℕ) → closes_soon d ≡ true → quoted_run d ≡ Closed 1 false
+pub soon_run : (d : List ℕ) → closes_soon d ≡ true → quoted_run d ≡ closed 1 false
 unfolding closes_soon quoted_run
 soon_run [] e = absurd (false≢true e)
 soon_run (b ∷ []) e = absurd (false≢true e)

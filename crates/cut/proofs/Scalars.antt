@@ -12,13 +12,13 @@ use lib.Seq.{get_or-drop}
 use Rattle.data.proofs.Cases.{by_bool}
 use Rattle.data.specs.Bytes.{quote, at_sign, bracket_open}
 use Rattle.data.specs.Classes.{is_boundary}
-use Rattle.cut.specs.Quotes.{quoted_run, Backslash}
+use Rattle.cut.specs.Quotes.{quoted_run, closed, Backslash}
 use Rattle.cut.specs.Runs.{run_end_of}
 use Rattle.cut.specs.Scalars.{unquoted, quoted, closes_bracket, bracket_run, opens_variable, variable_cut, cut_of, scalar_cut}
 use Rattle.cut.specs.declared.Cut.{Cut}
-use Rattle.cut.specs.declared.Cut.TheVariants.{Unquoted, Quoted, End}
-use Rattle.cut.specs.declared.Quoted as Quotes
-use Rattle.cut.specs.declared.Quoted.TheVariants.{Closed, Unclosed}
+use Rattle.std.specs.Prelude.{Option, Some, None}
+use Rattle.cut.specs.declared.Cut.TheVariants.{Unquoted, Quoted}
+use Rattle.cut.specs.declared.QuotedRun.{QuotedRun}
 use Rattle.cut.proofs.Places.{later-part, by_place}
 use Rattle.cut.proofs.Quotes.{ClosedRun, quoted_run-closes}
 use Rattle.cut.proofs.Runs.{scanned, run_of-run}
@@ -46,7 +46,7 @@ opens-within text at e = by_place text (at + 1) (λ inside. omega arith) (λ pas
 
 module _ (stops : ℕ → Bool) (text : List ℕ) (at : ℕ) where
   -- past the end there is no scalar
-  pub cut-past : length text ≤ at → cut_of stops text at ≡ End
+  pub cut-past : length text ≤ at → cut_of stops text at ≡ None
   unfolding cut_of
   cut-past h = rw (cut_of, le-ltb at (length text) h)
 
@@ -77,17 +77,17 @@ pub variable_closed : (text : List ℕ) (at n : ℕ) → n ≡ bracket_run (drop
 unfolding variable_cut
 variable_closed text at n e h = rw (e, variable_cut, lt-ltb (at + 2 + bracket_run (drop (at + 2) text)) (length text) (rw e at h))
 
-pub variable_open : (text : List ℕ) (at n : ℕ) → n ≡ bracket_run (drop (at + 2) text) → length text ≤ at + 2 + n → variable_cut text at ≡ End
+pub variable_open : (text : List ℕ) (at n : ℕ) → n ≡ bracket_run (drop (at + 2) text) → length text ≤ at + 2 + n → variable_cut text at ≡ None
 unfolding variable_cut
 variable_open text at n e h = rw (variable_cut, ← e, le-ltb (at + 2 + n) (length text) h)
 
 -- what the quoted run of a slice's later part says of the text
-pub quoted-part : (text : List ℕ) (start : ℕ) (q : Quotes.Quoted) → q ≡ quoted_run (take (length text - start) (drop start text))
+pub quoted-part : (text : List ℕ) (start : ℕ) (q : Option QuotedRun) → q ≡ quoted_run (take (length text - start) (drop start text))
     → q ≡ quoted_run (drop start text)
 quoted-part text start q e = e ∙ ap quoted_run (later-part text start)
 
 -- a closed run of a slice's later part, said of the text
-pub quoted-part-closes : (text : List ℕ) (start n : ℕ) (escaped : Bool) → start ≤ length text → quoted_run (drop start text) ≡ Closed n escaped
+pub quoted-part-closes : (text : List ℕ) (start n : ℕ) (escaped : Bool) → start ≤ length text → quoted_run (drop start text) ≡ closed n escaped
     → ClosedRun text start (start + n) escaped
 quoted-part-closes text start n escaped h q =
     let c = quoted_run-closes (drop start text) n escaped q in
@@ -136,17 +136,17 @@ pub record QuotedView (text : List ℕ) (at start end rest : ℕ) (escaped : Boo
   pub goes_on : rest ≡ end + 1
 
 -- what a cut has to hold to, by its kind
-View : List ℕ → ℕ → Cut → Type 0
-View text at (Unquoted start end rest) = UnquotedView text at start end rest
-View text at (Quoted start end rest escaped) = QuotedView text at start end rest escaped
-View text at End = Unit {0}
+View : List ℕ → ℕ → Option Cut → Type 0
+View text at (Some (Unquoted start end rest)) = UnquotedView text at start end rest
+View text at (Some (Quoted start end rest escaped)) = QuotedView text at start end rest escaped
+View text at None = Unit {0}
 
-quoted-view : (text : List ℕ) (at : ℕ) (q : Quotes.Quoted) → at + 1 ≤ length text → quoted_run (drop (at + 1) text) ≡ q
+quoted-view : (text : List ℕ) (at : ℕ) (q : Option QuotedRun) → at + 1 ≤ length text → quoted_run (drop (at + 1) text) ≡ q
     → View text at (quoted (at + 1) q)
 unfolding View
-quoted-view text at (Closed n escaped) h e =
-    record { starts = refl; run = quoted-part-closes text (at + 1) n escaped h e; goes_on = refl }
-quoted-view text at Unclosed h e = tt
+quoted-view text at (Some run) h e =
+    record { starts = refl; run = quoted-part-closes text (at + 1) run.length run.escaped h e; goes_on = refl }
+quoted-view text at None h e = tt
 
 variable_view : (text : List ℕ) (at : ℕ) → View text at (variable_cut text at)
 unfolding View
@@ -170,17 +170,17 @@ view stops text at =
     (λ past. rw (cut-past stops text at past) tt)
 
 -- the bounds of an unquoted scalar, `@[` through its `]` among them
-pub unquoted_bounds : (text : List ℕ) (at start end rest : ℕ) → scalar_cut text at ≡ Unquoted start end rest → UnquotedView text at start end rest
+pub unquoted_bounds : (text : List ℕ) (at start end rest : ℕ) → scalar_cut text at ≡ Some (Unquoted start end rest) → UnquotedView text at start end rest
 unfolding View scalar_cut
 unquoted_bounds text at start end rest e = subst (View text at) e (view is_boundary text at)
 
 -- the bounds of a quoted scalar
-pub quoted_bounds : (text : List ℕ) (at start end rest : ℕ) (escaped : Bool) → scalar_cut text at ≡ Quoted start end rest escaped
+pub quoted_bounds : (text : List ℕ) (at start end rest : ℕ) (escaped : Bool) → scalar_cut text at ≡ Some (Quoted start end rest escaped)
     → QuotedView text at start end rest escaped
 unfolding View scalar_cut
 quoted_bounds text at start end rest escaped e = subst (View text at) e (view is_boundary text at)
 
 -- past the end there is no scalar
-pub scalar_cut-past : (text : List ℕ) (at : ℕ) → length text ≤ at → scalar_cut text at ≡ End
+pub scalar_cut-past : (text : List ℕ) (at : ℕ) → length text ≤ at → scalar_cut text at ≡ None
 unfolding scalar_cut
 scalar_cut-past text at h = cut-past is_boundary text at h

@@ -8,9 +8,8 @@ use native.Mathlib.Omega.{arith}
 use lib.ListN.{length, get_or, drop}
 use Rattle.data.specs.Bytes.{quote, backslash}
 use Rattle.cut.specs.Marks.{turns_quote, Calm}
-use Rattle.cut.specs.Quotes.{quoted_from}
+use Rattle.cut.specs.Quotes.{quoted_from, closed}
 use Rattle.cut.specs.Runs.{stop_from}
-use Rattle.cut.specs.declared.Quoted.TheVariants.{Closed}
 use Rattle.cut.proofs.Marks.{no-turn}
 use Rattle.cut.proofs.Quotes.{quoted-closes, quoted_escapes, quoted-goes_on}
 use Rattle.cut.proofs.Runs.{stop_here, stop_later}
@@ -42,7 +41,7 @@ module _ (d : List ℕ) (i n : ℕ) (e : Bool) (calm : Calm turns_quote d i n) w
       passed turns_quote d (λ k. quoted_from (drop k d) k e)
       (λ k w t. let p = no-turn (get_or d k 0) t in quoted-goes_on d k e w p.0 p.1) i n h calm.none
 
-  pub quote-closes : i + n < length d → get_or d (i + n) 0 ≡ quote → quoted_from (drop i d) i e ≡ Closed (i + n) e
+  pub quote-closes : i + n < length d → get_or d (i + n) 0 ≡ quote → quoted_from (drop i d) i e ≡ closed (i + n) e
   quote-closes h q = quote-passes (omega arith) ∙ quoted-closes d (i + n) e h q
 
   pub quote_escapes : i + n < length d → get_or d (i + n) 0 ≡ backslash

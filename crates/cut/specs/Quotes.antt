@@ -1,27 +1,30 @@
 -- A quoted run ends at the first `"` not skipped by a backslash (which skips one byte); none is Eof (2), which the caller says.
 -- The quoted cut also says whether a backslash took part in it: whether one stands in its view, whatever follows that.
-use Rattle.std.specs.Prelude.{ℕ, ◌+◌, ◌≤◌, ◌<◌, ◌≡◌, Bool, true, false, not, ◌&&◌, List, [], ◌∷◌, ◌↔◌, eqb, get_or}
+use Rattle.std.specs.Prelude.{ℕ, ◌+◌, ◌≤◌, ◌<◌, ◌≡◌, Bool, true, false, not, ◌&&◌, List, [], ◌∷◌, Option, Some, None, ◌↔◌, eqb, get_or}
 use Rattle.data.specs.Bytes.{quote, backslash}
 use Rattle.cut.specs.Marks.{turns_quote}
-use Rattle.cut.specs.declared.Quoted.{Quoted}
-use Rattle.cut.specs.declared.Quoted.TheVariants.{Closed, Unclosed}
+use Rattle.cut.specs.declared.QuotedRun.{QuotedRun}
+
+-- a run that is closed, with how many bytes stand before its closing quote and whether a backslash is among them
+abbrev pub closed : ℕ → Bool → Option QuotedRun
+closed n escaped = Some (record { length = n; escaped = escaped })
 
 -- the run's end, of the bytes left after n of it, with a backslash among those or none: at a byte of the run, and at one that a backslash skips
 unfoldable mutual
-  pub quoted_from : List ℕ → ℕ → Bool → Quoted
-  quoted_from [] n escaped = Unclosed
+  pub quoted_from : List ℕ → ℕ → Bool → Option QuotedRun
+  quoted_from [] n escaped = None
   quoted_from (b ∷ bs) n escaped =
       elim (eqb b quote) [
-        | true ↦ Closed n escaped
+        | true ↦ closed n escaped
         | false ↦ elim (eqb b backslash) [ true ↦ skipped_from bs (n + 1) | false ↦ quoted_from bs (n + 1) escaped ]
       ]
 
-  pub skipped_from : List ℕ → ℕ → Quoted
-  skipped_from [] n = Unclosed
+  pub skipped_from : List ℕ → ℕ → Option QuotedRun
+  skipped_from [] n = None
   skipped_from (b ∷ bs) n = quoted_from bs (n + 1) true
 
 -- how many of the bytes after an opening quote stand before the one that closes it, and whether a backslash took part
-unfoldable pub quoted_run : List ℕ → Quoted
+unfoldable pub quoted_run : List ℕ → Option QuotedRun
 quoted_run bytes = quoted_from bytes 0 false
 
 -- whether the first of the bytes after an opening quote is all of its run: the second is a quote, and the first neither a quote nor a backslash

@@ -12,22 +12,13 @@ ghost use Rattle.cut.specs.Scalars.{quoted, bracket_run, opens_variable, variabl
 
 pub mod strides;
 
-// What skipping blanks finds.
+// A quoted run that is closed.
 #[derive(Clone, Copy)]
-pub enum Skipped {
-    // The place of the next byte that is no blank.
-    At(usize),
-    // Nothing but blanks.
-    End,
-}
-
-// What reading a quoted run finds.
-#[derive(Clone, Copy)]
-pub enum Quoted {
-    // How many bytes stand before the closing quote, and whether a backslash is among them.
-    Closed { length: usize, escaped: bool },
-    // No quote closes it.
-    Unclosed,
+pub struct QuotedRun {
+    // How many bytes stand before the closing quote.
+    pub length: usize,
+    // Whether a backslash is among them.
+    pub escaped: bool,
 }
 
 // A scalar: its view from start to end, and the place where the text goes on.
@@ -45,8 +36,6 @@ pub enum Cut {
         rest: usize,
         escaped: bool,
     },
-    // The text ends before the scalar does.
-    End,
 }
 
 // Whether a byte is a blank by itself. All five tests are made at once, with no branch between them.
@@ -56,8 +45,9 @@ fn is_blank(b: u8) -> bool
     (b == b' ') | (b == b'\t') | (b == b'\n') | (b == b'\r') | (b == b';')
 }
 
-// The next byte that is no blank, from a place on. A comment is left at its LF; where the text ends first, so do the blanks.
-pub fn skip_ws_t(text: &[u8], at: usize) -> Skipped
+// The place of the next byte that is no blank, from a place on, or none. A comment is left at its LF; where the text ends first, so do the
+// blanks.
+pub fn skip_ws_t(text: &[u8], at: usize) -> Option<usize>
     ensures { result ≡ skip_ws text.now at }
 {
     let mut i = at;
@@ -68,7 +58,7 @@ pub fn skip_ws_t(text: &[u8], at: usize) -> Skipped
             continue 'blanks;
         }
         if b != b'#' {
-            return Skipped::At(i);
+            return Some(i);
         }
         i += 1;
         'comment: loop {
@@ -82,7 +72,7 @@ pub fn skip_ws_t(text: &[u8], at: usize) -> Skipped
             }
         }
     }
-    Skipped::End
+    None
 }
 
 // How long the unquoted run at the head of a part is. A boundary byte at the head is a run of its own, as in `==bar`, so that every cut
@@ -90,22 +80,16 @@ pub fn skip_ws_t(text: &[u8], at: usize) -> Skipped
 pub fn split_at_scalar(d: &[u8], classes: &[u8; data::BYTE_COUNT]) -> usize
     ensures { result ≡ run_by classes.now d.now }
 {
-    let mut i = 0;
-    while i < d.len() {
-        let b = d[i] as usize;
-        if classes[b] != 0 {
-            if i == 0 {
-                return 1;
-            }
-            return i;
+    for (i, &b) in d.iter().enumerate() {
+        if classes[b as usize] != 0 {
+            return i.max(1);
         }
-        i += 1;
     }
-    i
+    d.len()
 }
 
-// How long the quoted run after an opening quote is, and whether a backslash takes part in it.
-pub fn parse_quote_scalar(d: &[u8]) -> Quoted
+// The quoted run after an opening quote, or none where no quote closes it.
+pub fn parse_quote_scalar(d: &[u8]) -> Option<QuotedRun>
     ensures { result ≡ quoted_run d.now }
 {
     let mut i = 0;
@@ -113,7 +97,7 @@ pub fn parse_quote_scalar(d: &[u8]) -> Quoted
     while i < d.len() {
         let b = d[i];
         if b == b'"' {
-            return Quoted::Closed { length: i, escaped };
+            return Some(QuotedRun { length: i, escaped });
         }
         if b == b'\\' {
             escaped = true;
@@ -122,21 +106,14 @@ pub fn parse_quote_scalar(d: &[u8]) -> Quoted
             i += 1;
         }
     }
-    Quoted::Unclosed
+    None
 }
 
 // How many bytes of an interpolated variable stand before its `]`: all that is left where there is none.
 pub fn parse_variable(d: &[u8]) -> usize
     ensures { result ≡ bracket_run d.now }
 {
-    let mut i = 0;
-    while i < d.len() {
-        if d[i] == b']' {
-            return i;
-        }
-        i += 1;
-    }
-    i
+    d.iter().position(|&b| b == b']').unwrap_or(d.len())
 }
 
 // The place after the unquoted run that starts at a place.
@@ -150,24 +127,20 @@ pub fn run_end(text: &[u8], at: usize) -> usize
     }
 }
 
-// The quoted run whose first byte after the opening quote is at a place.
-fn quoted_at(text: &[u8], start: usize) -> Cut
+// The quoted run whose first byte after the opening quote is at a place, or none where the text ends first.
+fn quoted_at(text: &[u8], start: usize) -> Option<Cut>
     requires { start ≤ length text.now }
     ensures { result ≡ quoted start (quoted_run (drop start text.now)) }
 {
-    match strides::quote_unguessed(&text[start..]) {
-        Quoted::Closed { length, escaped } => {
-            let end = start + length;
-            let rest = end + 1;
-            Cut::Quoted {
-                start,
-                end,
-                rest,
-                escaped,
-            }
-        }
-        Quoted::Unclosed => Cut::End,
-    }
+    let run = strides::quote_unguessed(&text[start..])?;
+    let end = start + run.length;
+    let rest = end + 1;
+    Some(Cut::Quoted {
+        start,
+        end,
+        rest,
+        escaped: run.escaped,
+    })
 }
 
 // Whether an interpolated variable, `@[`, starts at a place.
@@ -186,8 +159,8 @@ fn opens_variable(text: &[u8], at: usize) -> bool
     }
 }
 
-// The interpolated variable at a place. Its `]` stays in the view, and any byte may stand before it.
-fn variable_at(text: &[u8], at: usize) -> Cut
+// The interpolated variable at a place, or none where the text ends first. Its `]` stays in the view, and any byte may stand before it.
+fn variable_at(text: &[u8], at: usize) -> Option<Cut>
     requires { at + 2 ≤ length text.now }
     ensures { result ≡ variable_cut text.now at }
 {
@@ -195,22 +168,22 @@ fn variable_at(text: &[u8], at: usize) -> Cut
     let last = inner + parse_variable(&text[inner..]);
     if last < text.len() {
         let end = last + 1;
-        Cut::Unquoted {
+        Some(Cut::Unquoted {
             start: at,
             end,
             rest: end,
-        }
+        })
     } else {
-        Cut::End
+        None
     }
 }
 
-// The scalar that starts at a place: its first byte says which kind of run it is.
-pub fn scalar_at(text: &[u8], at: usize) -> Cut
+// The scalar that starts at a place, or none where the text ends first: its first byte says which kind of run it is.
+pub fn scalar_at(text: &[u8], at: usize) -> Option<Cut>
     ensures { result ≡ scalar_cut text.now at }
 {
     if at >= text.len() {
-        return Cut::End;
+        return None;
     }
     if text[at] == b'"' {
         return quoted_at(text, at + 1);
@@ -219,9 +192,9 @@ pub fn scalar_at(text: &[u8], at: usize) -> Cut
         return variable_at(text, at);
     }
     let end = run_end(text, at);
-    Cut::Unquoted {
+    Some(Cut::Unquoted {
         start: at,
         end,
         rest: end,
-    }
+    })
 }

@@ -11,7 +11,7 @@ ghost use Rattle.cut.specs.Marks.{may_end, may_close, word_size, stride, all_unm
 ghost use Rattle.cut.specs.Quotes.{quoted_from, quoted_run, closes_soon};
 ghost use Rattle.cut.specs.Runs.{stop_from, unquoted_run};
 
-use crate::Quoted;
+use crate::QuotedRun;
 
 // How many bytes a word has, and a step of two words.
 const WORD: usize = 8;
@@ -100,14 +100,14 @@ fn strides(n: usize) -> usize
 fn stop_tail(d: &[u8], at: usize) -> usize
     ensures { result ≡ stop_from is_boundary (drop at d.now) at }
 {
-    let mut i = at;
-    while i < d.len() {
-        if data::is_boundary(d[i]) {
-            return i;
-        }
-        i += 1;
+    match d.get(at..) {
+        Some(left) => at
+            + left
+                .iter()
+                .position(|&b| data::is_boundary(b))
+                .unwrap_or(left.len()),
+        None => at,
     }
-    i
 }
 
 // The same, by strides. One without a mark is passed whole.
@@ -201,24 +201,22 @@ pub fn split_at_scalar(d: &[u8]) -> usize
 
 // The quoted run from a place on, with a backslash before it or none, by the plain cut of what is left. A backslash may have skipped past
 // the end, where nothing closes the run.
-fn quote_tail(d: &[u8], at: usize, before: bool) -> Quoted
+fn quote_tail(d: &[u8], at: usize, before: bool) -> Option<QuotedRun>
     ensures { result ≡ quoted_from (drop at d.now) at before }
 {
     if d.len() < at {
-        return Quoted::Unclosed;
+        return None;
     }
-    match crate::parse_quote_scalar(&d[at..]) {
-        Quoted::Closed { length, escaped } => Quoted::Closed {
-            length: at + length,
-            escaped: before | escaped,
-        },
-        Quoted::Unclosed => Quoted::Unclosed,
-    }
+    let left = crate::parse_quote_scalar(&d[at..])?;
+    Some(QuotedRun {
+        length: at + left.length,
+        escaped: before | left.escaped,
+    })
 }
 
 // How long the quoted run after an opening quote is, and whether a backslash takes part in it, for runs of all lengths one after the other.
 // A stride without a mark is passed whole.
-pub(crate) fn quote_unguessed(d: &[u8]) -> Quoted
+pub(crate) fn quote_unguessed(d: &[u8]) -> Option<QuotedRun>
     ensures { result ≡ quoted_run d.now }
 {
     let mut i = 0;
@@ -234,7 +232,7 @@ pub(crate) fn quote_unguessed(d: &[u8]) -> Quoted
             i += n;
             let b = d[i];
             if b == b'"' {
-                return Quoted::Closed { length: i, escaped };
+                return Some(QuotedRun { length: i, escaped });
             }
             i += 1;
             if b == b'\\' {
@@ -262,15 +260,15 @@ fn closes_soon(d: &[u8]) -> bool
 
 // How long the quoted run after an opening quote is, and whether a backslash takes part in it. Where a stride can be read, a run of one byte
 // is asked for first.
-pub fn parse_quote_scalar(d: &[u8]) -> Quoted
+pub fn parse_quote_scalar(d: &[u8]) -> Option<QuotedRun>
     ensures { result ≡ quoted_run d.now }
 {
     if STRIDE < d.len() {
         if closes_soon(d) {
-            return Quoted::Closed {
+            return Some(QuotedRun {
                 length: 1,
                 escaped: false,
-            };
+            });
         }
     }
     quote_unguessed(d)

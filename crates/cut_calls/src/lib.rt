@@ -6,15 +6,15 @@ ghost use Rattle.cut.specs.Quotes.{quoted_run};
 ghost use Rattle.cut.specs.Runs.{run_by, unquoted_run};
 ghost use Rattle.cut_calls.specs.Lengths.{quote_length};
 
-use cut::{Quoted, strides};
+use cut::{QuotedRun, strides};
 
 // How many of so many bytes stand before the closing quote; all where none closes.
-fn quote_length(all: usize, found: Quoted) -> usize
+fn quote_length(all: usize, found: Option<QuotedRun>) -> usize
     ensures { result ≡ quote_length all found }
 {
     match found {
-        Quoted::Closed { length, .. } => length,
-        Quoted::Unclosed => all,
+        Some(run) => run.length,
+        None => all,
     }
 }
 

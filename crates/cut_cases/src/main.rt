@@ -8,7 +8,7 @@
 
 ghost use Rattle.std.specs.Prelude.{◌≡◌, ◌≤◌, length};
 
-use cut::{Cut, Quoted, Skipped};
+use cut::{Cut, QuotedRun};
 use input::read_full;
 use std::io;
 
@@ -95,11 +95,11 @@ fn say_view(rt: &impl Print, start: usize, end: usize, rest: usize) -> io::Resul
 // What stands behind blanks and comments.
 fn say_blanks(rt: &impl Print, text: &[u8], place: usize) -> io::Result<()> {
     match cut::skip_ws_t(text, place) {
-        Skipped::At(i) => {
+        Some(i) => {
             say(rt, b" at")?;
             say_number(rt, i)
         }
-        Skipped::End => say(rt, b" end"),
+        None => say(rt, b" end"),
     }
 }
 
@@ -112,35 +112,35 @@ fn say_escaped(rt: &impl Print, escaped: bool) -> io::Result<()> {
 }
 
 // Where a quoted run closes.
-fn say_quoted(rt: &impl Print, run: Quoted) -> io::Result<()> {
+fn say_quoted(rt: &impl Print, run: Option<QuotedRun>) -> io::Result<()> {
     match run {
-        Quoted::Closed { length, escaped } => {
+        Some(QuotedRun { length, escaped }) => {
             say(rt, b" closed")?;
             say_number(rt, length)?;
             say_escaped(rt, escaped)
         }
-        Quoted::Unclosed => say(rt, b" unclosed"),
+        None => say(rt, b" unclosed"),
     }
 }
 
 // The scalar at a place.
 fn say_scalar(rt: &impl Print, text: &[u8], place: usize) -> io::Result<()> {
     match cut::scalar_at(text, place) {
-        Cut::Unquoted { start, end, rest } => {
+        Some(Cut::Unquoted { start, end, rest }) => {
             say(rt, b" unquoted")?;
             say_view(rt, start, end, rest)
         }
-        Cut::Quoted {
+        Some(Cut::Quoted {
             start,
             end,
             rest,
             escaped,
-        } => {
+        }) => {
             say(rt, b" quoted")?;
             say_view(rt, start, end, rest)?;
             say_escaped(rt, escaped)
         }
-        Cut::End => say(rt, b" end"),
+        None => say(rt, b" end"),
     }
 }
 
@@ -163,18 +163,10 @@ fn say_both_runs(rt: &impl Print, text: &[u8], classes: &[u8; data::BYTE_COUNT])
 }
 
 // Whether a quoted run closes behind so many bytes, with an escape or without.
-fn closes(run: Quoted, wanted: usize, with_escape: bool) -> bool {
+fn closes(run: Option<QuotedRun>, wanted: usize, with_escape: bool) -> bool {
     match run {
-        Quoted::Closed { length, escaped } => (length == wanted) & (escaped == with_escape),
-        Quoted::Unclosed => false,
-    }
-}
-
-// Whether nothing closes a quoted run.
-fn is_open(run: Quoted) -> bool {
-    match run {
-        Quoted::Closed { .. } => false,
-        Quoted::Unclosed => true,
+        Some(QuotedRun { length, escaped }) => (length == wanted) & (escaped == with_escape),
+        None => false,
     }
 }
 
@@ -200,16 +192,16 @@ fn last_place(n: usize) -> usize {
 }
 
 // Whether a quoted run is what the scalar of a text is, with the opening quote before it.
-fn is_scalar(run: Quoted, text: &[u8]) -> bool {
+fn is_scalar(run: Option<QuotedRun>, text: &[u8]) -> bool {
     if ROOM <= text.len() {
         return false;
     }
     let mut room = [b'"'; ROOM];
     lay(&mut room, 1, text);
     match cut::scalar_at(&room[..text.len() + 1], 0) {
-        Cut::Quoted { end, escaped, .. } => closes(run, last_place(end), escaped),
-        Cut::Unquoted { .. } => false,
-        Cut::End => is_open(run),
+        Some(Cut::Quoted { end, escaped, .. }) => closes(run, last_place(end), escaped),
+        Some(Cut::Unquoted { .. }) => false,
+        None => run.is_none(),
     }
 }
 
@@ -219,16 +211,16 @@ fn say_both_quoted(rt: &impl Print, text: &[u8]) -> io::Result<()> {
     let plain = cut::parse_quote_scalar(text);
     let fast = cut::strides::parse_quote_scalar(text);
     match fast {
-        Quoted::Closed { length, escaped } => {
+        Some(QuotedRun { length, escaped }) => {
             say_number(rt, length)?;
             if escaped {
                 say(rt, b"e")?;
             }
             say_alike(rt, closes(plain, length, escaped) & is_scalar(fast, text))
         }
-        Quoted::Unclosed => {
+        None => {
             say(rt, b" -")?;
-            say_alike(rt, is_open(plain) & is_scalar(fast, text))
+            say_alike(rt, plain.is_none() & is_scalar(fast, text))
         }
     }
 }

@@ -4,11 +4,11 @@ use mathlib.Core.Path.{◌≡◌, refl, sym, ◌∙◌, ap}
 use Prim.Native.Nat.{ℕ}
 use Rattle.operator.specs.declared.Operator.{Operator}
 use Rattle.operator.specs.declared.Operator.TheVariants.{LessThan, LessThanEqual, GreaterThan, GreaterThanEqual, NotEqual, Exact, Equal, Exists}
-use Rattle.operator.specs.declared.Numbered.TheVariants as Numbered
+use Rattle.std.specs.Prelude.{Some}
 use Rattle.operator.specs.Operators.{number_of, numbered}
 
 -- every operator stands for itself
-pub own_number : (o : Operator) → numbered (number_of o) ≡ Numbered.Is o
+pub own_number : (o : Operator) → numbered (number_of o) ≡ Some o
 unfolding numbered
 own_number LessThan = refl
 own_number LessThanEqual = refl
@@ -19,5 +19,5 @@ own_number Exact = refl
 own_number Equal = refl
 own_number Exists = refl
 
-pub number-named : (n : ℕ) (o : Operator) → n ≡ number_of o → Numbered.Is o ≡ numbered n
+pub number-named : (n : ℕ) (o : Operator) → n ≡ number_of o → Some o ≡ numbered n
 number-named n o e = sym (ap numbered e ∙ own_number o)

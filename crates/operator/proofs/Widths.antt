@@ -9,16 +9,16 @@ use Rattle.data.proofs.Cases.{by_bool}
 use Rattle.data.specs.Bytes.{equals}
 use Rattle.operator.specs.declared.Operator.{Operator}
 use Rattle.operator.specs.declared.Sighted.{Sighted}
-use Rattle.operator.specs.declared.Sighted.TheVariants.{Sign, Nothing}
-use Rattle.operator.specs.Operators.{Line, line, line_tells, lines_tell, decision, sighted}
+use Rattle.std.specs.Prelude.{Option, Some, None}
+use Rattle.operator.specs.Operators.{Line, line, line_tells, lines_tell, decision, sign, sighted}
 
 pub record Width (w : ℕ) : Type 0 where
   pub some : 1 ≤ w
   pub few : w ≤ 2
 
-abbrev Widths : Sighted → Type 0
-Widths (Sign operator w) = Width w
-Widths Nothing = Unit {0}
+abbrev Widths : Option Sighted → Type 0
+Widths (Some s) = Width s.width
+Widths None = Unit {0}
 
 abbrev AllWidths : List Line → Type 0
 AllWidths [] = Unit {0}
@@ -33,6 +33,6 @@ lines-width (line byte followed alone ∷ ls) first second hs =
     (λ f. rw (lines_tell, line_tells, e, f) hs.1))
     (λ e. rw (lines_tell, line_tells, e) (lines-width ls first second hs.2))
 
-pub sighted-width : (a b : ℕ) (operator : Operator) (w : ℕ) → sighted a b ≡ Sign operator w → Width w
+pub sighted-width : (a b : ℕ) (operator : Operator) (w : ℕ) → sighted a b ≡ sign operator w → Width w
 unfolding sighted
 sighted-width a b operator w e = subst Widths e (lines-width decision a b (omega arith))

@@ -1,12 +1,9 @@
 -- The eight operators: their numbers on the tape, their signs, and which of them two bytes begin with.
-use Rattle.std.specs.Prelude.{ℕ, Bool, true, false, List, [], ◌∷◌, eqb}
+use Rattle.std.specs.Prelude.{ℕ, Bool, true, false, List, [], ◌∷◌, eqb, Option, Some, None}
 use Rattle.data.specs.Bytes.{less_than, greater_than, exclamation, question, equals}
 use Rattle.operator.specs.declared.Operator.{Operator}
 use Rattle.operator.specs.declared.Operator.TheVariants.{LessThan, LessThanEqual, GreaterThan, GreaterThanEqual, NotEqual, Exact, Equal, Exists}
 use Rattle.operator.specs.declared.Sighted.{Sighted}
-use Rattle.operator.specs.declared.Sighted.TheVariants.{Sign, Nothing}
-use Rattle.operator.specs.declared.Symbol.{Symbol}
-use Rattle.operator.specs.declared.Numbered.{Numbered}
 
 -- document 01's number for each operator
 abbrev pub number_of : Operator → ℕ
@@ -24,12 +21,12 @@ abbrev pub operators : List Operator
 operators = LessThan ∷ LessThanEqual ∷ GreaterThan ∷ GreaterThanEqual ∷ NotEqual ∷ Exact ∷ Equal ∷ Exists ∷ []
 
 -- the first of some operators that has a number, or none
-abbrev pub numbered_among : List Operator → ℕ → Numbered
-numbered_among [] n = Numbered.Nothing
-numbered_among (o ∷ os) n = elim (eqb n (number_of o)) [ true ↦ Numbered.Is o | false ↦ numbered_among os n ]
+abbrev pub numbered_among : List Operator → ℕ → Option Operator
+numbered_among [] n = None
+numbered_among (o ∷ os) n = elim (eqb n (number_of o)) [ true ↦ Some o | false ↦ numbered_among os n ]
 
 -- the operator that a number stands for, or none
-unfoldable pub numbered : ℕ → Numbered
+unfoldable pub numbered : ℕ → Option Operator
 numbered n = numbered_among operators n
 
 -- whether an operator is `=`, which pairs a key with its value and is no token there
@@ -43,48 +40,46 @@ is_equal Exact = false
 is_equal Equal = true
 is_equal Exists = false
 
-abbrev one_byte : ℕ → Symbol
-one_byte b = record { first = b; second = 0 }
+-- the bytes by which each operator is written
+abbrev pub symbol_of : Operator → List ℕ
+symbol_of LessThan = less_than ∷ []
+symbol_of LessThanEqual = less_than ∷ equals ∷ []
+symbol_of GreaterThan = greater_than ∷ []
+symbol_of GreaterThanEqual = greater_than ∷ equals ∷ []
+symbol_of NotEqual = exclamation ∷ equals ∷ []
+symbol_of Exact = equals ∷ equals ∷ []
+symbol_of Equal = equals ∷ []
+symbol_of Exists = question ∷ equals ∷ []
 
-abbrev with_equals : ℕ → Symbol
-with_equals b = record { first = b; second = equals }
-
--- how each operator is written; a second byte of 0 is none
-abbrev pub symbol_of : Operator → Symbol
-symbol_of LessThan = one_byte less_than
-symbol_of LessThanEqual = with_equals less_than
-symbol_of GreaterThan = one_byte greater_than
-symbol_of GreaterThanEqual = with_equals greater_than
-symbol_of NotEqual = with_equals exclamation
-symbol_of Exact = with_equals equals
-symbol_of Equal = one_byte equals
-symbol_of Exists = with_equals question
+-- an operator that stands, with its width
+abbrev pub sign : Operator → ℕ → Option Sighted
+sign o w = Some (record { operator = o; width = w })
 
 -- a line of the decision: a first byte, and what stands there where `=` follows it and where none does
 pub data Line : Type 0 where
-  line : ℕ → Sighted → Sighted → Line
+  line : ℕ → Option Sighted → Option Sighted → Line
 
 -- what a line tells by whether its byte stands and `=` follows, or what the others tell; the tests are arguments, where a rewriting finds them
-abbrev pub line_tells : Bool → Bool → Sighted → Sighted → Sighted → Sighted
+abbrev pub line_tells : Bool → Bool → Option Sighted → Option Sighted → Option Sighted → Option Sighted
 line_tells stands follows followed alone others =
     elim stands [ true ↦ elim follows [ true ↦ followed | false ↦ alone ] | false ↦ others ]
 
 -- what some lines tell of two bytes
-abbrev pub lines_tell : List Line → ℕ → ℕ → Sighted
-lines_tell [] first second = Nothing
+abbrev pub lines_tell : List Line → ℕ → ℕ → Option Sighted
+lines_tell [] first second = None
 lines_tell (line byte followed alone ∷ ls) first second =
     line_tells (eqb first byte) (eqb second equals) followed alone (lines_tell ls first second)
 
 -- the decision by two bytes: `<=` `<` `>=` `>` `!=` `?=` `==` `=`
 abbrev pub decision : List Line
 decision =
-    line less_than (Sign LessThanEqual 2) (Sign LessThan 1)
-    ∷ line greater_than (Sign GreaterThanEqual 2) (Sign GreaterThan 1)
-    ∷ line exclamation (Sign NotEqual 2) Nothing
-    ∷ line question (Sign Exists 2) Nothing
-    ∷ line equals (Sign Exact 2) (Sign Equal 1)
+    line less_than (sign LessThanEqual 2) (sign LessThan 1)
+    ∷ line greater_than (sign GreaterThanEqual 2) (sign GreaterThan 1)
+    ∷ line exclamation (sign NotEqual 2) None
+    ∷ line question (sign Exists 2) None
+    ∷ line equals (sign Exact 2) (sign Equal 1)
     ∷ []
 
 -- the operator that two bytes begin with, or none
-unfoldable pub sighted : ℕ → ℕ → Sighted
+unfoldable pub sighted : ℕ → ℕ → Option Sighted
 sighted first second = lines_tell decision first second

@@ -4,37 +4,24 @@
 ghost use Rattle.std.specs.Prelude.{◌≡◌};
 ghost use Rattle.operator.specs.Operators.{number_of, numbered, is_equal, symbol_of, sighted};
 
-#[derive(Clone, Copy)]
+// The operators, each with the number that stands for it on the tape.
+#[derive(Clone, Copy, PartialEq, Eq)]
 pub enum Operator {
-    LessThan,
-    LessThanEqual,
-    GreaterThan,
-    GreaterThanEqual,
-    NotEqual,
-    Exact,
-    Equal,
-    Exists,
+    LessThan = 1,
+    LessThanEqual = 2,
+    GreaterThan = 3,
+    GreaterThanEqual = 4,
+    NotEqual = 5,
+    Exact = 6,
+    Equal = 7,
+    Exists = 8,
 }
 
-// What stands at two bytes: an operator and how many bytes it takes, or none.
+// An operator that stands in a text, and how many bytes it takes there.
 #[derive(Clone, Copy)]
-pub enum Sighted {
-    Sign { operator: Operator, width: usize },
-    Nothing,
-}
-
-// The operator that a number stands for, or none.
-#[derive(Clone, Copy)]
-pub enum Numbered {
-    Is(Operator),
-    Nothing,
-}
-
-// An operator's sign: one byte, or two where second is not 0.
-#[derive(Clone, Copy)]
-pub struct Symbol {
-    pub first: u8,
-    pub second: u8,
+pub struct Sighted {
+    pub operator: Operator,
+    pub width: usize,
 }
 
 impl Operator {
@@ -42,111 +29,55 @@ impl Operator {
     pub fn number(self) -> u32
         ensures { result ≡ number_of self }
     {
-        match self {
-            Operator::LessThan => 1,
-            Operator::LessThanEqual => 2,
-            Operator::GreaterThan => 3,
-            Operator::GreaterThanEqual => 4,
-            Operator::NotEqual => 5,
-            Operator::Exact => 6,
-            Operator::Equal => 7,
-            Operator::Exists => 8,
-        }
+        self as u32
     }
 
     // Whether an operator is `=`, which pairs a key with its value and is no token there.
     pub fn is_equal(self) -> bool
         ensures { result ≡ is_equal self }
     {
-        match self {
-            Operator::LessThan => false,
-            Operator::LessThanEqual => false,
-            Operator::GreaterThan => false,
-            Operator::GreaterThanEqual => false,
-            Operator::NotEqual => false,
-            Operator::Exact => false,
-            Operator::Equal => true,
-            Operator::Exists => false,
-        }
+        self == Operator::Equal
     }
 
     // The bytes by which an operator is written.
-    pub fn symbol(self) -> Symbol
-        ensures { result ≡ symbol_of self }
+    pub fn symbol(self) -> &'static [u8]
+        ensures { result.now ≡ symbol_of self }
     {
         match self {
-            Operator::LessThan => Symbol {
-                first: b'<',
-                second: 0,
-            },
-            Operator::LessThanEqual => Symbol {
-                first: b'<',
-                second: b'=',
-            },
-            Operator::GreaterThan => Symbol {
-                first: b'>',
-                second: 0,
-            },
-            Operator::GreaterThanEqual => Symbol {
-                first: b'>',
-                second: b'=',
-            },
-            Operator::NotEqual => Symbol {
-                first: b'!',
-                second: b'=',
-            },
-            Operator::Exact => Symbol {
-                first: b'=',
-                second: b'=',
-            },
-            Operator::Equal => Symbol {
-                first: b'=',
-                second: 0,
-            },
-            Operator::Exists => Symbol {
-                first: b'?',
-                second: b'=',
-            },
+            Operator::LessThan => b"<",
+            Operator::LessThanEqual => b"<=",
+            Operator::GreaterThan => b">",
+            Operator::GreaterThanEqual => b">=",
+            Operator::NotEqual => b"!=",
+            Operator::Exact => b"==",
+            Operator::Equal => b"=",
+            Operator::Exists => b"?=",
         }
     }
 }
 
 // The operator that stands on the tape by a number.
 #[tactic(auto, unfolding(crate::specs::Operators::numbered))]
-pub fn operator_numbered(number: u32) -> Numbered
+pub fn operator_numbered(number: u32) -> Option<Operator>
     ensures { result ≡ numbered number }
 {
-    if number == 1 {
-        return Numbered::Is(Operator::LessThan);
+    match number {
+        1 => Some(Operator::LessThan),
+        2 => Some(Operator::LessThanEqual),
+        3 => Some(Operator::GreaterThan),
+        4 => Some(Operator::GreaterThanEqual),
+        5 => Some(Operator::NotEqual),
+        6 => Some(Operator::Exact),
+        7 => Some(Operator::Equal),
+        8 => Some(Operator::Exists),
+        _ => None,
     }
-    if number == 2 {
-        return Numbered::Is(Operator::LessThanEqual);
-    }
-    if number == 3 {
-        return Numbered::Is(Operator::GreaterThan);
-    }
-    if number == 4 {
-        return Numbered::Is(Operator::GreaterThanEqual);
-    }
-    if number == 5 {
-        return Numbered::Is(Operator::NotEqual);
-    }
-    if number == 6 {
-        return Numbered::Is(Operator::Exact);
-    }
-    if number == 7 {
-        return Numbered::Is(Operator::Equal);
-    }
-    if number == 8 {
-        return Numbered::Is(Operator::Exists);
-    }
-    Numbered::Nothing
 }
 
 // The operator that two bytes begin with, a line for each in the order of their numbers; `0..=b'<' | b'>'..=255` is every byte but `=`, the 0
 // that stands for the text's end among them. A line returns at once: where the lines met first, `bench/run` had the parser slower.
 #[tactic(auto, unfolding(crate::specs::Operators::sighted))]
-pub fn operator_at(first: u8, second: u8) -> Sighted
+pub fn operator_at(first: u8, second: u8) -> Option<Sighted>
     ensures { result ≡ sighted first second }
 {
     match first {
@@ -160,7 +91,7 @@ pub fn operator_at(first: u8, second: u8) -> Sighted
         },
         b'!' => match second {
             b'=' => return sign(Operator::NotEqual, 2),
-            0..=b'<' | b'>'..=255 => return Sighted::Nothing,
+            0..=b'<' | b'>'..=255 => return None,
         },
         b'=' => match second {
             b'=' => return sign(Operator::Exact, 2),
@@ -168,15 +99,15 @@ pub fn operator_at(first: u8, second: u8) -> Sighted
         },
         b'?' => match second {
             b'=' => return sign(Operator::Exists, 2),
-            0..=b'<' | b'>'..=255 => return Sighted::Nothing,
+            0..=b'<' | b'>'..=255 => return None,
         },
-        0..=b' ' | b'"'..=b';' | b'@'..=255 => return Sighted::Nothing,
+        0..=b' ' | b'"'..=b';' | b'@'..=255 => return None,
     }
 }
 
 // An operator that stands, and how many bytes it takes.
-fn sign(operator: Operator, width: usize) -> Sighted
-    ensures { result ≡ Sighted.Sign operator width }
+fn sign(operator: Operator, width: usize) -> Option<Sighted>
+    ensures { result ≡ Some (record { operator = operator; width = width }) }
 {
-    Sighted::Sign { operator, width }
+    Some(Sighted { operator, width })
 }

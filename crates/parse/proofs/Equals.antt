@@ -12,12 +12,11 @@ use lib.ListN.{length, get_or-eq_default}
 use Rattle.data.proofs.Cases.{by_bool, both}
 use Rattle.data.specs.Bytes.{equals}
 use Rattle.cut.specs.Blanks.{is_blank, skip_ws}
-use Rattle.cut.specs.declared.Skipped.TheVariants.{At}
+use Rattle.std.specs.Prelude.{Some}
 use Rattle.cut.proofs.Blanks.{skip-here}
 use Rattle.cut.proofs.Places.{by_place}
-use Rattle.operator.specs.Operators.{sighted}
+use Rattle.operator.specs.Operators.{sign, sighted}
 use Rattle.operator.specs.declared.Operator.TheVariants.{Equal}
-use Rattle.operator.specs.declared.Sighted.TheVariants.{Sign}
 use Rattle.tape.specs.Tape.{Tape, view}
 use Rattle.machine.specs.declared.State.{State}
 use Rattle.machine.specs.declared.State.TheVariants.{Key, KeyValueSeparator, ObjectValue, ParseOpen, ArrayValue}
@@ -46,12 +45,12 @@ separator_is ParseOpen e = absurd (false≢true e)
 separator_is ArrayValue e = absurd (false≢true e)
 
 -- `=` alone is the operator Equal, of one byte
-sighted-alone : (first second : ℕ) → first ≡ equals → eqb second equals ≡ false → sighted first second ≡ Sign Equal 1
+sighted-alone : (first second : ℕ) → first ≡ equals → eqb second equals ≡ false → sighted first second ≡ sign Equal 1
 unfolding sighted
 sighted-alone first second e f = rw (e, sighted, f)
 
 -- and no blank
-skip-equals : (text : List ℕ) (at : ℕ) → byte_at text at ≡ equals → skip_ws text at ≡ At at
+skip-equals : (text : List ℕ) (at : ℕ) → byte_at text at ≡ equals → skip_ws text at ≡ Some at
 unfolding is_blank
 skip-equals text at e = skip-here text at (equals-within text at e) (ap is_blank e) (λ h. absurd (omega (arith, sym e ∙ h)))
 

@@ -12,7 +12,7 @@ use lib.Dec.{eqb, ltb}
 use lib.ListN.{length, get_or, set}
 use Rattle.data.specs.Bytes.{bracket_open, bracket_close, exclamation}
 use Rattle.cut.specs.declared.Cut as Cuts
-use Rattle.cut.specs.declared.Skipped.TheVariants.{At, End}
+use Rattle.std.specs.Prelude.{Some, None}
 use Rattle.cut.specs.Blanks.{skip_ws}
 use Rattle.cut.specs.Runs.{run_end}
 use Rattle.cut.specs.Scalars.{scalar_cut}
@@ -82,9 +82,9 @@ flagged ts m = (flag_parent (on_tape unbounded ts) m).tokens
 -- ---- what is cut
 -- the scalar that stands at a place, as a token, and where the text goes on
 pub data Taken (text : List ℕ) (at : ℕ) : Token → ℕ → Type 0 where
-  unquoted : (start end rest : ℕ) → scalar_cut text at ≡ Cuts.TheVariants.Unquoted start end rest
+  unquoted : (start end rest : ℕ) → scalar_cut text at ≡ Some (Cuts.TheVariants.Unquoted start end rest)
       → Taken text at (scalar_of Unquoted start (end - start)) rest
-  quoted : (start end rest : ℕ) (escaped : Bool) → scalar_cut text at ≡ Cuts.TheVariants.Quoted start end rest escaped
+  quoted : (start end rest : ℕ) (escaped : Bool) → scalar_cut text at ≡ Some (Cuts.TheVariants.Quoted start end rest escaped)
       → Taken text at (scalar_of (quoted_kind escaped) start (end - start)) rest
 
 -- `[[` or `[[!`: the kind of a parameter, and where its name starts
@@ -101,8 +101,8 @@ pub record Asked (text : List ℕ) (at : ℕ) (kind : ScalarKind) (start : ℕ) 
 
 -- the run that follows it, and the place after the blanks behind that run
 pub record Valued (text : List ℕ) (at start rest : ℕ) : Type 0 where
-  pub starts : skip_ws text at ≡ At start
-  pub goes_on : skip_ws text (run_end text start) ≡ At rest
+  pub starts : skip_ws text at ≡ Some start
+  pub goes_on : skip_ws text (run_end text start) ≡ Some rest
 
 -- a run from one place to another as a token
 abbrev pub run_token : ScalarKind → ℕ → ℕ → Token
@@ -165,7 +165,7 @@ pub data Refuses (text : List ℕ) (m : Machine) (ts : List Token) : ℕ → Ref
   value_ends : m.state ≡ ObjectValue → Refuses text m ts 0 Eof
   entry_ends : m.state ≡ ArrayValue → value_byte (byte_at text m.at) ≡ ValueBytes.TheVariants.Other → Refuses text m ts 0 Eof
   first_uncut : m.state ≡ ParseOpen → open_byte (byte_at text m.at) ≡ OpenBytes.TheVariants.Other
-      → scalar_cut text m.at ≡ Cuts.TheVariants.End → Refuses text m ts 0 Eof
+      → scalar_cut text m.at ≡ None → Refuses text m ts 0 Eof
   -- ObjectValue: `}`
   no_value : m.state ≡ ObjectValue → Refuses text m ts 0 (NoValue m.at)
   -- ParseOpen: `[` while mixed; `{`, and the text ends after blanks; a scalar, and the text ends after blanks
@@ -252,8 +252,8 @@ pub data Over (m : Machine) (ts : List Token) : ℕ → Result → Type 0 where
 
 -- ---- a turn: blanks, and then a byte or the text's end
 pub data Turned (text : List ℕ) (m : Machine) (ts : List Token) : ℕ → Result → Type 0 where
-  on_byte : {p n : ℕ} {x : Result} → skip_ws text m.at ≡ At p → Came text (to m p m.state m.count) ts n x → Turned text m ts n x
-  at_end : {n : ℕ} {x : Result} → skip_ws text m.at ≡ End → Over m ts n x → Turned text m ts n x
+  on_byte : {p n : ℕ} {x : Result} → skip_ws text m.at ≡ Some p → Came text (to m p m.state m.count) ts n x → Turned text m ts n x
+  at_end : {n : ℕ} {x : Result} → skip_ws text m.at ≡ None → Over m ts n x → Turned text m ts n x
 
 -- ---- where what is cut stands, and where the text goes on
 pub taken-moves : {text : List ℕ} {at : ℕ} {x : Token} {rest : ℕ} → Taken text at x rest → at < rest

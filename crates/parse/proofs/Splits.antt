@@ -5,11 +5,11 @@ use Rattle.std.specs.Prelude.{Some, None, Option}
 use mathlib.Core.Path.{◌≡◌, refl}
 use mathlib.Core.Bool.{Bool}
 use Prim.Native.Nat.{ℕ}
-use Rattle.cut.specs.declared.Skipped.{Skipped}
-use Rattle.cut.specs.declared.Skipped.TheVariants.{At, End}
+use Rattle.std.specs.Prelude.{Option, Some, None}
 use Rattle.cut.specs.declared.Cut as Cuts
 use Rattle.operator.specs.declared.Operator.{Operator}
-use Rattle.operator.specs.declared.Sighted as Signs
+use Rattle.operator.specs.declared.Sighted.{Sighted}
+use Rattle.operator.specs.Operators.{sign}
 use Rattle.tape.specs.declared.token.ContainerKind.{ContainerKind}
 use Rattle.tape.specs.declared.token.Container as Containers
 use Rattle.tape.specs.declared.token.Standing as Standings
@@ -20,20 +20,20 @@ use Rattle.machine.specs.declared.bytes.OpenByte as OpenBytes
 use Rattle.machine.specs.declared.bytes.ValueByte as ValueBytes
 use Rattle.tape.specs.declared.token.Container.{Container}
 
-pub by_skipped : {P : Type 0} (s : Skipped) → ((p : ℕ) → s ≡ At p → P) → (s ≡ End → P) → P
-by_skipped (At p) f g = f p refl
-by_skipped End f g = g refl
+pub by_skipped : {P : Type 0} (s : Option ℕ) → ((p : ℕ) → s ≡ Some p → P) → (s ≡ None → P) → P
+by_skipped (Some p) f g = f p refl
+by_skipped None f g = g refl
 
-pub by-cut : {P : Type 0} (x : Cuts.Cut) → ((s e r : ℕ) → x ≡ Cuts.TheVariants.Unquoted s e r → P)
-    → ((s e r : ℕ) (escaped : Bool) → x ≡ Cuts.TheVariants.Quoted s e r escaped → P) → (x ≡ Cuts.TheVariants.End → P) → P
-by-cut (Cuts.TheVariants.Unquoted s e r) f g h = f s e r refl
-by-cut (Cuts.TheVariants.Quoted s e r escaped) f g h = g s e r escaped refl
-by-cut Cuts.TheVariants.End f g h = h refl
+pub by-cut : {P : Type 0} (x : Option Cuts.Cut) → ((s e r : ℕ) → x ≡ Some (Cuts.TheVariants.Unquoted s e r) → P)
+    → ((s e r : ℕ) (escaped : Bool) → x ≡ Some (Cuts.TheVariants.Quoted s e r escaped) → P) → (x ≡ None → P) → P
+by-cut (Some (Cuts.TheVariants.Unquoted s e r)) f g h = f s e r refl
+by-cut (Some (Cuts.TheVariants.Quoted s e r escaped)) f g h = g s e r escaped refl
+by-cut None f g h = h refl
 
-pub by-sighted : {P : Type 0} (x : Signs.Sighted) → ((o : Operator) (w : ℕ) → x ≡ Signs.TheVariants.Sign o w → P)
-    → (x ≡ Signs.TheVariants.Nothing → P) → P
-by-sighted (Signs.TheVariants.Sign o w) f g = f o w refl
-by-sighted Signs.TheVariants.Nothing f g = g refl
+pub by-sighted : {P : Type 0} (x : Option Sighted) → ((o : Operator) (w : ℕ) → x ≡ sign o w → P)
+    → (x ≡ None → P) → P
+by-sighted (Some s) f g = f s.operator s.width refl
+by-sighted None f g = g refl
 
 pub by-container : {P : Type 0} (x : Option Containers.Container)
     → ((k : ContainerKind) (l : ℕ) (f : Bool) → x ≡ opened k l f → P)

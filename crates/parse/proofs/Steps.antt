@@ -8,6 +8,7 @@ use Prim.Native.Nat.{ℕ, ◌+◌, ◌-◌}
 use lib.Dec.{eqb}
 use Rattle.data.proofs.Cases.{by_bool}
 use Rattle.data.specs.Bytes.{exclamation, bracket_open}
+use Rattle.std.specs.Prelude.{Option, Some, None}
 use Rattle.cut.specs.declared.Cut.{Cut}
 use Rattle.cut.specs.declared.Cut.TheVariants as Cuts
 use Rattle.cut.specs.Scalars.{scalar_cut}
@@ -47,18 +48,18 @@ module _ (text : List ℕ) (m : Machine) where
   plain-past (laid n t) rest state e = rw (entered, e)
   plain-past full rest state e = refl
 
-  open_taken : (x : Cut) (t : Tape)
+  open_taken : (x : Option Cut) (t : Tape)
       → and_then (cut_then x ParseOpen t m) (λ t' m'. open_as text (flag_parent t' m') m') ≡ taken (scalar_found x) ParseOpen t
   unfolding lay_then
-  open_taken (Cuts.Unquoted start end rest) t = open_past (lay t m.count _) rest
-  open_taken (Cuts.Quoted start end rest escaped) t = open_past (lay t m.count _) rest
-  open_taken Cuts.End t = refl
+  open_taken (Some (Cuts.Unquoted start end rest)) t = open_past (lay t m.count _) rest
+  open_taken (Some (Cuts.Quoted start end rest escaped)) t = open_past (lay t m.count _) rest
+  open_taken None t = refl
 
-  plain-taken : (x : Cut) (state : State) (t : Tape) → is_parse_open state ≡ false → cut_then x state t m ≡ taken (scalar_found x) state t
+  plain-taken : (x : Option Cut) (state : State) (t : Tape) → is_parse_open state ≡ false → cut_then x state t m ≡ taken (scalar_found x) state t
   unfolding lay_then
-  plain-taken (Cuts.Unquoted start end rest) state t e = plain-past (lay t m.count _) rest state e
-  plain-taken (Cuts.Quoted start end rest escaped) state t e = plain-past (lay t m.count _) rest state e
-  plain-taken Cuts.End state t e = refl
+  plain-taken (Some (Cuts.Unquoted start end rest)) state t e = plain-past (lay t m.count _) rest state e
+  plain-taken (Some (Cuts.Quoted start end rest escaped)) state t e = plain-past (lay t m.count _) rest state e
+  plain-taken None state t e = refl
 
   pub entry_taken : (state : State) (t : Tape) → entry text state t m ≡ taken (scalar_found (scalar_cut text m.at)) state t
   unfolding entry open_scalar scalar_then

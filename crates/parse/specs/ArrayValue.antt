@@ -1,9 +1,8 @@
 -- ArrayValue. `{`: as ObjectValue. `}`: close, own kind, flag = mixed. `<` `>` `!` `=` unmixed: last token scalar, MixedContainer goes in
 -- before it, mixed on; last token End and byte `=`, skip it; else 7. Mixed: `<=` `<` `>=` `>` `!=` `==` `=` add an operator (`=` adds
 -- Equal); else 8. Else a scalar.
-use Rattle.std.specs.Prelude.{ℕ, ◌+◌, ◌-◌, true, false, List, eqb}
+use Rattle.std.specs.Prelude.{ℕ, ◌+◌, ◌-◌, true, false, List, Some, None, eqb}
 use Rattle.data.specs.Bytes.{equals}
-use Rattle.operator.specs.declared.Sighted as Sighted
 use Rattle.operator.specs.Operators.{number_of, sighted}
 use Rattle.tape.specs.declared.token.Standing as Standing
 use Rattle.tape.specs.Token.{operator_of, standing_of}
@@ -32,8 +31,8 @@ array_close t m =
 unfoldable pub operator_then : List ℕ → Tape → Machine → After
 operator_then text t m =
     elim (sighted (byte_at text m.at) (byte_at text (m.at + 1))) [
-      | Sighted.TheVariants.Sign operator width ↦ lay_then (operator_of (number_of operator)) (m.at + width) ArrayValue t m
-      | Sighted.TheVariants.Nothing ↦ refused (UnknownOperator (m.at - 1))
+      | Some sign ↦ lay_then (operator_of (number_of sign.operator)) (m.at + sign.width) ArrayValue t m
+      | None ↦ refused (UnknownOperator (m.at - 1))
     ]
 
 -- last token End and byte `=`, skip it; else 7, at it, minus 1

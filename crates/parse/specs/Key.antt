@@ -1,8 +1,7 @@
 -- Key. `}` or `]`: nothing open, skip it; else close as Object. `{`: if `}` follows after blanks, drop both; else last token Unquoted
 -- becomes Header, an Array is added, ParseOpen; else 4. `[`: parameter. Otherwise a key, then KeyValueSeparator.
-use Rattle.std.specs.Prelude.{ℕ, ◌+◌, ◌-◌, true, false, List, eqb}
+use Rattle.std.specs.Prelude.{ℕ, ◌+◌, ◌-◌, true, false, List, Some, None, eqb}
 use Rattle.data.specs.Bytes.{brace_close}
-use Rattle.cut.specs.declared.Skipped.TheVariants.{At, End}
 use Rattle.cut.specs.Blanks.{skip_ws}
 use Rattle.tape.specs.declared.token.ContainerKind.TheVariants.{Array, Object}
 use Rattle.tape.specs.declared.token.Standing as Standing
@@ -46,11 +45,11 @@ key_header at t m =
 unfoldable pub key_brace : List ℕ → Tape → Machine → After
 key_brace text t m =
     elim (skip_ws text (m.at + 1)) [
-      | At p ↦ elim (eqb (byte_at text p) brace_close) [
+      | Some p ↦ elim (eqb (byte_at text p) brace_close) [
         | true ↦ next (to m (p + 1) Key m.count) t
         | false ↦ key_header p t m
       ]
-      | End ↦ refused Eof
+      | None ↦ refused Eof
     ]
 
 unfoldable pub key_turn : List ℕ → Tape → Machine → After

@@ -1,9 +1,8 @@
 -- KeyValueSeparator. `<=` `<` `>=` `>` `!=` `?=` `==` add an operator; `=` adds none; then ObjectValue. `{`: ObjectValue, not consumed.
 -- Else MixedContainer goes in before the key, mixed on, ArrayValue, not consumed.
-use Rattle.std.specs.Prelude.{ℕ, ◌+◌, true, false, List, eqb}
+use Rattle.std.specs.Prelude.{ℕ, ◌+◌, true, false, List, Some, None, eqb}
 use Rattle.data.specs.Bytes.{brace_open}
 use Rattle.operator.specs.declared.Operator.{Operator}
-use Rattle.operator.specs.declared.Sighted.TheVariants.{Sign, Nothing}
 use Rattle.operator.specs.Operators.{number_of, is_equal, sighted}
 use Rattle.tape.specs.Token.{operator_of}
 use Rattle.tape.specs.Tape.{Tape, lay_mixed}
@@ -28,8 +27,8 @@ separator_then operator width t m =
 unfoldable pub separator_turn : List ℕ → Tape → Machine → After
 separator_turn text t m =
     elim (sighted (byte_at text m.at) (byte_at text (m.at + 1))) [
-      | Sign operator width ↦ separator_then operator width t m
-      | Nothing ↦ elim (eqb (byte_at text m.at) brace_open) [
+      | Some sign ↦ separator_then sign.operator sign.width t m
+      | None ↦ elim (eqb (byte_at text m.at) brace_open) [
         | true ↦ next (to m m.at ObjectValue m.count) t
         | false ↦ mix_then t m (λ t' m'. next m' t')
       ]

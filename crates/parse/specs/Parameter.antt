@@ -1,8 +1,7 @@
 -- Parameter: `[[` or `[[!`, end is Eof; a run as name; then `]` or 10; token; blanks; a run; blanks.
 -- If `]` comes: the run is Unquoted, Key. Else an Object opens, the run is its first key, KeyValueSeparator.
-use Rattle.std.specs.Prelude.{ℕ, ◌+◌, ◌-◌, Bool, true, false, List, eqb, ltb, length}
+use Rattle.std.specs.Prelude.{ℕ, ◌+◌, ◌-◌, Bool, true, false, List, Some, None, eqb, ltb, length}
 use Rattle.data.specs.Bytes.{exclamation, bracket_open, bracket_close}
-use Rattle.cut.specs.declared.Skipped.TheVariants.{At, End}
 use Rattle.cut.specs.Blanks.{skip_ws}
 use Rattle.cut.specs.Runs.{run_end}
 use Rattle.tape.specs.declared.token.ScalarKind.{ScalarKind}
@@ -34,11 +33,11 @@ value_or_object text start end rest t m =
 unfoldable pub parameter_value : List ℕ → Tape → Machine → After
 parameter_value text t m =
     elim (skip_ws text m.at) [
-      | At start ↦ elim (skip_ws text (run_end text start)) [
-        | At rest ↦ value_or_object text start (run_end text start) rest t m
-        | End ↦ refused Eof
+      | Some start ↦ elim (skip_ws text (run_end text start)) [
+        | Some rest ↦ value_or_object text start (run_end text start) rest t m
+        | None ↦ refused Eof
       ]
-      | End ↦ refused Eof
+      | None ↦ refused Eof
     ]
 
 -- the name from start to end; then `]` or 10, after the name; token

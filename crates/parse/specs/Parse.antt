@@ -1,6 +1,5 @@
 -- The parse: every turn skips blanks, the state decides, and the run goes on until it is done or refused.
-use Rattle.std.specs.Prelude.{ℕ, zero, suc, ◌+◌, ◌*◌, Bool, true, false, List, ltb, length, Result, Ok, Err}
-use Rattle.cut.specs.declared.Skipped.TheVariants.{At, End}
+use Rattle.std.specs.Prelude.{ℕ, zero, suc, ◌+◌, ◌*◌, Bool, true, false, List, ltb, length, Result, Ok, Err, Some, None}
 use Rattle.cut.specs.Blanks.{skip_ws}
 use Rattle.tape.specs.Words.{padded}
 use Rattle.tape.specs.Tape.{Tape, view, empty_tape}
@@ -34,8 +33,8 @@ state_turn text t m =
 unfoldable pub turn : List ℕ → Tape → Machine → After
 turn text t m =
     elim (skip_ws text m.at) [
-      | At p ↦ state_turn text t (to m p m.state m.count)
-      | End ↦ text_end t m
+      | Some p ↦ state_turn text t (to m p m.state m.count)
+      | None ↦ text_end t m
     ]
 
 -- so many turns, or fewer where they end before

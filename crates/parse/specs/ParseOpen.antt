@@ -3,7 +3,6 @@
 -- is set; mixed off; skip blanks; next byte `=` `>` `<` `?` `!`: Object and KeyValueSeparator, else Array and ArrayValue.
 use Rattle.std.specs.Prelude.{ℕ, ◌+◌, ◌-◌, true, false, List, eqb, Some, None}
 use Rattle.data.specs.Bytes.{brace_close}
-use Rattle.cut.specs.declared.Skipped.TheVariants.{At, End}
 use Rattle.cut.specs.Blanks.{skip_ws}
 use Rattle.tape.specs.declared.token.ContainerKind.{ContainerKind}
 use Rattle.tape.specs.declared.token.ContainerKind.TheVariants.{Array, Object}
@@ -46,11 +45,11 @@ open_parameter text t m =
 unfoldable pub open_brace : List ℕ → Tape → Machine → After
 open_brace text t m =
     elim (skip_ws text (m.at + 1)) [
-      | At p ↦ elim (eqb (byte_at text p) brace_close) [
+      | Some p ↦ elim (eqb (byte_at text p) brace_close) [
         | true ↦ next (to m (p + 1) ParseOpen m.count) t
         | false ↦ settle Array 1 m.at ArrayValue t m
       ]
-      | End ↦ refused Eof
+      | None ↦ refused Eof
     ]
 
 -- if mixed, the parent's stored flag is set
@@ -68,11 +67,11 @@ flag_parent t m =
 unfoldable pub open_as : List ℕ → Tape → Machine → After
 open_as text t m =
     elim (skip_ws text m.at) [
-      | At p ↦ elim (follows_key (byte_at text p)) [
+      | Some p ↦ elim (follows_key (byte_at text p)) [
         | true ↦ settle Object 2 p KeyValueSeparator t m
         | false ↦ settle Array 2 p ArrayValue t m
       ]
-      | End ↦ refused Eof
+      | None ↦ refused Eof
     ]
 
 -- Else a scalar; if mixed, the parent's stored flag is set; then what the next byte says

@@ -41,7 +41,7 @@ pub(crate) fn operator_then(text: &[u8], tape: &mut [u32], m: Machine) -> Result
 {
     let at = m.at;
     match operator::operator_at(byte_at(text, at), byte_at(text, at + 1)) {
-        Sighted::Sign { operator, width } => {
+        Some(Sighted { operator, width }) => {
             lay(
                 tape,
                 m,
@@ -50,7 +50,7 @@ pub(crate) fn operator_then(text: &[u8], tape: &mut [u32], m: Machine) -> Result
                 State::ArrayValue,
             )
         }
-        Sighted::Nothing => Err(Refusal::UnknownOperator(before(at))),
+        None => Err(Refusal::UnknownOperator(before(at))),
     }
 }
 

@@ -10,7 +10,6 @@ ghost use Rattle.parse.specs.Here.{Here};
 use crate::containers::close;
 use crate::laying::lay;
 use crate::step::Step;
-use cut::Skipped;
 use machine::bytes::{KeyByte, key_byte};
 use machine::parents::{container_at, nothing_open, parent_of};
 use machine::{Machine, Refusal, State, Turn, byte_at, less};
@@ -65,9 +64,7 @@ fn key_brace(text: &[u8], tape: &mut [u32], m: Machine) -> Result<Turn, Refusal>
     requires { Here text.now m }
     ensures { after result tape.new ≡ key_brace text.now (view tape.old m.count) m }
 {
-    let Skipped::At(p) = cut::skip_ws_t(text, m.at + 1) else {
-        return Err(Refusal::Eof);
-    };
+    let p = cut::skip_ws_t(text, m.at + 1).ok_or(Refusal::Eof)?;
     if byte_at(text, p) == b'}' {
         return Ok(Turn::Next(m.to(p + 1, State::Key, m.count)));
     }

@@ -10,7 +10,6 @@ ghost use Rattle.parse.specs.Parse.{text_limit, state_turn, turn, run, ending, e
 ghost use Rattle.parse.specs.Here.{Here, Lent, LentHere};
 
 use crate::step::Step;
-use cut::Skipped;
 use machine::finish::{finish, refuse};
 use machine::start::{has_bom, start};
 use machine::{Machine, Parsed, Refusal, State, Turn, mixed_on};
@@ -73,8 +72,8 @@ fn turn(
     ensures { after result tape.new ≡ turn text.now (view tape.old m.count) m }
 {
     match cut::skip_ws_t(text, m.at) {
-        Skipped::At(p) => state_turn(text, table, tape, m.to(p, m.state, m.count)),
-        Skipped::End => containers::text_end(tape, m),
+        Some(p) => state_turn(text, table, tape, m.to(p, m.state, m.count)),
+        None => containers::text_end(tape, m),
     }
 }
 

@@ -11,7 +11,6 @@ ghost use Rattle.parse.specs.Here.{Lent, LentHere};
 
 use crate::laying::lay;
 use crate::scalars::viewed;
-use cut::Skipped;
 use machine::{Machine, Refusal, State, Turn, byte_at};
 use tape::token::{ContainerKind, ScalarKind};
 use tape::{token, words};
@@ -83,13 +82,9 @@ fn parameter_value(
     requires { Lent text.now table.now }
     ensures { after result tape.new ≡ parameter_value text.now (view tape.old m.count) m }
 {
-    let Skipped::At(start) = cut::skip_ws_t(text, m.at) else {
-        return Err(Refusal::Eof);
-    };
+    let start = cut::skip_ws_t(text, m.at).ok_or(Refusal::Eof)?;
     let end = run_from(text, table, start);
-    let Skipped::At(rest) = cut::skip_ws_t(text, end) else {
-        return Err(Refusal::Eof);
-    };
+    let rest = cut::skip_ws_t(text, end).ok_or(Refusal::Eof)?;
     value_or_object(text, tape, m, start, end, rest)
 }
 

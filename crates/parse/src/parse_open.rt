@@ -9,7 +9,6 @@ ghost use Rattle.parse.specs.Here.{Here};
 
 use crate::containers::close_at;
 use crate::step::Step;
-use cut::Skipped;
 use machine::bytes::{OpenByte, follows_key, open_byte};
 use machine::parents::{container_at, resumed};
 use machine::{Machine, Refusal, State, Turn, byte_at, less};
@@ -76,9 +75,7 @@ fn open_brace(text: &[u8], tape: &mut [u32], m: Machine) -> Result<Turn, Refusal
     requires { Here text.now m }
     ensures { after result tape.new ≡ open_brace text.now (view tape.old m.count) m }
 {
-    let Skipped::At(p) = cut::skip_ws_t(text, m.at + 1) else {
-        return Err(Refusal::Eof);
-    };
+    let p = cut::skip_ws_t(text, m.at + 1).ok_or(Refusal::Eof)?;
     if byte_at(text, p) == b'}' {
         return Ok(Turn::Next(m.to(p + 1, State::ParseOpen, m.count)));
     }
@@ -108,9 +105,7 @@ pub(crate) fn flag_parent(tape: &mut [u32], m: Machine)
 pub(crate) fn open_as(text: &[u8], tape: &mut [u32], m: Machine) -> Result<Turn, Refusal>
     ensures { after result tape.new ≡ open_as text.now (view tape.old m.count) m }
 {
-    let Skipped::At(p) = cut::skip_ws_t(text, m.at) else {
-        return Err(Refusal::Eof);
-    };
+    let p = cut::skip_ws_t(text, m.at).ok_or(Refusal::Eof)?;
     if follows_key(byte_at(text, p)) {
         return settle(
             tape,

@@ -30,19 +30,19 @@ pub(crate) fn scalar_at(text: &[u8], at: usize) -> Option<Scalar>
     ensures { result ≡ scalar_found (scalar_cut text.now at) }
 {
     match cut::scalar_at(text, at) {
-        Cut::Unquoted { start, end, rest } => Some(Scalar {
+        Some(Cut::Unquoted { start, end, rest }) => Some(Scalar {
             token: viewed(ScalarKind::Unquoted, start, end),
             rest,
         }),
-        Cut::Quoted {
+        Some(Cut::Quoted {
             start,
             end,
             rest,
             escaped,
-        } => Some(Scalar {
+        }) => Some(Scalar {
             token: viewed(token::quoted_kind(escaped), start, end),
             rest,
         }),
-        Cut::End => None,
+        None => None,
     }
 }

@@ -54,8 +54,8 @@ pub(crate) fn separator_turn(text: &[u8], tape: &mut [u32], m: Machine) -> Resul
     let at = m.at;
     let b = byte_at(text, at);
     match operator::operator_at(b, byte_at(text, at + 1)) {
-        Sighted::Sign { operator, width } => separator_then(tape, m, operator, width),
-        Sighted::Nothing => {
+        Some(Sighted { operator, width }) => separator_then(tape, m, operator, width),
+        None => {
             if b == b'{' {
                 return Ok(Turn::Next(m.to(at, State::ObjectValue, m.count)));
             }

@@ -14,7 +14,7 @@ use Rattle.file.specs.declared.Found.{Found}
 use Rattle.file.specs.Open.{open_file}
 use Rattle.file.specs.Files.{Left, left, ReadOpened, ReadsAs}
 use Rattle.put.specs.Append.{Wrote, wrote}
-use Rattle.promises.specs.Unique.{OneResult, OneLeft, OneLine, OnePart}
+use Rattle.promises.specs.Unique.{OneResult, OneLeft, OneLine, OnePart, OneRun}
 use Rattle.data.proofs.character_class.Reads as character_class
 use Rattle.data.proofs.is_boundary.Reads as is_boundary
 use Rattle.data.proofs.may_be_sign.Reads as may_be_sign
@@ -283,7 +283,7 @@ put_calls =
 pub record Operator : Type 0 where
   pub operator_number : OneResult operator_number.Post
   pub operator_is_equal : OneResult operator_is_equal.Post
-  pub operator_symbol : OneResult operator_symbol.Post
+  pub operator_symbol : OneRun operator_symbol.Post (λ κs r. r.now)
   pub operator_at : OneResult operator_at.Post
   pub operator_numbered : OneResult operator_numbered.Post
 
@@ -292,7 +292,7 @@ operator_calls =
     record {
       operator_number = by_definition _ _;
       operator_is_equal = by_definition _ _;
-      operator_symbol = by_definition _ _;
+      operator_symbol = λ κs args r s xs ys p q. p ∙ sym q;
       operator_at = by_definition _ _;
       operator_numbered = by_definition _ _;
     }

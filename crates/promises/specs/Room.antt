@@ -1,7 +1,6 @@
 -- The parse with no bound on tokens, and how many tokens it lays down before it ends or refuses.
-use Rattle.std.specs.Prelude.{ℕ, zero, suc, ◌+◌, ◌-◌, Bool, true, false, ◌&&◌, List, [], eqb, ltb, length}
+use Rattle.std.specs.Prelude.{ℕ, zero, suc, ◌+◌, ◌-◌, Bool, true, false, ◌&&◌, List, [], Option, Some, None, eqb, ltb, length}
 use Rattle.data.specs.Bytes.{exclamation, bracket_open, bracket_close}
-use Rattle.cut.specs.declared.Skipped.TheVariants.{At, End}
 use Rattle.cut.specs.declared.Cut as Cut
 use Rattle.cut.specs.Blanks.{skip_ws}
 use Rattle.cut.specs.Runs.{run_end}
@@ -71,10 +70,10 @@ key_lays text m =
     ]
 
 -- a scalar, unless the text ends in it
-abbrev pub is_cut : Cut.Cut → Bool
-is_cut (Cut.TheVariants.Unquoted start end rest) = true
-is_cut (Cut.TheVariants.Quoted start end rest escaped) = true
-is_cut Cut.TheVariants.End = false
+abbrev pub is_cut : Option Cut.Cut → Bool
+is_cut (Some (Cut.TheVariants.Unquoted start end rest)) = true
+is_cut (Some (Cut.TheVariants.Quoted start end rest escaped)) = true
+is_cut None = false
 
 -- ParseOpen: a parameter's name unless mixed, and the first scalar, which stands on the tape before the blanks in which the text may end
 unfoldable pub open_lays : List ℕ → Machine → Bool
@@ -116,7 +115,7 @@ state_lays text t m =
 
 -- and where the text ends after blanks, none
 unfoldable pub turn_lays : List ℕ → Tape → Machine → Bool
-turn_lays text t m = elim (skip_ws text m.at) [ At p ↦ state_lays text t (to m p m.state m.count) | End ↦ false ]
+turn_lays text t m = elim (skip_ws text m.at) [ Some p ↦ state_lays text t (to m p m.state m.count) | None ↦ false ]
 
 -- one token more, or none
 abbrev pub and_one : ℕ → Bool → ℕ

@@ -1,12 +1,12 @@
 -- The second pair of cuts (request W13) finds the same place as the plain pair: over any set of wanted bytes, on every text, from every start,
 -- and by every table that gives a class to the thirteen boundary bytes and to no others. By any other table some text tells the two apart.
-use Rattle.std.specs.Prelude.{ℕ, ◌+◌, ◌≤◌, ◌<◌, ◌≡◌, Bool, true, false, List, ◌↔◌, length, get_or, drop}
+use Rattle.std.specs.Prelude.{ℕ, ◌+◌, ◌≤◌, ◌<◌, ◌≡◌, Bool, true, false, List, Option, ◌↔◌, length, get_or, drop}
 use Rattle.data.specs.Classes.{is_boundary, classes}
 use Rattle.cut.specs.Lanes.{Bytes, Lane}
 use Rattle.cut.specs.Marks.{word_size, stride, all_unmarked, first_mark, Marks, marks_at}
 use Rattle.cut.specs.Runs.{stop_from, classed, run_end_by, run_end}
 use Rattle.cut.specs.Scalars.{cut_of, scalar_cut}
-use Rattle.cut.specs.declared.Quoted.{Quoted}
+use Rattle.cut.specs.declared.QuotedRun.{QuotedRun}
 use Rattle.cut.proofs.split_at_scalar.Reads as plain-run
 use Rattle.cut.proofs.parse_quote_scalar.Reads as plain-quote
 use Rattle.cut.proofs.strides.split_at_scalar.Reads as fast-run
@@ -44,8 +44,8 @@ RunsAlike = (κs : _) (args : _) (r : ℕ) (xs : _) → fast-run.Post κs args r
 
 -- and of the two cuts of a quoted run
 abbrev pub QuotesAlike : Type 0
-QuotesAlike = (κs : _) (args : _) (r : Quoted) (xs : _) → fast-quote.Post κs args r xs
-    → (κt : _) (again : _) (s : Quoted) (ys : _) → plain-quote.Post κt again s ys → again.0.now ≡ args.0.now
+QuotesAlike = (κs : _) (args : _) (r : Option QuotedRun) (xs : _) → fast-quote.Post κs args r xs
+    → (κt : _) (again : _) (s : Option QuotedRun) (ys : _) → plain-quote.Post κt again s ys → again.0.now ≡ args.0.now
     → r ≡ s
 
 -- ---- from every start

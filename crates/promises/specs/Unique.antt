@@ -20,6 +20,12 @@ OnePart {K} {A} {R} {X} Post bytes place =
     (κs : K) (args : A κs) (r s : R κs) (xs ys : X κs) → Post κs args r xs → Post κs args s ys
     → (bytes κs r ≡ bytes κs s) × (place κs r ≡ place κs s)
 
+-- and hands out one run of bytes of its own, wherever they lie
+abbrev pub OneRun : {K : Type 0} {A R X : K → Type 0} → ((κs : K) → A κs → R κs → X κs → Type 0)
+    → ((κs : K) → R κs → List ℕ) → Type 0
+OneRun {K} {A} {R} {X} Post bytes =
+    (κs : K) (args : A κs) (r s : R κs) (xs ys : X κs) → Post κs args r xs → Post κs args s ys → bytes κs r ≡ bytes κs s
+
 -- and puts one line of bytes: the place after it, and the buffer
 abbrev pub OneLine : {K : Type 0} {A R X : K → Type 0} → ((κs : K) → A κs → R κs → X κs → Type 0)
     → ((κs : K) → X κs → List ℕ) → Type 0

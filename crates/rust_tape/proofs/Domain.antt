@@ -19,9 +19,10 @@ use Rattle.data.proofs.Cases.{by_bool}
 use Rattle.data.specs.Bytes.{quote, backslash}
 use Rattle.data.specs.Classes.{among, is_boundary, boundary_bytes}
 use Rattle.cut.specs.Runs.{stop_from, run_of, run_end_of, unquoted_run}
-use Rattle.cut.specs.Quotes.{quoted_from, quoted_run}
-use Rattle.cut.specs.declared.Quoted.{Quoted}
-use Rattle.cut.specs.declared.Quoted.TheVariants.{Closed, Unclosed}
+use Rattle.cut.specs.Quotes.{quoted_from, quoted_run, closed}
+use Rattle.std.specs.Prelude.{Some, None}
+use Rattle.std.specs.Prelude as Ours
+use Rattle.cut.specs.declared.QuotedRun.{QuotedRun}
 use Rattle.cut.proofs.Places.{drop_here, by_place}
 use Rattle.cut.proofs.Runs.{Run, run_of-run, run_only, unquoted_run-run}
 use Rattle.cut.proofs.Quotes.{quoted-past, quoted-closes, quoted_escapes, quoted-goes_on}
@@ -321,9 +322,9 @@ alike_undoubted d h e alike =
 -- The quoted cut
 
 -- how many bytes our cut finds between the quotes, if one closes: what the Rust answers
-abbrev pub as_found : Quoted → Option ℕ
-as_found (Closed n escaped) = some n
-as_found Unclosed = none
+abbrev pub as_found : Ours.Option QuotedRun → Option ℕ
+as_found (Some run) = some run.length
+as_found None = none
 
 -- the fallback's loop, at a position one past a place of the part after the quote, goes by bytes as our cut does
 quote_bytewise : (q : ℕ) (bytes : List ℕ) (turns n : ℕ) (e : Bool) → length bytes ≤ n + turns
@@ -348,8 +349,8 @@ quote_bytewise q bytes (suc turns) n e enough =
     (λ past. rw (quote_from, le-ltb (n + 1) (length (q ∷ bytes)) (omega arith)) (sym (ap as_found (quoted-past bytes n e past))))
 
 -- a quoted run over some bytes with no backslash, and more: closed where a search of the first finds a quote, and else on through the others
-abbrev closed_or : Option ℕ → Quoted → Quoted
-closed_or (some at) later = Closed at false
+abbrev closed_or : Option ℕ → Ours.Option QuotedRun → Ours.Option QuotedRun
+closed_or (some at) later = closed at false
 closed_or none later = later
 
 quote_search : (xs ys : List ℕ) (n : ℕ) → forward_search (λ b. eqb b backslash) xs n ≡ none
@@ -380,10 +381,10 @@ stride-past d ptr =
     (λ past. rw (drop_of_length-le d past))
 
 -- strides that find a quote have passed no backslash
-found-quote : (haystack : List ℕ) (at : ℕ) → quote_strides haystack ≡ some at → quoted_run haystack ≡ Closed at false
+found-quote : (haystack : List ℕ) (at : ℕ) → quote_strides haystack ≡ some at → quoted_run haystack ≡ closed at false
 unfolding quote_strides strides quote_look quoted_run
 found-quote d at e =
-    strides-right (λ (ptr : ℕ). quoted_from (drop ptr d) ptr false) (λ (k : ℕ). Closed k false) quote_look d (length d / loop_size * loop_size)
+    strides-right (λ (ptr : ℕ). quoted_from (drop ptr d) ptr false) (λ (k : ℕ). closed k false) quote_look d (length d / loop_size * loop_size)
     (λ ptr h. by-option (forward_search (λ b. eqb b backslash) (stride d ptr) ptr)
     (λ k b. rw (quote_look, b) tt)
     (λ b. by-option (forward_search (λ b. eqb b quote) (stride d ptr) ptr)

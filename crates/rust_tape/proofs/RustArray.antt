@@ -14,7 +14,7 @@ use Rattle.data.proofs.Cases.{by_bool}
 use Rattle.data.specs.Bytes.{exclamation, less_than, equals, greater_than, brace_open, brace_close}
 use Rattle.data.specs.Classes.{among}
 use Rattle.operator.specs.declared.Operator as Ours
-use Rattle.operator.specs.declared.Sighted as Signs
+use Rattle.std.specs.Prelude.{Some, None}
 use Rattle.operator.specs.Operators.{number_of, sighted}
 use Rattle.tape.specs.declared.token.Token.{Token}
 use Rattle.tape.specs.declared.token.ContainerKind.TheVariants.{Array}
@@ -50,8 +50,8 @@ use Rattle.rust_tape.proofs.RustKey.{up_same, open_test}
 unfoldable operator_on : ℕ → ℕ → Tape → Machine → After
 operator_on b c t m =
     elim (sighted b c) [
-      | Signs.TheVariants.Sign operator width ↦ lay_then (operator_of (number_of operator)) (m.at + width) ArrayValue t m
-      | Signs.TheVariants.Nothing ↦ refused (UnknownOperator (m.at - 1))
+      | Some sign ↦ lay_then (operator_of (number_of sign.operator)) (m.at + sign.width) ArrayValue t m
+      | None ↦ refused (UnknownOperator (m.at - 1))
     ]
 
 operator_two : (text : List ℕ) (t : Tape) (m : Machine) → operator_then text t m ≡ operator_on (byte_at text m.at) (byte_at text (m.at + 1)) t m

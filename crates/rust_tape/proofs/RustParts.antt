@@ -14,13 +14,13 @@ use lib.Seq.{get_or-drop, drop-drop}
 use Rattle.data.proofs.Cases.{by_bool}
 use Rattle.data.specs.Bytes.{line_feed, hash, quote, at_sign, bracket_open}
 use Rattle.data.specs.Classes.{is_boundary}
-use Rattle.cut.specs.declared.Skipped.{Skipped}
-use Rattle.cut.specs.declared.Skipped.TheVariants.{At, End}
+use Rattle.std.specs.Prelude.{Some, None}
+use Rattle.std.specs.Prelude as Ours
 use Rattle.cut.specs.declared.Cut as Cuts
-use Rattle.cut.specs.declared.Quoted as Quotes
+use Rattle.cut.specs.declared.QuotedRun.{QuotedRun}
 use Rattle.cut.specs.Blanks.{is_blank, blanks_from, comment_from, skip_ws}
 use Rattle.cut.specs.Runs.{stop_from, run_end_of, unquoted_run, run_end}
-use Rattle.cut.specs.Quotes.{quoted_run}
+use Rattle.cut.specs.Quotes.{quoted_run, closed}
 use Rattle.cut.specs.Scalars.{closes_bracket, bracket_run, opens_variable, variable_cut, scalar_cut}
 use Rattle.cut.proofs.Quotes.{quoted_run-closes}
 use Rattle.cut.proofs.Runs.{head_here, run_end-run}
@@ -72,9 +72,9 @@ offset-there text at h =
     minus-there (length text) (length (drop at text)) (rw length-drop (omega arith)) ∙ ap some (start-there text at h)
 
 -- ---- blanks
-abbrev pub from_there : List ℕ → Skipped → Option (List ℕ)
-from_there text (At p) = some (drop p text)
-from_there text End = none
+abbrev pub from_there : List ℕ → Ours.Option ℕ → Option (List ℕ)
+from_there text (Some p) = some (drop p text)
+from_there text None = none
 
 mutual
   unfolding Rust.skip_ws_t Rust.skip_comment_t blanks_from comment_from is_blank
@@ -101,7 +101,7 @@ skip-there : (text : List ℕ) (at : ℕ) → Rust.skip_ws_t (drop at text) ≡ 
 unfolding skip_ws
 skip-there text at = blanks_same text (drop at text) at refl
 
-pub skip-same : (text : List ℕ) (at : ℕ) {s : Skipped} → skip_ws text at ≡ s → Rust.skip_ws_t (drop at text) ≡ from_there text s
+pub skip-same : (text : List ℕ) (at : ℕ) {s : Ours.Option ℕ} → skip_ws text at ≡ s → Rust.skip_ws_t (drop at text) ≡ from_there text s
 skip-same text at e = skip-there text at ∙ ap (from_there text) e
 
 -- ---- an unquoted run, where the cut is ours
@@ -120,15 +120,15 @@ split-same cut text at go h alike =
     rw (Rust.split_scalar, split-count cut text at h alike, slice-there text at (run_end text at - at) fits, start-there text at (omega arith), ends)
 
 -- ---- scalars
-abbrev pub taken_by : List ℕ → List TextToken → (List ℕ → List TextToken → Flow) → Cuts.Cut → Flow
-taken_by text us go (Cuts.TheVariants.Unquoted start end rest) = go (drop rest text) (Rust.push us (Rust.OfScalar Rust.Unquoted start (end - start)))
-taken_by text us go (Cuts.TheVariants.Quoted start end rest escaped) = go (drop rest text) (Rust.push us (Rust.OfScalar Rust.Quoted start (end - start)))
-taken_by text us go Cuts.TheVariants.End = Rust.err Rust.Eof us
+abbrev pub taken_by : List ℕ → List TextToken → (List ℕ → List TextToken → Flow) → Ours.Option Cuts.Cut → Flow
+taken_by text us go (Some (Cuts.TheVariants.Unquoted start end rest)) = go (drop rest text) (Rust.push us (Rust.OfScalar Rust.Unquoted start (end - start)))
+taken_by text us go (Some (Cuts.TheVariants.Quoted start end rest escaped)) = go (drop rest text) (Rust.push us (Rust.OfScalar Rust.Quoted start (end - start)))
+taken_by text us go None = Rust.err Rust.Eof us
 
-by-quoted : {P : Type 0} (q : Quotes.Quoted) → ((k : ℕ) (escaped : Bool) → q ≡ Quotes.TheVariants.Closed k escaped → P)
-    → (q ≡ Quotes.TheVariants.Unclosed → P) → P
-by-quoted (Quotes.TheVariants.Closed k escaped) f g = f k escaped refl
-by-quoted Quotes.TheVariants.Unclosed f g = g refl
+by-quoted : {P : Type 0} (q : Ours.Option QuotedRun) → ((k : ℕ) (escaped : Bool) → q ≡ closed k escaped → P)
+    → (q ≡ None → P) → P
+by-quoted (Some run) f g = f run.length run.escaped refl
+by-quoted None f g = g refl
 
 -- a search that starts at a place, as a scan from 0
 abbrev found : Bool → ℕ → Option ℕ

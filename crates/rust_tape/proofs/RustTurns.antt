@@ -14,7 +14,7 @@ use Rattle.data.specs.Bytes.{exclamation, less_than, equals, greater_than, quest
 use Rattle.cut.proofs.Runs.{head_here}
 use Rattle.cut.specs.Scalars.{scalar_cut}
 use Rattle.operator.specs.declared.Operator as Ours
-use Rattle.operator.specs.declared.Sighted as Signs
+use Rattle.std.specs.Prelude.{Some, None}
 use Rattle.operator.specs.Operators.{sighted}
 use Rattle.tape.specs.declared.token.Token.{Token}
 use Rattle.tape.specs.declared.token.ContainerKind.TheVariants.{Array}
@@ -69,8 +69,8 @@ byte-stands text at b e some_byte =
 unfoldable separator_on : ℕ → ℕ → Tape → Machine → After
 separator_on b c t m =
     elim (sighted b c) [
-      | Signs.TheVariants.Sign operator width ↦ separator_then operator width t m
-      | Signs.TheVariants.Nothing ↦ elim (eqb b brace_open) [
+      | Some sign ↦ separator_then sign.operator sign.width t m
+      | None ↦ elim (eqb b brace_open) [
         | true ↦ next (to m m.at ObjectValue m.count) t
         | false ↦ mix_then t m (λ t' m'. next m' t')
       ]

@@ -1,9 +1,8 @@
 -- The domain of demand 2: no unquoted run of two or more bytes holds a byte on which the Rust's two tables disagree. Told of a whole text by our own cuts
 -- alone, along our own parse with no bound on tokens: the Rust's runs are then the same (`unquoted-alike`), so nothing has to be asked of them.
-use Rattle.std.specs.Prelude.{ℕ, zero, suc, ◌+◌, ◌<◌, ◌≡◌, Bool, true, false, List, [], ◌∷◌, ◌⊎◌, eqb, ltb, length, get_or, drop}
+use Rattle.std.specs.Prelude.{ℕ, zero, suc, ◌+◌, ◌<◌, ◌≡◌, Bool, true, false, List, [], ◌∷◌, Some, None, ◌⊎◌, eqb, ltb, length, get_or, drop}
 use Rattle.data.specs.Bytes.{exclamation, quote, bracket_open, bracket_close, brace_open, brace_close}
 use Rattle.data.specs.Classes.{among}
-use Rattle.cut.specs.declared.Skipped.TheVariants.{At, End}
 use Rattle.cut.specs.Blanks.{skip_ws}
 use Rattle.cut.specs.Runs.{unquoted_run, run_end}
 use Rattle.cut.specs.Scalars.{opens_variable}
@@ -50,7 +49,7 @@ scalar_runs text at =
 
 -- a parameter's value or first key, after blanks
 unfoldable pub value_runs : List ℕ → ℕ → List ℕ
-value_runs text at = elim (skip_ws text at) [ At p ↦ p ∷ [] | End ↦ [] ]
+value_runs text at = elim (skip_ws text at) [ Some p ↦ p ∷ [] | None ↦ [] ]
 
 -- a parameter's name, and what follows it where `]` ends it
 unfoldable pub name_runs : List ℕ → ℕ → List ℕ
@@ -119,7 +118,7 @@ state_runs text m =
 
 -- and after the blanks that every turn skips
 unfoldable pub turn_runs : List ℕ → Machine → List ℕ
-turn_runs text m = elim (skip_ws text m.at) [ At p ↦ state_runs text (to m p m.state m.count) | End ↦ [] ]
+turn_runs text m = elim (skip_ws text m.at) [ Some p ↦ state_runs text (to m p m.state m.count) | None ↦ [] ]
 
 -- ---- a text
 -- a fact holds wherever so many turns of ours, or fewer where they end before, cut an unquoted run

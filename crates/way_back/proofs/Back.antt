@@ -9,7 +9,7 @@ use lib.ListN.{length, drop, length-append}
 use lib.Seq.{get_or-append_seam}
 use Rattle.data.specs.Bytes.{space, equals, brace_open, brace_close}
 use Rattle.data.specs.Classes.{is_boundary}
-use Rattle.cut.specs.declared.Skipped.TheVariants.{At}
+use Rattle.std.specs.Prelude.{Some}
 use Rattle.cut.specs.Blanks.{is_blank, skip_ws}
 use Rattle.tape.specs.declared.token.Token.{Token}
 use Rattle.tape.specs.declared.token.ContainerKind.{ContainerKind}
@@ -92,7 +92,7 @@ abbrev pub Reads : Entry → Type 0
 Reads e =
     (text : List ℕ) (q at : ℕ) (post : List ℕ) (s₀ s : State) (p i : ℕ) (ts : List Token) → Awaits s₀ s → Plain-entry e → Held ts p s
     → i ≡ length ts
-    → skip_ws text q ≡ At at → drop at text ≡ write e ++ post → ends post ≡ true
+    → skip_ws text q ≡ Some at → drop at text ≡ write e ++ post → ends post ≡ true
     → Reaches text (now q s₀ p ts) (now (at + length (write e)) s p (ts ++ flatten e at i))
 
 abbrev pub ReadsPairs : Pairs → Type 0
@@ -233,8 +233,8 @@ record PastFirst (text : List ℕ) (x : After) (at p : ℕ) (ts : List Token) : 
 -- where the next entry or the brace stands
 record Gap (text : List ℕ) (at : ℕ) : Type 0 where
   place : ℕ
-  skip : skip_ws text at ≡ At place
-  again : skip_ws text place ≡ At place
+  skip : skip_ws text at ≡ Some place
+  again : skip_ws text place ≡ Some place
   no_key : follows_key (byte_at text place) ≡ false
 
 gap-behind : (es : Entries) (text : List ℕ) (at : ℕ) (post : List ℕ) → Plain-entries es

@@ -7,12 +7,12 @@ use mathlib.Core.Logic.{inl, inr}
 use Prim.Native.Nat.{ℕ, zero, suc, ◌+◌, ◌≤◌, ◌<◌}
 use native.Mathlib.Omega.{arith}
 use borrow.Author.Tests.{le-ltb}
-use lib.Dec.{eqb, ltb}
+use lib.Dec.{ltb}
 use lib.ListN.{length, drop, length-append}
 use Rattle.data.proofs.Cases.{by_bool}
-use Rattle.operator.specs.declared.Symbol.{Symbol}
-use Rattle.operator.specs.declared.Numbered.{Numbered}
-use Rattle.operator.specs.Operators.{symbol_of, numbered}
+use Rattle.std.specs.Prelude.{Option, Some, None}
+use Rattle.operator.specs.declared.Operator.{Operator}
+use Rattle.operator.specs.Operators.{numbered}
 use Rattle.tape.specs.declared.token.Token.{Token}
 use Rattle.tape.specs.declared.token.ScalarKind.TheVariants.{Unquoted, Quoted, Parameter, UndefinedParameter, Header, QuotedEscape}
 use Rattle.tape.specs.declared.token.Container.{Container}
@@ -37,7 +37,7 @@ use Rattle.writer.specs.declared.Refusal.{Refusal}
 use Rattle.writer.specs.declared.Refusal.TheVariants.{NotSound, TooDeep, TooLong, NoRoom, ReadsOtherwise, OtherForm}
 use Rattle.std.specs.Prelude.{Result, Ok, Err, Option, Some, None}
 use Rattle.put.specs.Parts.{view_of}
-use Rattle.writer.specs.Pieces.{quote_if, symbol_bytes, numbered_bytes, sign_bytes, own_bytes, bare_piece, piece_of}
+use Rattle.writer.specs.Pieces.{quote_if, numbered_bytes, sign_bytes, own_bytes, bare_piece, piece_of}
 use Rattle.writer.specs.Text.{lead, piece_text}
 use Rattle.writer.specs.Scans.{token_size, first_behind, text_size}
 use Rattle.writer.specs.Ranges.{Whole}
@@ -45,23 +45,20 @@ use Rattle.writer.specs.Refusals.{number}
 use Rattle.alike.specs.Alike.{comes_back}
 use Rattle.data.specs.Reasons.{first_of}
 use Rattle.writer.specs.Write.{text_of, formed, too_deep, weigh, read_back, write_of}
-use Rattle.writer.proofs.Sizes.{lead_same, lead_short, quoted-size, view-short}
+use Rattle.writer.proofs.Sizes.{lead_same, lead_short, symbol-short, quoted-size, view-short}
 use Rattle.writer.proofs.Grown.{tokens-on}
 use Rattle.writer.proofs.Scanned.{size-told, size_none}
 use Rattle.way_back.specs.Accepted.{answer_of}
 use Rattle.way_back.specs.Room.{most_added, bytes_for, EnoughRoom, WriteFindsRoom}
 
 -- ---- a token's own bytes
-symbol_short : (s : Symbol) → length (symbol_bytes s) ≤ 2
-symbol_short s = by_bool (eqb s.second 0) (λ e. rw (symbol_bytes, e) (omega arith)) (λ e. rw (symbol_bytes, e) (omega arith))
-
 sign-short : (number : ℕ) → length (sign_bytes number) ≤ 2
 unfolding sign_bytes
 sign-short number = go (numbered number)
   where
-    go : (n : Numbered) → length (numbered_bytes n) ≤ 2
-    go (Numbered.Is operator) = symbol_short (symbol_of operator)
-    go Numbered.Nothing = omega arith
+    go : (n : Option Operator) → length (numbered_bytes n) ≤ 2
+    go (Some operator) = symbol-short operator
+    go None = omega arith
 
 scalar-short : (text : List ℕ) (quoted : Bool) (offset size : ℕ) → length (quote_if quoted (view_of text offset size)) ≤ size + 2
 scalar-short text true offset size = omega (arith, quoted-size (view_of text offset size), view-short text offset size)

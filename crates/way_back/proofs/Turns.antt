@@ -12,11 +12,10 @@ use lib.Seq.{set-append_seam, get_or-append_seam}
 use Rattle.data.proofs.Cases.{by_bool}
 use Rattle.data.specs.Bytes.{equals, brace_open, brace_close, quote}
 use Rattle.data.specs.Classes.{is_boundary}
-use Rattle.cut.specs.declared.Skipped.TheVariants.{At}
+use Rattle.std.specs.Prelude.{Some}
 use Rattle.cut.specs.Blanks.{is_blank, skip_ws}
-use Rattle.operator.specs.declared.Sighted as Sighted
 use Rattle.operator.specs.declared.Operator.TheVariants.{Equal}
-use Rattle.operator.specs.Operators.{sighted}
+use Rattle.operator.specs.Operators.{sign, sighted}
 use Rattle.tape.specs.declared.token.Token.{Token}
 use Rattle.tape.specs.declared.token.ContainerKind.{ContainerKind}
 use Rattle.tape.specs.declared.token.ContainerKind.TheVariants.{Array, Object}
@@ -102,7 +101,7 @@ abbrev pub fresh : Token
 fresh = opener_of Array 0 false
 
 module _ (text : List ℕ) where
-  turn_at : (q at : ℕ) (s : State) (p n : ℕ) (t : Tape) → skip_ws text q ≡ At at
+  turn_at : (q at : ℕ) (s : State) (p n : ℕ) (t : Tape) → skip_ws text q ≡ Some at
       → turn text t (machine q s p n) ≡ state_turn text t (machine at s p n)
   unfolding turn
   turn_at q at s p n t e = rw (turn, e)
@@ -124,7 +123,7 @@ module _ (text : List ℕ) where
       (lay-now (token_of (quoted bs) at) (at + length (write_word (quoted bs))) s ts at s₀ p)
 
   -- Key: a key
-  pub key-word : (k : Word) (q at : ℕ) (post : List ℕ) (p : ℕ) (ts : List Token) → PlainWord k → skip_ws text q ≡ At at
+  pub key-word : (k : Word) (q at : ℕ) (post : List ℕ) (p : ℕ) (ts : List Token) → PlainWord k → skip_ws text q ≡ Some at
       → drop at text ≡ write_word k ++ post → ends post ≡ true
       → turn text (on ts) (machine q Key p (length ts)) ≡ now (at + length (write_word k)) KeyValueSeparator p (ts ++ (token_of k at ∷ []))
   unfolding state_turn key_turn
@@ -134,7 +133,7 @@ module _ (text : List ℕ) where
       rw (state_turn, key_turn, first_byte text at (begun text at (write_word k) post e w), solid_key w.byte w.fits)
       (word_then k at post KeyValueSeparator Key p ts h e n)
 
-  equals-sighted : (b : ℕ) → eqb b equals ≡ false → sighted equals b ≡ Sighted.TheVariants.Sign Equal 1
+  equals-sighted : (b : ℕ) → eqb b equals ≡ false → sighted equals b ≡ sign Equal 1
   unfolding sighted
   equals-sighted b n = rw (sighted, n)
 
@@ -148,7 +147,7 @@ module _ (text : List ℕ) where
 
   -- an entry that is a scalar
   pub value-word : (s₀ s : State) → Awaits s₀ s → (w : Word) (q at : ℕ) (post : List ℕ) (p : ℕ) (ts : List Token) → PlainWord w
-      → skip_ws text q ≡ At at → drop at text ≡ write_word w ++ post → ends post ≡ true
+      → skip_ws text q ≡ Some at → drop at text ≡ write_word w ++ post → ends post ≡ true
       → turn text (on ts) (machine q s₀ p (length ts)) ≡ now (at + length (write_word w)) s p (ts ++ (token_of w at ∷ []))
   unfolding state_turn object_value_turn array_value_turn
   value-word s₀ s in_object k q at post p ts h f e n =
@@ -164,7 +163,7 @@ module _ (text : List ℕ) where
       (word_then k at post ArrayValue ArrayValue p ts h e n)
 
   -- an entry that is a container
-  pub value-brace : (s₀ s : State) → Awaits s₀ s → (q at : ℕ) (post : List ℕ) (p : ℕ) (ts : List Token) → skip_ws text q ≡ At at
+  pub value-brace : (s₀ s : State) → Awaits s₀ s → (q at : ℕ) (post : List ℕ) (p : ℕ) (ts : List Token) → skip_ws text q ≡ Some at
       → drop at text ≡ brace_open ∷ post
       → turn text (on ts) (machine q s₀ p (length ts)) ≡ now (at + 1) ParseOpen p (ts ++ (fresh ∷ []))
   unfolding state_turn object_value_turn array_value_turn open_then value_byte
@@ -217,7 +216,7 @@ module _ (text : List ℕ) where
       (closed Object (opener_of Object p false) at Key s p ts us h)
 
   -- ArrayValue: `}` closes the array
-  pub array-closes : (q at : ℕ) (post : List ℕ) (s : State) (p : ℕ) (ts us : List Token) → Held ts p s → skip_ws text q ≡ At at
+  pub array-closes : (q at : ℕ) (post : List ℕ) (s : State) (p : ℕ) (ts us : List Token) → Held ts p s → skip_ws text q ≡ Some at
       → drop at text ≡ brace_close ∷ post
       → turn text (on (ts ++ (opener_of Array p false ∷ us))) (machine q ArrayValue (length ts) (length (ts ++ (opener_of Array p false ∷ us))))
       ≡ now (at + 1) s p (ts ++ enclosed Array (length ts) us)
@@ -253,7 +252,7 @@ module _ (text : List ℕ) where
   -- a scalar, and the blanks behind it
   open_word : (w : Word) (at : ℕ) (post : List ℕ) (q p : ℕ) (ts : List Token) → PlainWord w → drop at text ≡ write_word w ++ post
       → ends post ≡ true
-      → skip_ws text (at + length (write_word w)) ≡ At q
+      → skip_ws text (at + length (write_word w)) ≡ Some q
       → turn text (on (ts ++ (fresh ∷ []))) (machine at ParseOpen p (length (ts ++ (fresh ∷ []))))
       ≡ elim (follows_key (byte_at text q)) [
         | true ↦ now q KeyValueSeparator (length ts) (ts ++ (opener_of Object p false ∷ token_of w at ∷ []))
@@ -284,7 +283,7 @@ module _ (text : List ℕ) where
   -- a first scalar
   pub open_value : (w : Word) (at : ℕ) (post : List ℕ) (q p : ℕ) (ts : List Token) → PlainWord w → drop at text ≡ write_word w ++ post
       → ends post ≡ true
-      → skip_ws text (at + length (write_word w)) ≡ At q → follows_key (byte_at text q) ≡ false
+      → skip_ws text (at + length (write_word w)) ≡ Some q → follows_key (byte_at text q) ≡ false
       → turn text (on (ts ++ (fresh ∷ []))) (machine at ParseOpen p (length (ts ++ (fresh ∷ []))))
       ≡ now q ArrayValue (length ts) (ts ++ (opener_of Array p false ∷ token_of w at ∷ []))
   open_value w at post q p ts h e n f g = open_word w at post q p ts h e n f ∙ rw g

@@ -1,9 +1,8 @@
 -- What a token is to the writer, and the bytes that are written for it by itself.
-use Rattle.std.specs.Prelude.{ℕ, Bool, true, false, List, [], ◌∷◌, ◌++◌, eqb, Some, None}
+use Rattle.std.specs.Prelude.{ℕ, Bool, true, false, List, [], ◌∷◌, ◌++◌, eqb, Some, None, Option}
 use Rattle.data.specs.Bytes.{quote}
 use Rattle.put.specs.Parts.{view_of}
-use Rattle.operator.specs.declared.Numbered.{Numbered}
-use Rattle.operator.specs.declared.Symbol.{Symbol}
+use Rattle.operator.specs.declared.Operator.{Operator}
 use Rattle.operator.specs.Operators.{symbol_of, numbered}
 use Rattle.tape.specs.declared.token.Token.{Token}
 use Rattle.tape.specs.declared.token.ScalarKind.{ScalarKind}
@@ -59,13 +58,10 @@ abbrev pub quote_if : Bool → List ℕ → List ℕ
 quote_if true bytes = quote ∷ (bytes ++ (quote ∷ []))
 quote_if false bytes = bytes
 
--- an operator's sign: one byte, or two where the second is not 0
-abbrev pub symbol_bytes : Symbol → List ℕ
-symbol_bytes s = elim (eqb s.second 0) [ true ↦ s.first ∷ [] | false ↦ s.first ∷ s.second ∷ [] ]
-
-abbrev pub numbered_bytes : Numbered → List ℕ
-numbered_bytes (Numbered.Is operator) = symbol_bytes (symbol_of operator)
-numbered_bytes Numbered.Nothing = []
+-- an operator's sign, or no byte where there is no operator
+abbrev pub numbered_bytes : Option Operator → List ℕ
+numbered_bytes (Some operator) = symbol_of operator
+numbered_bytes None = []
 
 unfoldable pub sign_bytes : ℕ → List ℕ
 sign_bytes number = numbered_bytes (numbered number)

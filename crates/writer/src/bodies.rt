@@ -13,7 +13,6 @@ ghost use Rattle.writer.specs.Ranges.{Range, Inside, inside_text};
 use crate::dues::{Due, due_after};
 use crate::pieces::{Piece, piece_of, still_first};
 use crate::ranges::behind;
-use operator::Numbered;
 use put::{part, put_byte, put_bytes};
 use tape::token::ContainerKind;
 use tape::words;
@@ -33,20 +32,13 @@ fn put_lead(out: &mut [u8], at: usize, first: bool, due: Due, sign: bool) -> usi
     put_byte(out, at, b' ')
 }
 
-// Puts an operator's sign.
+// Puts the sign of the operator that a number stands for.
 fn put_sign(out: &mut [u8], at: usize, number: u32) -> usize
     ensures { wrote result out.new ≡ append out.old at (sign_bytes number) }
 {
     match operator::operator_numbered(number) {
-        Numbered::Is(operator) => {
-            let symbol = operator.symbol();
-            let next = put_byte(out, at, symbol.first);
-            if symbol.second == 0 {
-                return next;
-            }
-            put_byte(out, next, symbol.second)
-        }
-        Numbered::Nothing => at,
+        Some(operator) => put_bytes(out, at, operator.symbol()),
+        None => at,
     }
 }
 

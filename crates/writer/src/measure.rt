@@ -10,7 +10,6 @@ ghost use Rattle.writer.specs.Write.{text_of};
 ghost use Rattle.writer.specs.Ranges.{Whole};
 
 use crate::pieces::{Piece, piece_of, still_first};
-use operator::Numbered;
 use parse::TEXT_LIMIT;
 use tape::shape::Link;
 use tape::token::Token;
@@ -29,13 +28,8 @@ fn sign_size(number: u32) -> usize
     ensures small { result ≤ 2 }
 {
     match operator::operator_numbered(number) {
-        Numbered::Is(operator) => {
-            if operator.symbol().second == 0 {
-                return 1;
-            }
-            2
-        }
-        Numbered::Nothing => 0,
+        Some(operator) => operator.symbol().len(),
+        None => 0,
     }
 }
 

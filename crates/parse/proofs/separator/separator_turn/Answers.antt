@@ -7,4 +7,4 @@ use Rattle.parse.proofs.separator.separator_turn.Goals as goal
 
 pub separator_then-requires : goal.separator_then-requires
 separator_then-requires c =
-    let w = sighted-width _ _ _ _ (sym c.operator_at.ensures ∙ c.in-Sign.is) in omega (arith, w)
+    let w = sighted-width _ _ _ _ (sym c.operator_at.ensures ∙ c.in-Some.is) in omega (arith, w)

@@ -1,29 +1,19 @@
--- `writer::measure::sign_size` meets its contract: one byte or two, by whether there is a second.
+-- `writer::measure::sign_size` meets its contract: the sign's bytes, two at most, or none.
 -- Assumes nothing.
 use native.Mathlib.Omega.{arith}
-use mathlib.Core.Path.{sym, ap}
-use lib.ListN.{length}
-use mathlib.Core.List.{List}
-use Prim.Native.Nat.{ℕ}
-use Rattle.writer.proofs.Sizes.{sign_single, sign_double, sign-none}
+use Rattle.writer.specs.Pieces.{sign_bytes}
+use Rattle.writer.proofs.Sizes.{symbol-short}
 use Rattle.writer.proofs.measure.sign_size.Goals as goal
 
-pub returns-then-symbol-eq0 : goal.returns-then-symbol-eq0
-returns-then-symbol-eq0 c =
-    let signed =
-    sign_single _ c.operator_numbered.ensures c.in-Is.is c.symbol.ensures
-    c.if-symbol-eq0.true
-    in
-    record { exact = sym (ap (λ (l : List ℕ). length l) signed); small = omega arith }
+pub returns-in-Some : goal.returns-in-Some
+unfolding sign_bytes
+returns-in-Some c =
+    record {
+      exact = rw (sign_bytes, ← c.operator_numbered.ensures, c.in-Some.is, ← c.symbol.ensures);
+      small = rw c.symbol.ensures (symbol-short _);
+    }
 
-pub returns-else-symbol-eq0 : goal.returns-else-symbol-eq0
-returns-else-symbol-eq0 c =
-    let signed =
-    sign_double _ c.operator_numbered.ensures c.in-Is.is c.symbol.ensures
-    c.if-symbol-eq0.false
-    in
-    record { exact = sym (ap (λ (l : List ℕ). length l) signed); small = omega arith }
-
-pub returns-in-Nothing : goal.returns-in-Nothing
-returns-in-Nothing c =
-    record { exact = sym (ap (λ (l : List ℕ). length l) (sign-none _ c.operator_numbered.ensures c.in-Nothing.is)); small = omega arith }
+pub returns-in-None : goal.returns-in-None
+unfolding sign_bytes
+returns-in-None c =
+    record { exact = rw (sign_bytes, ← c.operator_numbered.ensures, c.in-None.is); small = omega arith }
