@@ -5,12 +5,12 @@ use Rattle.machine.specs.declared.Refusal.{Refusal}
 use Rattle.machine.specs.declared.Parsed.{Parsed}
 
 -- so many tokens, with a BOM or without
-abbrev pub parsed : ℕ → Bool → Result Result Parsed Refusal Refusal
+abbrev pub parsed : ℕ → Bool → Result Parsed Refusal
 parsed count bom = Ok (record { count = count; bom = bom })
 
 -- an answer with the words that it leaves
 pub data Outcome : Type 0 where
-  outcome : Result Result Parsed Refusal Refusal → List ℕ → Outcome
+  outcome : Result Parsed Refusal → List ℕ → Outcome
 
 -- A parse refusal zeroes the whole tape and reports no BOM
 abbrev pub refuse : ℕ → Refusal → Outcome

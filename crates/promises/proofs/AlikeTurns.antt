@@ -127,7 +127,7 @@ and_one-few c false = omega arith
 
 -- ---- what each move pays
 -- a parent that is taken up
-resumed-mixes : (up : Option Option Container) → Mixes (state_in up) (mixed_in up)
+resumed-mixes : (up : Option Container) → Mixes (state_in up) (mixed_in up)
 resumed-mixes (Container.Opened Array link mixed) = tt
 resumed-mixes (Container.Opened Object link true) = tt
 resumed-mixes (Container.Opened Object link false) = refl
@@ -189,10 +189,10 @@ module _ (text : List ℕ) (budget : ℕ) (m : Machine) (ts : List Token) (sized
       let x : Token = headed (token_in ts (m.count - 1)) in
       (refl, added_sized (set ts (m.count - 1) x) m.count unsettled (length-set ts (m.count - 1) x ∙ sized), tt, omega arith)
   move_pays (closes {kind} s e) =
-      let up : Option Option Container = container_in ts (above ts m.parent) in
+      let up : Option Container = container_in ts (above ts m.parent) in
       (refl, closed-sized m.parent _ ts m.count sized, resumed-mixes up, omega (arith, spare-few (state_in up)))
   move_pays (empties e) =
-      let up : Option Option Container = container_in ts m.parent in
+      let up : Option Container = container_in ts m.parent in
       (refl, closed-sized (m.count - 1) _ ts m.count sized, resumed-mixes up, omega (arith, spare-few (state_in up)))
   move_pays (settles e) = (omega arith, length-set ts _ _ ∙ sized, tt, omega arith)
   move_pays (begins {x} {rest} {at} {kind} {state} e taken h s) =

@@ -81,7 +81,7 @@ told-left len (outcome (Err r) ws) h =
     record { parsed = λ e. absurd (numbered r e); refused = λ some. record { zero_all = h; no_token = refl; no_bom = refl } }
 
 -- whatever answer and tape the contract of `parse` allows
-pub parse_zeroes : (κs : _) (args : _) (r : Result Result Parsed Refusal Refusal) (xs : _) → parse.Post κs args r xs
+pub parse_zeroes : (κs : _) (args : _) (r : Result Parsed Refusal) (xs : _) → parse.Post κs args r xs
     → let tape_lent : List ℕ = args.1.0.now in
     let tape_left : List ℕ = xs.1.0.now in
     Demand1 (length tape_lent) (tell_parse (outcome r tape_left))

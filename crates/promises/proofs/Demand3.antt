@@ -48,7 +48,7 @@ parse_sound text len count bom words e =
     }
 
 -- ---- of the contracts of `parse` and `check` themselves
-told-passes : (text : List ℕ) (len : ℕ) (r : Result Result Parsed Refusal Refusal) (words : List ℕ) → outcome r words ≡ parse_of text len
+told-passes : (text : List ℕ) (len : ℕ) (r : Result Parsed Refusal) (words : List ℕ) → outcome r words ≡ parse_of text len
     → (words_for (most_tokens (length text)) ≤ len → r ≡ Err Full → ⊥)
     → Demand3 text len (tell_parse (outcome r words))
 told-passes text len (Ok p) words e room =
@@ -57,7 +57,7 @@ told-passes text len (Err r) words e room =
     record { sound = λ z. absurd (numbered r z); never_full = λ h f. room h (full-told (Err r) words f) }
 
 -- whatever answer and tape the contract of `parse` allows
-pub parse_passes : (κs : _) (args : _) (r : Result Result Parsed Refusal Refusal) (xs : _) → parse.Post κs args r xs
+pub parse_passes : (κs : _) (args : _) (r : Result Parsed Refusal) (xs : _) → parse.Post κs args r xs
     → let text_lent : List ℕ = args.0.now in
     let tape_lent : List ℕ = args.1.0.now in
     let tape_left : List ℕ = xs.1.0.now in

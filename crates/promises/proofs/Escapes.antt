@@ -185,13 +185,13 @@ module _ (text : List ℕ) where
       each_at (Says text) (tokens_in words count) i (silent no_token (λ c. omega arith) (λ c. omega arith)) ended.1
 
 -- ---- of the contract of `parse` itself
-told_says : (text : List ℕ) (len : ℕ) (r : Result Result Parsed Refusal Refusal) (words : List ℕ) → outcome r words ≡ parse_of text len
+told_says : (text : List ℕ) (len : ℕ) (r : Result Parsed Refusal) (words : List ℕ) → outcome r words ≡ parse_of text len
     → EscapesTold text (tell_parse (outcome r words))
 told_says text len (Ok p) words e = λ z. parse_says text len p.count p.bom words (sym e)
 told_says text len (Err r) words e = λ z. absurd (numbered r z)
 
 -- whatever answer and tape it allows
-pub parse_tells : (κs : _) (args : _) (r : Result Result Parsed Refusal Refusal) (xs : _) → parse.Post κs args r xs
+pub parse_tells : (κs : _) (args : _) (r : Result Parsed Refusal) (xs : _) → parse.Post κs args r xs
     → let text_lent : List ℕ = args.0.now in
     let tape_left : List ℕ = xs.1.0.now in
     EscapesTold text_lent (tell_parse (outcome r tape_left))

@@ -20,13 +20,13 @@ use Rattle.promises.specs.Room.{unbounded_parse, laid_down, refusal_told}
 use Rattle.promises.proofs.Room.{full-exactly, same_otherwise}
 use Rattle.machine.specs.declared.Refusal.{Refusal}
 
-pub parse_full-exactly : (κs : _) (args : _) (r : Result Result Parsed Refusal Refusal) (xs : _) → parse.Post κs args r xs
+pub parse_full-exactly : (κs : _) (args : _) (r : Result Parsed Refusal) (xs : _) → parse.Post κs args r xs
     → let text_lent = args.0.now in
     let tape_lent = args.1.0.now in
     (r ≡ Err Full) ↔ (capacity (length tape_lent) < laid_down text_lent)
 parse_full-exactly κs args r xs p = full-exactly args.0.now (length args.1.0.now) r xs.1.0.now p
 
-pub parse_same-otherwise : (κs : _) (args : _) (r : Result Result Parsed Refusal Refusal) (xs : _) → parse.Post κs args r xs → (r ≡ Err Full → ⊥)
+pub parse_same-otherwise : (κs : _) (args : _) (r : Result Parsed Refusal) (xs : _) → parse.Post κs args r xs → (r ≡ Err Full → ⊥)
     → let text_lent = args.0.now in
     let tape_lent = args.1.0.now in
     let tape_left = xs.1.0.now in
@@ -34,7 +34,7 @@ pub parse_same-otherwise : (κs : _) (args : _) (r : Result Result Parsed Refusa
 parse_same-otherwise κs args r xs p n = same_otherwise args.0.now (length args.1.0.now) r xs.1.0.now p n
 
 -- refusal 11 is told of Full alone
-pub full-told : (r : Result Result Parsed Refusal Refusal) (words : List ℕ) → refusal_told (tell_parse (outcome r words)) ≡ number Full → r ≡ Err Full
+pub full-told : (r : Result Parsed Refusal) (words : List ℕ) → refusal_told (tell_parse (outcome r words)) ≡ number Full → r ≡ Err Full
 full-told (Ok p) words e = absurd (omega arith)
 full-told (Err Refusals.TheVariants.TooLong) words e = absurd (omega arith)
 full-told (Err Refusals.TheVariants.Eof) words e = absurd (omega arith)

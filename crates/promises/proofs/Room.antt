@@ -211,19 +211,19 @@ unbounded-never_full text len ws e =
 
 -- Whatever answer and tape the contract of `parse` allows, the answer is Full exactly when the parse with no bound lays down more tokens
 -- than the tape has room for.
-pub full-exactly : (text : List ℕ) (len : ℕ) (r : Result Result Parsed Refusal Refusal) (ws : List ℕ) → outcome r ws ≡ parse_of text len
+pub full-exactly : (text : List ℕ) (len : ℕ) (r : Result Parsed Refusal) (ws : List ℕ) → outcome r ws ≡ parse_of text len
     → (r ≡ Err Full) ↔ (capacity len < laid_down text)
 full-exactly text len r ws e = (
   λ f. by_bool (ltb (capacity len) (laid_down text))
       (λ g. ltb-true _ _ g)
       (λ g. absurd (unbounded-never_full text len ws
-      (ap (λ (x : Result Result Parsed Refusal Refusal). outcome x ws) (sym f) ∙ e ∙ same_with_room text len (ltb-false _ _ g)))),
+      (ap (λ (x : Result Parsed Refusal). outcome x ws) (sym f) ∙ e ∙ same_with_room text len (ltb-false _ _ g)))),
   λ h. let g : parse_of text len ≡ refuse len Full = full-past-room text len h in
       cc,
 )
 
 -- and any other answer is that of the parse with no bound
-pub same_otherwise : (text : List ℕ) (len : ℕ) (r : Result Result Parsed Refusal Refusal) (ws : List ℕ) → outcome r ws ≡ parse_of text len → (r ≡ Err Full → ⊥)
+pub same_otherwise : (text : List ℕ) (len : ℕ) (r : Result Parsed Refusal) (ws : List ℕ) → outcome r ws ≡ parse_of text len → (r ≡ Err Full → ⊥)
     → outcome r ws ≡ unbounded_parse text len
 same_otherwise text len r ws e n =
     by_bool (ltb (capacity len) (laid_down text))

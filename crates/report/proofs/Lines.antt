@@ -36,7 +36,7 @@ lines_none ts i all e h =
     rw (drop_of_length-le ts past)
 
 -- the dump of a text that parses, and of one that is refused
-pub dump-tokens : (text ws : List ℕ) (len count : ℕ) (bom : Bool) (p : Result Result Parsed Refusal Refusal) → outcome p ws ≡ parse_of text len → p ≡ parsed count bom
+pub dump-tokens : (text ws : List ℕ) (len count : ℕ) (bom : Bool) (p : Result Parsed Refusal) → outcome p ws ≡ parse_of text len → p ≡ parsed count bom
     → header_of count (bit bom) ++ lines_from 0 (tokens_in ws count) ≡ dump_of text len
 unfolding dump_of lines_of
 dump-tokens text ws len count bom p e told = rw (dump_of, ← e, told)
@@ -56,7 +56,7 @@ refusal_told (NoParameter p) ws = refl
 refusal_told (OpenName p) ws = refl
 refusal_told Full ws = refl
 
-pub dump-refused : (text ws : List ℕ) (len n at : ℕ) (r : Refusal) (p : Result Result Parsed Refusal Refusal) → outcome p ws ≡ parse_of text len → p ≡ Err r
+pub dump-refused : (text ws : List ℕ) (len n at : ℕ) (r : Refusal) (p : Result Parsed Refusal) → outcome p ws ≡ parse_of text len → p ≡ Err r
     → n ≡ number r → at ≡ place r → refused_of n at ≡ dump_of text len
 unfolding dump_of
 dump-refused text ws len n at r p e told numbered placed = rw (numbered, placed, dump_of, ← e, told) (sym (refusal_told r ws))

@@ -123,7 +123,7 @@ unfolding refused_of
 refused-short number place h k = simp length-append (omega (arith, number_short number h, number_short place k))
 
 -- ---- so that the dump of any text is held, and with it what the program prints
-pub dump-held : (text ws : List ℕ) (len count : ℕ) (bom : Bool) (p : Result Result Parsed Refusal Refusal) → outcome p ws ≡ parse_of text len → p ≡ parsed count bom
+pub dump-held : (text ws : List ℕ) (len count : ℕ) (bom : Bool) (p : Result Parsed Refusal) → outcome p ws ≡ parse_of text len → p ≡ parsed count bom
     → Fit ws → length ws ≡ len → count < 2 ^ 32 → Held (dump_of text len) len
 dump-held text ws len count bom p e told fit kept small tokens room =
     let most = tokens-length ws count in
@@ -134,7 +134,7 @@ dump-held text ws len count bom p e told fit kept small tokens room =
       lines-short (tokens_in ws count) 0 (λ j. tokens-short ws count j fit) (omega arith),
     ))
 
-pub refusal-held : (text ws : List ℕ) (len n at : ℕ) (r : Refusal) (p : Result Result Parsed Refusal Refusal) → outcome p ws ≡ parse_of text len → p ≡ Err r
+pub refusal-held : (text ws : List ℕ) (len n at : ℕ) (r : Refusal) (p : Result Parsed Refusal) → outcome p ws ≡ parse_of text len → p ≡ Err r
     → n ≡ number r → at ≡ place r → n < 2 ^ 64 → at < 2 ^ 64 → Held (dump_of text len) len
 refusal-held text ws len n at r p e told numbered placed small near tokens room =
     rw (← dump-refused text ws len n at r p e told numbered placed) (omega (arith, refused-short n at small near))

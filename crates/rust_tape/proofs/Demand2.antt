@@ -25,7 +25,7 @@ use Rattle.promises.proofs.Full.{parse_full-exactly, parse_same-otherwise, full-
 use Rattle.rust_tape.proofs.RustParse.{runs_by_our_cut, rust_runs}
 use Rattle.machine.specs.declared.Refusal.{Refusal}
 
-module _ (κs : _) (args : _) (r : Result Result Parsed Refusal Refusal) (xs : _) (post : parse.Post κs args r xs) where
+module _ (κs : _) (args : _) (r : Result Parsed Refusal) (xs : _) (post : parse.Post κs args r xs) where
   -- the text and the tape as they are lent, the tape as it is left, and what is told of it
   abbrev text_lent : List ℕ
   text_lent = args.0.now
@@ -43,7 +43,7 @@ module _ (κs : _) (args : _) (r : Result Result Parsed Refusal Refusal) (xs : _
   runs_answer : (cut : List ℕ → ℕ) → RunsBy cut text_lent → AnswersBy cut text_lent (length tape_lent) told
   runs_answer cut runs =
       let room : (r ≡ Err Full) ↔ (capacity (length tape_lent) < laid_down text_lent) = parse_full-exactly κs args r xs post in
-      let tells : r ≡ Err Full → refusal_told told ≡ number Full = λ e. ap (λ (s : Result Result Parsed Refusal Refusal). refusal_told (tell_parse (outcome s tape_left))) e in
+      let tells : r ≡ Err Full → refusal_told told ≡ number Full = λ e. ap (λ (s : Result Parsed Refusal). refusal_told (tell_parse (outcome s tape_left))) e in
       record {
         full = (λ e. rw runs.laid (room.0 (full-told r tape_left e)), λ h. tells (room.1 (rw runs.laid at h)));
         otherwise = λ other.

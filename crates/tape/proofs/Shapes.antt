@@ -26,7 +26,7 @@ use Rattle.tape.proofs.Makers.{code-names, scalar-container}
 
 -- ---- the shape, by the tests that lead to it
 pub shape-opened : (t : Token) {kind : ContainerKind} {link : ℕ} {mixed : Bool} → container_of t ≡ opened kind link mixed → stores_flag t.b ≡ true
-    → Some (Some (Opener link)) ≡ shape_of t
+    → Some (Opener link) ≡ shape_of t
 unfolding shape_of
 shape-opened t e f = rw (shape_of, e, f)
 
@@ -36,7 +36,7 @@ unfolding shape_of
 shape_misflagged t e f = rw (shape_of, e, f)
 
 pub shape-named : (t : Token) {kind : ScalarKind} → container_of t ≡ None → scalar_named t.code ≡ Some kind
-    → Some (Some (Scalar kind t.a t.b)) ≡ shape_of t
+    → Some (Scalar kind t.a t.b) ≡ shape_of t
 unfolding shape_of
 shape-named t e f = rw (shape_of, e, f)
 
@@ -51,25 +51,25 @@ unfolding shape_of
 shape-over t e f z = rw (shape_of, e, f, ne_eqb t.b 0 z)
 
 -- ---- what each maker makes has its shape
-pub opener-shape : (kind : ContainerKind) (end : ℕ) (mixed : Bool) → shape_of (opener_of kind end mixed) ≡ Some (Some (Opener end))
+pub opener-shape : (kind : ContainerKind) (end : ℕ) (mixed : Bool) → shape_of (opener_of kind end mixed) ≡ Some (Opener end)
 unfolding shape_of container_of
 opener-shape Array end true = refl
 opener-shape Array end false = refl
 opener-shape Object end true = refl
 opener-shape Object end false = refl
 
-pub mixed_container-shape : shape_of mixed_container_token ≡ (Some (Some MixedContainer))
+pub mixed_container-shape : shape_of mixed_container_token ≡ (Some MixedContainer)
 unfolding shape_of container_of scalar_named bare_shape
 mixed_container-shape = refl
 
-pub scalar-shape : (kind : ScalarKind) (offset size : ℕ) → shape_of (scalar_of kind offset size) ≡ Some (Some (Scalar kind offset size))
+pub scalar-shape : (kind : ScalarKind) (offset size : ℕ) → shape_of (scalar_of kind offset size) ≡ Some (Scalar kind offset size)
 scalar-shape kind offset size = sym (shape-named (scalar_of kind offset size) (scalar-container kind offset size) (code-names kind))
 
-pub operator-shape : (number : ℕ) → least_operator ≤ number → number ≤ greatest_operator → shape_of (operator_of number) ≡ Some (Some (Operator number))
+pub operator-shape : (number : ℕ) → least_operator ≤ number → number ≤ greatest_operator → shape_of (operator_of number) ≡ Some (Operator number)
 unfolding shape_of container_of scalar_named bare_shape
 operator-shape number low high = rw (shape_of, bare_shape, le-ltb number least_operator low, le-ltb greatest_operator number high)
 
-pub end-shape : (opener : ℕ) → shape_of (end_of opener) ≡ Some (Some (End opener))
+pub end-shape : (opener : ℕ) → shape_of (end_of opener) ≡ Some (End opener)
 unfolding shape_of container_of scalar_named bare_shape
 end-shape opener = refl
 
@@ -78,17 +78,17 @@ unfolding shape_of container_of scalar_named bare_shape
 no-shape = refl
 
 -- a container's opener has the shape of one
-pub opens-shape : (t : Token) {end : ℕ} → Opens t end → shape_of t ≡ Some (Some (Opener end))
+pub opens-shape : (t : Token) {end : ℕ} → Opens t end → shape_of t ≡ Some (Opener end)
 opens-shape t {end} o = ap shape_of o.2 ∙ opener-shape o.0 end o.1
 
 -- ---- and what has a shape was made so
 -- how a token of a shape was made
-abbrev pub Made : Token → Option Option Shape → Type 0
-Made t (Some (Some (Opener end))) = Opens t end
-Made t (Some (Some MixedContainer)) = t ≡ mixed_container_token
-Made t (Some (Some (Scalar kind offset size))) = t ≡ scalar_of kind offset size
-Made t (Some (Some (Operator number))) = (least_operator ≤ number) × (number ≤ greatest_operator) × (t ≡ operator_of number)
-Made t (Some (Some (End opener))) = t ≡ end_of opener
+abbrev pub Made : Token → Option Shape → Type 0
+Made t (Some (Opener end)) = Opens t end
+Made t (Some MixedContainer) = t ≡ mixed_container_token
+Made t (Some (Scalar kind offset size)) = t ≡ scalar_of kind offset size
+Made t (Some (Operator number)) = (least_operator ≤ number) × (number ≤ greatest_operator) × (t ≡ operator_of number)
+Made t (Some (End opener)) = t ≡ end_of opener
 Made t None = Unit
 
 same_token : (t : Token) {c a b : ℕ} → t.code ≡ c → t.a ≡ a → t.b ≡ b → t ≡ record { code = c; a = a; b = b }
@@ -171,36 +171,36 @@ made t = by-container (container-told t)
     by-container (inr e) = by_scalar e (scalar-told t.code)
 
 -- of a shape that is known
-pub shape-made : (t : Token) {s : Option Option Shape} → shape_of t ≡ s → Made t s
-shape-made t {s} e = subst (λ (x : Option Option Shape). Made t x) e (made t)
+pub shape-made : (t : Token) {s : Option Shape} → shape_of t ≡ s → Made t s
+shape-made t {s} e = subst (λ (x : Option Shape). Made t x) e (made t)
 
 -- ---- the links are those of openers and Ends
-pub opens-link : (t : Token) {end : ℕ} → Opens t end → link_of t ≡ Some (Some (ToEnd end))
+pub opens-link : (t : Token) {end : ℕ} → Opens t end → link_of t ≡ Some (ToEnd end)
 opens-link t o = ap linked (opens-shape t o)
 
-pub end-link : (t : Token) {opener : ℕ} → t ≡ end_of opener → link_of t ≡ Some (Some (ToOpener opener))
+pub end-link : (t : Token) {opener : ℕ} → t ≡ end_of opener → link_of t ≡ Some (ToOpener opener)
 end-link t {opener} e = ap link_of e ∙ ap linked (end-shape opener)
 
 -- what a token that names another, or none, is
-abbrev pub Linking : Token → Option Option Link → Type 0
-Linking t (Some (Some (ToEnd end))) = Opens t end
-Linking t (Some (Some (ToOpener opener))) = t ≡ end_of opener
+abbrev pub Linking : Token → Option Link → Type 0
+Linking t (Some (ToEnd end)) = Opens t end
+Linking t (Some (ToOpener opener)) = t ≡ end_of opener
 Linking t None = Unit
 
-linking : (t : Token) (s : Option Option Shape) → Made t s → Linking t (linked s)
-linking t (Some (Some (Opener end))) m = m
-linking t (Some (Some MixedContainer)) m = tt
-linking t (Some (Some (Scalar kind offset size))) m = tt
-linking t (Some (Some (Operator number))) m = tt
-linking t (Some (Some (End opener))) m = m
+linking : (t : Token) (s : Option Shape) → Made t s → Linking t (linked s)
+linking t (Some (Opener end)) m = m
+linking t (Some MixedContainer) m = tt
+linking t (Some (Scalar kind offset size)) m = tt
+linking t (Some (Operator number)) m = tt
+linking t (Some (End opener)) m = m
 linking t None m = tt
 
-pub link-made : (t : Token) {l : Option Option Link} → link_of t ≡ l → Linking t l
-link-made t e = subst (λ (x : Option Option Link). Linking t x) e (linking t (shape_of t) (made t))
+pub link-made : (t : Token) {l : Option Link} → link_of t ≡ l → Linking t l
+link-made t e = subst (λ (x : Option Link). Linking t x) e (linking t (shape_of t) (made t))
 
 -- a token that names none neither opens nor ends
 pub unlinked-opens : (t : Token) {end : ℕ} → link_of t ≡ None → Opens t end → ⊥
 unlinked-opens t e o = differ (opens-link t o) e
   where
-    differ : {l : Option Option Link} {end : ℕ} → l ≡ Some (Some (ToEnd end)) → l ≡ None → ⊥
+    differ : {l : Option Link} {end : ℕ} → l ≡ Some (ToEnd end) → l ≡ None → ⊥
     differ f g = let z : ◌≡◌ {A = ℕ} 0 1 = cc in omega arith

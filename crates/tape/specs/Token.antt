@@ -134,7 +134,7 @@ nth ts i = get_or ts i no_token
 
 -- ---- what a token is
 -- a container of a kind, with its link and its flag
-abbrev pub opened : ContainerKind → ℕ → Bool → Option Option Container
+abbrev pub opened : ContainerKind → ℕ → Bool → Option Container
 opened kind link mixed = Some (record { kind = kind; link = link; mixed = mixed })
 
 -- the kind of container that a code names, or none
@@ -146,7 +146,7 @@ container_named code =
     ]
 
 -- an opener with its kind, link and stored flag, or none
-unfoldable pub container_of : Token → Option Option Container
+unfoldable pub container_of : Token → Option Container
 container_of t =
     elim (eqb t.code array_code) [
       | true ↦ opened Array t.a (flag_of t.b)
@@ -173,15 +173,15 @@ abbrev pub headed : Token → Token
 headed t = scalar_of Header t.a t.b
 
 -- the same opener with another link, another flag, or as another kind; a token that opens nothing stays as it is
-abbrev pub relink : Token → Option Option Container → ℕ → Token
+abbrev pub relink : Token → Option Container → ℕ → Token
 relink t (Some container) other = opener_of container.kind other container.mixed
 relink t None other = t
 
-abbrev pub reflag : Token → Option Option Container → Bool → Token
+abbrev pub reflag : Token → Option Container → Bool → Token
 reflag t (Some container) other = opener_of container.kind container.link other
 reflag t None other = t
 
-abbrev pub rekind : Token → Option Option Container → ContainerKind → Token
+abbrev pub rekind : Token → Option Container → ContainerKind → Token
 rekind t (Some container) other = opener_of other container.link container.mixed
 rekind t None other = t
 

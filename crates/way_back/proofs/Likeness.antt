@@ -87,21 +87,21 @@ module _ (text other : List ℕ) where
   -- a token that is no scalar, by its shape
   agree_shape : (x : Token) → scalar_named x.code ≡ None → (s : Shape.Shape) → shape_of x ≡ s
       → Agrees text other (bare_piece s) (bare_piece s)
-  agree_shape x n (Some (Some (Shape.TheVariants.Scalar kind a size))) e =
+  agree_shape x n (Some (Shape.TheVariants.Scalar kind a size)) e =
       let m : x ≡ scalar_of kind a size = shape-made x e in
       let c : scalar_named x.code ≡ Some kind = ap (λ (z : Token). scalar_named z.code) m ∙ code-names kind in
       let z : ◌≡◌ {A = ℕ} 0 1 = cc in absurd (omega arith)
-  agree_shape x n (Some (Some (Shape.TheVariants.Operator number))) e = agree_sign number
-  agree_shape x n (Some (Some Shape.TheVariants.MixedContainer)) e = agree_mixed
-  agree_shape x n (Some (Some (Shape.TheVariants.Opener link))) e = agree_other
-  agree_shape x n (Some (Some (Shape.TheVariants.End opener))) e = agree_other
+  agree_shape x n (Some (Shape.TheVariants.Operator number)) e = agree_sign number
+  agree_shape x n (Some Shape.TheVariants.MixedContainer) e = agree_mixed
+  agree_shape x n (Some (Shape.TheVariants.Opener link)) e = agree_other
+  agree_shape x n (Some (Shape.TheVariants.End opener)) e = agree_other
   agree_shape x n None e = agree_other
 
   piece-opened : (x : Token) (kind : ContainerKind) (end : ℕ) (flag : Bool) → container_of x ≡ opened kind end flag → piece_of x ≡ Opener kind end
   unfolding piece_of
   piece-opened x kind end flag e = rw (piece_of, e)
 
-  agree_bare : (x : Token) → scalar_named x.code ≡ None → (c : Option Option Container) → container_of x ≡ c
+  agree_bare : (x : Token) → scalar_named x.code ≡ None → (c : Option Container) → container_of x ≡ c
       → Agrees text other (piece_of x) (piece_of x)
   agree_bare x n (Some container) e = rw (piece-opened x container.kind container.link container.mixed e) (agree_opener container.kind container.link)
   agree_bare x n None e = rw (leaf-piece x e) (agree_shape x n (shape_of x) refl)
@@ -150,7 +150,7 @@ module _ (text other : List ℕ) where
   -- ---- sheets
   module _ (ts us : List Token) (h : alike text other ts us ≡ true) where
     one_step : (n i j : ℕ) → i < j → ((i j : ℕ) → Like text other (forest_in n ts i j) (forest_in n us i j))
-        → (c : Option Option Container) → container_of (nth ts i) ≡ c → Like text other (forest_in (suc n) ts i j) (forest_in (suc n) us i j)
+        → (c : Option Container) → container_of (nth ts i) ≡ c → Like text other (forest_in (suc n) ts i j) (forest_in (suc n) us i j)
     one_step n i j l ih (Some container) c =
         let d = one-container text other (nth ts i) (nth us i) (alike_at text other ts us h i) ∙ c in
         rw (takes-box ts n i j l c, takes-box us n i j l d) (boxes (ih (i + 1) container.link) (ih (container.link + 1) j))

@@ -34,15 +34,15 @@ if_then : (a b : Bool) → (not a || b) ≡ true → a ≡ true → b ≡ true
 if_then true b h e = h
 if_then false b h e = absurd (false≢true e)
 
-unfoldable pub opens : Option Option Link → Bool
-opens (Some (Some (ToEnd end))) = true
-opens (Some (Some (ToOpener opener))) = false
+unfoldable pub opens : Option Link → Bool
+opens (Some (ToEnd end)) = true
+opens (Some (ToOpener opener)) = false
 opens None = false
 
-opens-told : (t : Token) (l : Option Option Link) → link_of t ≡ l → opens l ≡ true → (end : ℕ) × Opens t end
+opens-told : (t : Token) (l : Option Link) → link_of t ≡ l → opens l ≡ true → (end : ℕ) × Opens t end
 unfolding opens
-opens-told t (Some (Some (ToEnd end))) e h = (end, link-made t e)
-opens-told t (Some (Some (ToOpener opener))) e h = absurd (false≢true h)
+opens-told t (Some (ToEnd end)) e h = (end, link-made t e)
+opens-told t (Some (ToOpener opener)) e h = absurd (false≢true h)
 opens-told t None e h = absurd (false≢true h)
 
 -- an opener that names i
@@ -88,23 +88,23 @@ of_below (suc n) test h i l =
 
 module _ (L : ℕ) (ts : List Token) where
   -- ---- each token by its shape
-  unfoldable pub stands : ℕ → Option Option Shape → Bool
-  stands i (Some (Some (Opener end))) = ltb 0 i && (ltb i end && ends_at (nth ts end) i)
-  stands i (Some (Some MixedContainer)) = true
-  stands i (Some (Some (Scalar kind offset size))) =
+  unfoldable pub stands : ℕ → Option Shape → Bool
+  stands i (Some (Opener end)) = ltb 0 i && (ltb i end && ends_at (nth ts end) i)
+  stands i (Some MixedContainer) = true
+  stands i (Some (Scalar kind offset size)) =
       leb (offset + size) L && ((not (eqb size 0) || may_be_empty kind) && (not (is_header kind) || opens (link_of (nth ts (i + 1)))))
-  stands i (Some (Some (Operator number))) = true
-  stands i (Some (Some (End opener))) = ltb opener i && opens_to (nth ts opener) i
+  stands i (Some (Operator number)) = true
+  stands i (Some (End opener)) = ltb opener i && opens_to (nth ts opener) i
   stands i None = false
 
-  held : (i : ℕ) (s : Option Option Shape) → shape_of (nth ts i) ≡ s → stands i s ≡ true → Held L ts i
+  held : (i : ℕ) (s : Option Shape) → shape_of (nth ts i) ≡ s → stands i s ≡ true → Held L ts i
   unfolding stands
-  held i (Some (Some (Opener end))) e h =
+  held i (Some (Opener end)) e h =
       let g = second_of (ltb 0 i) _ h in
       let named : (i < end) × (nth ts end ≡ end_of i) = (ltb-true i end (first_of _ _ g), ends_at-told (nth ts end) i (second_of (ltb i end) _ g)) in
       (opener-held L ts i e (λ z. omega (arith, ltb-true 0 i (first_of _ _ h))) (told-yes named)).0 refl
-  held i (Some (Some MixedContainer)) e h = (mixed_container-held L ts i e).0 refl
-  held i (Some (Some (Scalar kind offset size))) e h =
+  held i (Some MixedContainer) e h = (mixed_container-held L ts i e).0 refl
+  held i (Some (Scalar kind offset size)) e h =
       let g = second_of (leb (offset + size) L) _ h in
       let headed = second_of (not (eqb size 0) || may_be_empty kind) _ g in
       (scalar-held L ts i e (told-yes record {
@@ -112,8 +112,8 @@ module _ (L : ℕ) (ts : List Token) where
         filled = λ z. if_then (eqb size 0) _ (first_of _ _ g) (eq-eqb size 0 z);
         headed = λ k. opens-told (nth ts (i + 1)) _ refl (if_then (is_header kind) _ headed k);
       })).0 refl
-  held i (Some (Some (Operator number))) e h = (operator-held L ts i e).0 refl
-  held i (Some (Some (End opener))) e h =
+  held i (Some (Operator number)) e h = (operator-held L ts i e).0 refl
+  held i (Some (End opener)) e h =
       (end-held L ts i e (told-yes (ltb-true opener i (first_of _ _ h), opens_to-told (nth ts opener) i (second_of (ltb opener i) _ h)))).0 refl
   held i None e h = absurd (false≢true h)
 

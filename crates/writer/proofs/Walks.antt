@@ -52,11 +52,11 @@ scalar-bare Parameter offset size = other
 scalar-bare UndefinedParameter offset size = other
 
 shape-bare : (s : Shape.Shape) → Bare (bare_piece s)
-shape-bare (Some (Some (Shape.TheVariants.Scalar kind offset size))) = scalar-bare kind offset size
-shape-bare (Some (Some (Shape.TheVariants.Operator number))) = sign number
-shape-bare (Some (Some Shape.TheVariants.MixedContainer)) = mixed
-shape-bare (Some (Some (Shape.TheVariants.Opener link))) = other
-shape-bare (Some (Some (Shape.TheVariants.End opener))) = other
+shape-bare (Some (Shape.TheVariants.Scalar kind offset size)) = scalar-bare kind offset size
+shape-bare (Some (Shape.TheVariants.Operator number)) = sign number
+shape-bare (Some Shape.TheVariants.MixedContainer) = mixed
+shape-bare (Some (Shape.TheVariants.Opener link)) = other
+shape-bare (Some (Shape.TheVariants.End opener)) = other
 shape-bare None = other
 
 pub leaf-bare : (x : Token) → container_of x ≡ None → Bare (piece_of x)

@@ -24,11 +24,11 @@ scalar_piece UndefinedParameter offset size = Other
 
 -- a token that opens nothing, by its shape; Ends and words that no token has are no part of the form either
 abbrev pub bare_piece : Shape.Shape → Piece
-bare_piece (Some (Some (Shape.TheVariants.Scalar kind offset size))) = scalar_piece kind offset size
-bare_piece (Some (Some (Shape.TheVariants.Operator number))) = Sign number
-bare_piece (Some (Some Shape.TheVariants.MixedContainer)) = Mixed
-bare_piece (Some (Some (Shape.TheVariants.Opener link))) = Other
-bare_piece (Some (Some (Shape.TheVariants.End opener))) = Other
+bare_piece (Some (Shape.TheVariants.Scalar kind offset size)) = scalar_piece kind offset size
+bare_piece (Some (Shape.TheVariants.Operator number)) = Sign number
+bare_piece (Some Shape.TheVariants.MixedContainer) = Mixed
+bare_piece (Some (Shape.TheVariants.Opener link)) = Other
+bare_piece (Some (Shape.TheVariants.End opener)) = Other
 bare_piece None = Other
 
 unfoldable pub piece_of : Token → Piece

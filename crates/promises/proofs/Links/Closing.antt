@@ -32,7 +32,7 @@ use Rattle.promises.proofs.Links.Held.{Signed, Shaped, Held, Finished, RestingAt
 
 -- what is read as an opener is one
 pub reads-opener : (ts : List Token) {p : ℕ} → Kept ts p → (i : ℕ) {kind : ContainerKind} {link : ℕ} {mixed : Bool}
-    → container_of (nth ts i) ≡ opened kind link mixed → link_at ts i ≡ Some (Some (ToEnd link))
+    → container_of (nth ts i) ≡ opened kind link mixed → link_at ts i ≡ Some (ToEnd link)
 unfolding container_of
 reads-opener ts s i e =
     by-below i (length ts)
@@ -47,7 +47,7 @@ pub record Inside (t : Tape) (p : ℕ) : Type 0 where
   pub up : ℕ
   pub mixed : Bool
   pub read : container_at t p ≡ opened kind up mixed
-  pub link : link_at t.tokens p ≡ Some (Some (ToEnd up))
+  pub link : link_at t.tokens p ≡ Some (ToEnd up)
   pub before : up < p
 
 inside : (t : Tape) (p : ℕ) → (p ≡ 0 → ⊥) → Parent (link_at t.tokens) p → Inside t p

@@ -32,7 +32,7 @@ use Rattle.promises.proofs.Links.Rows.{unmarked, scalar_made, plain-operator, sc
 use Rattle.promises.proofs.Links.Rows.{row-add, row-set, row-insert}
 
 -- the link at each index
-abbrev pub link_at : List Token → ℕ → Option Option Link
+abbrev pub link_at : List Token → ℕ → Option Link
 link_at ts i = link_of (nth ts i)
 
 pub record Kept (ts : List Token) (p : ℕ) : Type 0 where
@@ -65,13 +65,13 @@ opens-same : {x : Token} {link other : ℕ} → Opens x link → Opens x other �
 opens-same {x} o q = let a = opens-link x o in let b = opens-link x q in cc
 
 -- an opener is no scalar
-opener-no-scalar : {t : Token} {link : ℕ} {P : Type 0} → link_of t ≡ Some (Some (ToEnd link)) → Scalar t → P
+opener-no-scalar : {t : Token} {link : ℕ} {P : Type 0} → link_of t ≡ Some (ToEnd link) → Scalar t → P
 opener-no-scalar {t} e s = absurd (unlinked-opens t (scalar-unlinked s) (link-made t e))
 
 -- a token of a form that is read as an opener names what it is read to name
 pub container-link : {t : Token} {kind : ContainerKind} {link : ℕ} {mixed : Bool} → Form t
     → container_of t ≡ opened kind link mixed
-    → link_of t ≡ Some (Some (ToEnd link))
+    → link_of t ≡ Some (ToEnd link)
 unfolding container_of
 container-link {t} {kind} {link} {mixed} (container end o) e =
     let r : container_of t ≡ opened o.0 end o.1 = ap container_of o.2 ∙ opener-container o.0 end o.1 in
@@ -85,7 +85,7 @@ container-link {t} (operator number low high q) e = let z : ◌≡◌ {A = ℕ} 
 container-link {t} (closing opener q) e = let z : ◌≡◌ {A = ℕ} 0 1 = cc in absurd (omega arith)
 
 -- and one that names another token behind or before it is read so
-pub link-container : (t : Token) {link : ℕ} → link_of t ≡ Some (Some (ToEnd link))
+pub link-container : (t : Token) {link : ℕ} → link_of t ≡ Some (ToEnd link)
     → (kind : ContainerKind) × (mixed : Bool) × (container_of t ≡ opened kind link mixed)
 link-container t {link} e =
     let o = link-made t e in
@@ -177,7 +177,7 @@ kept-insert ts {p} r some last_one apart = go (length ts - 1) (omega arith)
         }
 
 -- ---- the container that the machine is in closed
-pub kept-close : (ts : List Token) (p up : ℕ) (x : Token) → Opens x (length ts) → Resting ts p → link_at ts p ≡ Some (Some (ToEnd up)) → up < p
+pub kept-close : (ts : List Token) (p up : ℕ) (x : Token) → Opens x (length ts) → Resting ts p → link_at ts p ≡ Some (ToEnd up) → up < p
     → Resting (closed_as ts p x) up
 kept-close ts p up x names r here inner =
     let n : ℕ = length ts in
@@ -248,7 +248,7 @@ kept-header ts r some e =
 pub kept-flag : (ts : List Token) (p : ℕ) (kind : ContainerKind) (link : ℕ) (mixed : Bool) → p < length ts → Kept ts p
     → container_of (nth ts p) ≡ opened kind link mixed → Kept (set ts p (opener_of kind link true)) p
 kept-flag ts p kind link mixed below s e =
-    let here : link_at ts p ≡ Some (Some (ToEnd link)) = container-link (s.row.forms p below) e in
+    let here : link_at ts p ≡ Some (ToEnd link) = container-link (s.row.forms p below) e in
     let x : Token = opener_of kind link true in
     let names : Opens x link = (kind, true, refl) in
     kept-alike ts p x below s (container link names) (opens-unmarked names) (opener-no-scalar here) (opens-link x names ∙ sym here)

@@ -22,43 +22,43 @@ by-below i j f g = by_bool (ltb i j) (λ e. f (ltb-true i j e)) (λ e. g (ltb-fa
 
 -- ---- the links of n tokens, the link at each index, inside a parent
 -- the opener at an index is open
-abbrev pub Open : (ℕ → Option Option Link) → ℕ → Type 0
-Open L i = (link : ℕ) × (L i ≡ Some (Some (ToEnd link))) × (link < i)
+abbrev pub Open : (ℕ → Option Link) → ℕ → Type 0
+Open L i = (link : ℕ) × (L i ≡ Some (ToEnd link)) × (link < i)
 
 -- an index that is a parent's: none, or an open opener's
-abbrev pub Parent : (ℕ → Option Option Link) → ℕ → Type 0
+abbrev pub Parent : (ℕ → Option Link) → ℕ → Type 0
 Parent L i = (i ≡ 0) ⊎ Open L i
 
 -- what is known of an open opener: its parent is one, the container that the machine is in is no further out, and none that is
 -- open stands between it and its parent
-pub record Hangs (L : ℕ → Option Option Link) (p i link : ℕ) : Type 0 where
+pub record Hangs (L : ℕ → Option Link) (p i link : ℕ) : Type 0 where
   pub before : link < i
   pub reached : i ≤ p
   pub parent : Parent L link
-  pub between : (j k : ℕ) → L j ≡ Some (Some (ToEnd k)) → k ≤ j → link < j → j < i → ⊥
+  pub between : (j k : ℕ) → L j ≡ Some (ToEnd k) → k ≤ j → link < j → j < i → ⊥
 
-pub record Nest (L : ℕ → Option Option Link) (n p : ℕ) : Type 0 where
+pub record Nest (L : ℕ → Option Link) (n p : ℕ) : Type 0 where
   -- none is past the tokens
   pub past : (i : ℕ) → n ≤ i → L i ≡ None
   -- token 0 opens nothing
-  pub top : (link : ℕ) → L 0 ≡ Some (Some (ToEnd link)) → ⊥
+  pub top : (link : ℕ) → L 0 ≡ Some (ToEnd link) → ⊥
   -- an End names an earlier opener that names it
-  pub opened : (j opener : ℕ) → L j ≡ Some (Some (ToOpener opener)) → (opener < j) × (L opener ≡ Some (Some (ToEnd j)))
+  pub opened : (j opener : ℕ) → L j ≡ Some (ToOpener opener) → (opener < j) × (L opener ≡ Some (ToEnd j))
   -- an opener that names a later token names its End
-  pub closed : (i end : ℕ) → L i ≡ Some (Some (ToEnd end)) → i < end → L end ≡ Some (Some (ToOpener i))
+  pub closed : (i end : ℕ) → L i ≡ Some (ToEnd end) → i < end → L end ≡ Some (ToOpener i)
   -- one that does not is open
-  pub open_one : (i link : ℕ) → L i ≡ Some (Some (ToEnd link)) → link ≤ i → Hangs L p i link
+  pub open_one : (i link : ℕ) → L i ≡ Some (ToEnd link) → link ≤ i → Hangs L p i link
   -- what opens inside a closed container is closed before it is
-  pub nested : (i end j inner : ℕ) → L i ≡ Some (Some (ToEnd end)) → L j ≡ Some (Some (ToEnd inner)) → i < j → j < end → (j < inner) × (inner < end)
+  pub nested : (i end j inner : ℕ) → L i ≡ Some (ToEnd end) → L j ≡ Some (ToEnd inner) → i < j → j < end → (j < inner) × (inner < end)
   -- the machine's parent is one
   pub parent : Parent L p
 
-module _ {L : ℕ → Option Option Link} {n p : ℕ} (s : Nest L n p) where
+module _ {L : ℕ → Option Link} {n p : ℕ} (s : Nest L n p) where
   -- what opens is one of the tokens
-  pub opener-below : {i link : ℕ} → L i ≡ Some (Some (ToEnd link)) → i < n
+  pub opener-below : {i link : ℕ} → L i ≡ Some (ToEnd link) → i < n
   opener-below {i} e = by-below i n (λ h. h) (λ h. absurd (end_not_none e (s.past i h)))
 
-  pub end_below : {j opener : ℕ} → L j ≡ Some (Some (ToOpener opener)) → j < n
+  pub end_below : {j opener : ℕ} → L j ≡ Some (ToOpener opener) → j < n
   end_below {j} e = by-below j n (λ h. h) (λ h. absurd (opener_not_none e (s.past j h)))
 
   pub parent-below : 1 ≤ n → p < n
@@ -69,8 +69,8 @@ module _ {L : ℕ → Option Option Link} {n p : ℕ} (s : Nest L n p) where
       go (inr o) = opener-below o.1
 
   -- more tokens that name none change nothing
-  pub widen : {M : ℕ → Option Option Link} {k : ℕ} → ((i : ℕ) → M i ≡ L i) → n ≤ k → Nest M k p
-  widen {M} {k} same h = subst (λ (X : ℕ → Option Option Link). Nest X k p) (sym (fun_ext same)) wider
+  pub widen : {M : ℕ → Option Link} {k : ℕ} → ((i : ℕ) → M i ≡ L i) → n ≤ k → Nest M k p
+  widen {M} {k} same h = subst (λ (X : ℕ → Option Link). Nest X k p) (sym (fun_ext same)) wider
     where
       wider : Nest L k p
       wider = record {
@@ -84,34 +84,34 @@ module _ {L : ℕ → Option Option Link} {n p : ℕ} (s : Nest L n p) where
       }
 
 -- a parent stays one where its link does
-parent-kept : (L M : ℕ → Option Option Link) (i : ℕ) → M i ≡ L i → Parent L i → Parent M i
+parent-kept : (L M : ℕ → Option Link) (i : ℕ) → M i ≡ L i → Parent L i → Parent M i
 parent-kept L M i e (inl z) = inl z
 parent-kept L M i e (inr o) = inr (o.0, e ∙ o.1, o.2)
 
 -- an opener laid down behind the others, which names the parent, is open, and the machine goes on inside it
-module _ {L M : ℕ → Option Option Link} {n p : ℕ} (s : Nest L n p) (some : 1 ≤ n) (same : (i : ℕ) → (i ≡ n → ⊥) → M i ≡ L i)
-    (new : M n ≡ Some (Some (ToEnd p))) where
+module _ {L M : ℕ → Option Link} {n p : ℕ} (s : Nest L n p) (some : 1 ≤ n) (same : (i : ℕ) → (i ≡ n → ⊥) → M i ≡ L i)
+    (new : M n ≡ Some (ToEnd p)) where
   below : p < n
   below = parent-below s some
 
-  back : {i : ℕ} {x : Option Option Link} → (i ≡ n → ⊥) → M i ≡ x → L i ≡ x
+  back : {i : ℕ} {x : Option Link} → (i ≡ n → ⊥) → M i ≡ x → L i ≡ x
   back {i} d e = sym (same i d) ∙ e
 
-  opened_after : (j opener : ℕ) → M j ≡ Some (Some (ToOpener opener)) → (opener < j) × (M opener ≡ Some (Some (ToEnd j)))
+  opened_after : (j opener : ℕ) → M j ≡ Some (ToOpener opener) → (opener < j) × (M opener ≡ Some (ToEnd j))
   opened_after j opener e =
       by_equal j n
       (λ z. absurd (end_not_opener (rw (← z) at new) e))
       (λ d. let h = s.opened j opener (back d e) in
       (h.0, same opener (λ z. let g = opener-below s h.1 in omega arith) ∙ h.1))
 
-  closed_after : (i end : ℕ) → M i ≡ Some (Some (ToEnd end)) → i < end → M end ≡ Some (Some (ToOpener i))
+  closed_after : (i end : ℕ) → M i ≡ Some (ToEnd end) → i < end → M end ≡ Some (ToOpener i)
   closed_after i end e h =
       by_equal i n
       (λ z. let q : p ≡ end = same_end new (rw z at e) in absurd (omega (arith, below)))
       (λ d. let c = s.closed i end (back d e) h in
       same end (λ z. let g = end_below s c in omega arith) ∙ c)
 
-  hangs_after : (i link : ℕ) → M i ≡ Some (Some (ToEnd link)) → link ≤ i → Hangs M n i link
+  hangs_after : (i link : ℕ) → M i ≡ Some (ToEnd link) → link ≤ i → Hangs M n i link
   hangs_after i link e h =
       by_equal i n
       (λ z. let q : p ≡ link = same_end new (rw z at e) in
@@ -130,7 +130,7 @@ module _ {L M : ℕ → Option Option Link} {n p : ℕ} (s : Nest L n p) (some :
         between = λ j k f le g l. r.between j k (back (λ y. omega (arith, r.reached, below)) f) le g l;
       })
 
-  nested-after : (i end j inner : ℕ) → M i ≡ Some (Some (ToEnd end)) → M j ≡ Some (Some (ToEnd inner)) → i < j → j < end → (j < inner) × (inner < end)
+  nested-after : (i end j inner : ℕ) → M i ≡ Some (ToEnd end) → M j ≡ Some (ToEnd inner) → i < j → j < end → (j < inner) × (inner < end)
   nested-after i end j inner e f g h =
       by_equal i n
       (λ z. let q : p ≡ end = same_end new (rw z at e) in absurd (omega (arith, below)))
@@ -149,21 +149,21 @@ module _ {L M : ℕ → Option Option Link} {n p : ℕ} (s : Nest L n p) (some :
   }
 
 -- the container that the machine is in gets its End behind the others, and the machine goes on inside its parent
-module _ {L M : ℕ → Option Option Link} {n p up : ℕ} (s : Nest L n p) (here : L p ≡ Some (Some (ToEnd up))) (inner-one : up < p)
-    (same : (i : ℕ) → (i ≡ p → ⊥) → (i ≡ n → ⊥) → M i ≡ L i) (closes : M p ≡ Some (Some (ToEnd n))) (new : M n ≡ Some (Some (ToOpener p))) where
+module _ {L M : ℕ → Option Link} {n p up : ℕ} (s : Nest L n p) (here : L p ≡ Some (ToEnd up)) (inner-one : up < p)
+    (same : (i : ℕ) → (i ≡ p → ⊥) → (i ≡ n → ⊥) → M i ≡ L i) (closes : M p ≡ Some (ToEnd n)) (new : M n ≡ Some (ToOpener p)) where
   p_below : p < n
   p_below = opener-below s here
 
   hung : Hangs L p p up
   hung = s.open_one p up here (omega arith)
 
-  returns : {i : ℕ} {x : Option Option Link} → (i ≡ p → ⊥) → (i ≡ n → ⊥) → M i ≡ x → L i ≡ x
+  returns : {i : ℕ} {x : Option Link} → (i ≡ p → ⊥) → (i ≡ n → ⊥) → M i ≡ x → L i ≡ x
   returns {i} d d' e = sym (same i d d') ∙ e
 
-  no-opener : {i link : ℕ} → M i ≡ Some (Some (ToEnd link)) → i ≡ n → ⊥
+  no-opener : {i link : ℕ} → M i ≡ Some (ToEnd link) → i ≡ n → ⊥
   no-opener e z = end_not_opener (rw z at e) new
 
-  opened-closing : (j opener : ℕ) → M j ≡ Some (Some (ToOpener opener)) → (opener < j) × (M opener ≡ Some (Some (ToEnd j)))
+  opened-closing : (j opener : ℕ) → M j ≡ Some (ToOpener opener) → (opener < j) × (M opener ≡ Some (ToEnd j))
   opened-closing j opener e =
       by_equal j n
       (λ z. let q : opener ≡ p = same-opener (rw z at e) new in rw (q, z) (p_below, closes))
@@ -176,7 +176,7 @@ module _ {L M : ℕ → Option Option Link} {n p up : ℕ} (s : Nest L n p) (her
             (λ z. let g = opener-below s h.1 in omega arith) ∙ h.1,
       )))
 
-  closed-closing : (i end : ℕ) → M i ≡ Some (Some (ToEnd end)) → i < end → M end ≡ Some (Some (ToOpener i))
+  closed-closing : (i end : ℕ) → M i ≡ Some (ToEnd end) → i < end → M end ≡ Some (ToOpener i)
   closed-closing i end e h =
       by_equal i p
       (λ z. let q : n ≡ end = same_end closes (rw z at e) in rw (← q, z) new)
@@ -184,13 +184,13 @@ module _ {L M : ℕ → Option Option Link} {n p up : ℕ} (s : Nest L n p) (her
       same end (λ z. end_not_opener here (rw z at c)) (λ z. let g = end_below s c in omega arith) ∙ c)
 
   -- an opener that stays open is the parent or further out
-  outer : (i link : ℕ) → L i ≡ Some (Some (ToEnd link)) → link ≤ i → (i ≡ p → ⊥) → i ≤ up
+  outer : (i link : ℕ) → L i ≡ Some (ToEnd link) → link ≤ i → (i ≡ p → ⊥) → i ≤ up
   outer i link e h d =
       by-below up i
       (λ l. let r = s.open_one i link e h in absurd (hung.between i link e h l (omega (arith, r.reached))))
       (λ l. l)
 
-  hangs_closing : (i link : ℕ) → M i ≡ Some (Some (ToEnd link)) → link ≤ i → Hangs M up i link
+  hangs_closing : (i link : ℕ) → M i ≡ Some (ToEnd link) → link ≤ i → Hangs M up i link
   hangs_closing i link e h =
       by_equal i p
       (λ z. let q : n ≡ link = same_end closes (rw z at e) in absurd (omega (arith, p_below)))
@@ -204,7 +204,7 @@ module _ {L M : ℕ → Option Option Link} {n p up : ℕ} (s : Nest L n p) (her
         between = λ j k f le g l. r.between j k (returns (λ z. omega arith) (λ z. omega (arith, p_below)) f) le g l;
       })
 
-  nested-closing : (i end j inner : ℕ) → M i ≡ Some (Some (ToEnd end)) → M j ≡ Some (Some (ToEnd inner)) → i < j → j < end → (j < inner) × (inner < end)
+  nested-closing : (i end j inner : ℕ) → M i ≡ Some (ToEnd end) → M j ≡ Some (ToEnd inner) → i < j → j < end → (j < inner) × (inner < end)
   nested-closing i end j inner e f g h =
       by_equal i p
       (λ z. let q : n ≡ end = same_end closes (rw z at e) in
@@ -229,7 +229,7 @@ module _ {L M : ℕ → Option Option Link} {n p up : ℕ} (s : Nest L n p) (her
   }
 
 -- no token, no link
-pub nest_none : {L : ℕ → Option Option Link} → ((i : ℕ) → L i ≡ None) → Nest L 0 0
+pub nest_none : {L : ℕ → Option Link} → ((i : ℕ) → L i ≡ None) → Nest L 0 0
 nest_none none = record {
   past = λ i h. none i;
   top = λ link e. end_not_none e (none 0);
@@ -241,7 +241,7 @@ nest_none none = record {
 }
 
 -- with no parent none is open: every opener names its End
-pub all_closed : {L : ℕ → Option Option Link} {n : ℕ} → Nest L n 0 → (i end : ℕ) → L i ≡ Some (Some (ToEnd end)) → i < end
+pub all_closed : {L : ℕ → Option Link} {n : ℕ} → Nest L n 0 → (i end : ℕ) → L i ≡ Some (ToEnd end) → i < end
 all_closed {L} s i end e =
     by-below i end (λ h. h)
     (λ h. let r = s.open_one i end e h in

@@ -60,7 +60,7 @@ pub record RisenWhole (text_length : ℕ) (count : ℕ) (ts : List Token) : Type
 
 -- ---- states in which no token has to stand last
 -- taking up a parent never leads to ParseOpen
-resumed-topped : (c : Option Option Container) (count : ℕ) (ts : List Token) → Topped (state_in c) count ts
+resumed-topped : (c : Option Container) (count : ℕ) (ts : List Token) → Topped (state_in c) count ts
 resumed-topped (Opened Array l f) count ts = tt
 resumed-topped (Opened Object l true) count ts = tt
 resumed-topped (Opened Object l false) count ts = tt
