@@ -34,12 +34,14 @@ pub(crate) fn scalar_at(text: &[u8], at: usize) -> Option<Scalar>
             token: viewed(ScalarKind::Unquoted, start, end),
             rest,
         }),
-        Some(Cut::Quoted {
-            start,
-            end,
-            rest,
-            escaped,
-        }) => Some(Scalar {
+        Some(
+            Cut::Quoted {
+                start,
+                end,
+                rest,
+                escaped,
+            },
+        ) => Some(Scalar {
             token: viewed(token::quoted_kind(escaped), start, end),
             rest,
         }),

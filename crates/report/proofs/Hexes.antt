@@ -47,13 +47,13 @@ written_as answer out at {buffer = buffer} {scratch = scratch} d told e line =
     (ap (λ (p : Wrote). reported p buffer scratch) (e ∙ ap (append out at) (line ∙ ap (λ (x : Result ℕ Refusal). written_text x buffer) (sym told))))
 
 -- the line of a view that lies in the text, and of one that is refused
-pub view-shown : (text part : List ℕ) (found v : Option Option View) (offset size : ℕ) → found ≡ v → found ≡ seen offset size → part ≡ part_of text v
+pub view-shown : (text part : List ℕ) (found v : Option Viewed) (offset size : ℕ) → found ≡ v → found ≡ seen offset size → part ≡ part_of text v
     → words.view ++ hex_bytes part ++ (line_feed ∷ []) ≡ view_text text v
 view-shown text part found v offset size e told p =
     let is = sym e ∙ told in
     ap (λ (l : List ℕ). words.view ++ hex_bytes l ++ (line_feed ∷ [])) (p ∙ ap (part_of text) is) ∙ sym (ap (view_text text) is)
 
-pub view-refused : (text : List ℕ) (n : ℕ) (found v : Option Option View) → found ≡ v → found ≡ None → n ≡ refusal_of found
+pub view-refused : (text : List ℕ) (n : ℕ) (found v : Option Viewed) → found ≡ v → found ≡ None → n ≡ refusal_of found
     → words.refused ++ decimal n ++ (line_feed ∷ []) ≡ view_text text v
 view-refused text n found v e told r =
     ap (λ (k : ℕ). words.refused ++ decimal k ++ (line_feed ∷ [])) (r ∙ ap refusal_of told) ∙ sym (ap (view_text text) (sym e ∙ told))

@@ -213,7 +213,7 @@ pub verdict-short : (sound : Bool) → length (verdict sound) ≤ 8
 verdict-short true = omega arith
 verdict-short false = omega arith
 
-pub view-short : (text : List ℕ) (v : Option Option View) → length (view_text text v) ≤ 2 * length text + 11
+pub view-short : (text : List ℕ) (v : Option Viewed) → length (view_text text v) ≤ 2 * length text + 11
 view-short text (Some v) =
     simp length-append
     (omega (arith, hex_bytes-short (take v.length (drop v.offset text)), length-take v.length (drop v.offset text), length-drop v.offset text))
