@@ -18,7 +18,7 @@ use Rattle.tape.proofs.Makers.{opener-container}
 use Rattle.writer.specs.declared.dues.Due.{Due}
 use Rattle.writer.specs.declared.pieces.Piece.{Piece}
 use Rattle.writer.specs.declared.pieces.Piece.TheVariants.{Scalar, Heading, Sign, Mixed, Opener, Other}
-use Rattle.writer.specs.Forest.{Forest, stretch}
+use Rattle.writer.specs.Forest.{stretch}
 use Rattle.writer.specs.Pieces.{scalar_piece, bare_piece, piece_of}
 use Rattle.writer.specs.Dues.{due_in, due_after}
 use Rattle.writer.specs.Form.{takes}

@@ -156,15 +156,7 @@ fn put_entries(
     while i < end {
         let piece = source.piece(i);
         if opens(piece) {
-            next = put_inside(
-                out,
-                next,
-                source,
-                i + 1,
-                first,
-                Due::Entry,
-                piece,
-            );
+            next = put_inside(out, next, source, i + 1, first, Due::Entry, piece);
         } else {
             next = put_piece(out, next, source.text, first, Due::Entry, piece);
         }

@@ -7,8 +7,8 @@ ghost use Rattle.writer.specs.Ranges.{Whole};
 ghost use Rattle.writer.specs.Source.{tokens};
 
 use crate::source::Source;
-use tape::shape::Link;
 use tape::shape;
+use tape::shape::Link;
 
 // Bodies nest to so many levels, the root not counted.
 const MOST_LEVELS: usize = 64;

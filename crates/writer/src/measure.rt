@@ -14,9 +14,9 @@ use crate::pieces::{Piece, piece_of, still_first};
 use crate::source::Source;
 use operator::Numbered;
 use parse::TEXT_LIMIT;
+use tape::shape;
 use tape::shape::Link;
 use tape::token::Token;
-use tape::shape;
 
 // How many bytes stand before a token: one, whichever it is, unless the token is the first of its body.
 fn lead_size(first: bool) -> usize
