@@ -6,19 +6,15 @@ use mathlib.Core.List.{List}
 use Prim.Native.Nat.{ℕ, ◌+◌, ◌≤◌, ◌<◌}
 use native.Mathlib.Omega.{arith}
 use borrow.Author.Tests.{eq-eqb, ne_eqb, leb-true, leb-false}
-use lib.Dec.{eqb, leb}
+use lib.Dec.{leb}
 use lib.ListN.{length, drop, replicate}
 use Rattle.data.proofs.Pairs.{pairs-on, pairs_not, pairs_end, pairs-lengths}
-use Rattle.data.proofs.Told.{as_told}
 use Rattle.tape.specs.declared.token.Token.{Token}
-use Rattle.tape.specs.declared.token.ScalarKind.{ScalarKind}
-use Rattle.tape.specs.Token.{no_token, scalar_named}
+use Rattle.tape.specs.Token.{no_token}
 use Rattle.tape.specs.Words.{words_for, tokens_in, token_in, cleared}
 use Rattle.tape.proofs.Views.{tokens-length, tokens-counted}
-use Rattle.machine.specs.declared.Parsed.{Parsed}
-use Rattle.machine.specs.Finish.{outcome}
 use Rattle.tape.proofs.Clearing.{cleared-whole}
-use Rattle.alike.specs.Alike.{same_view, same_words, same_token, alike, found_alike, comes_back}
+use Rattle.alike.specs.Alike.{same_token, alike, found_alike}
 
 -- ---- a tape that is cleared from its first token on
 pub all_cleared : (tape : List ℕ) → cleared tape 0 ≡ replicate (length tape) 0

@@ -1,26 +1,23 @@
 -- The fields of a file: what the code computes of them, by version, and how long a file is by what it says before its tokens.
 -- Assumes nothing.
-use mathlib.Core.Path.{◌≡◌, refl, sym, ◌∙◌, ap, subst}
-use mathlib.Core.Bool.{Bool, true, false, not}
+use mathlib.Core.Path.{◌≡◌, refl, sym, subst}
 use mathlib.Core.List.{List}
-use Prim.Native.Nat.{ℕ, ◌≤◌, ◌<◌}
+use Prim.Native.Nat.{ℕ, ◌≤◌}
 use native.Mathlib.Omega.{arith}
-use borrow.Author.Tests.{lt-ltb, le-ltb, eq-eqb, ne_eqb, eqb-true}
+use borrow.Author.Tests.{eqb-true}
 use lib.Dec.{eqb}
 use lib.ListN.{length}
 use Rattle.data.proofs.Cases.{by_bool}
-use Rattle.packed.specs.declared.numbers.Width.{Width}
 use Rattle.packed.specs.declared.numbers.Width.TheVariants.{Three}
-use Rattle.packed.specs.Numbers.{width_of, greatest, field}
+use Rattle.packed.specs.Numbers.{width_of, greatest}
 use Rattle.tape.specs.Words.{greatest_word}
 use Rattle.file.specs.declared.layout.Version.{Version}
 use Rattle.file.specs.declared.layout.Version.TheVariants.{V1}
 use Rattle.std.specs.Prelude.{Option, Some, None, Result, Ok, Err}
 use Rattle.file.specs.declared.layout.Head.{Head}
 use Rattle.file.specs.declared.Refusal.{Refusal}
-use Rattle.file.specs.declared.Refusal.TheVariants.{FileLength, UnknownVersion, OtherCount}
-use Rattle.file.specs.Layout.{version_number, text_field, count_field, text_at, count_at, head_size, file_size}
-use Rattle.file.specs.Open.{least_size, version_named, total_in, version_in, text_length_in, count_in, other_length, open_as, open_named, open_file}
+use Rattle.file.specs.Layout.{version_number, text_field, count_at, head_size, file_size}
+use Rattle.file.specs.Open.{version_named, version_in, count_in, other_length, open_as, open_named, open_file}
 
 -- ---- by version
 pub number_told : (v : Version) → 1 ≡ version_number v

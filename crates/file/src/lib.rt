@@ -102,7 +102,13 @@ fn put_file(head: Head, words: &[u32], out: &mut [u8]) -> Result<usize, Refusal>
 }
 
 // Writes a sheet for a text of a length as a file of a version.
-fn write_as(v: Version, text_length: usize, words: &[u32], count: usize, out: &mut [u8]) -> Result<usize, Refusal>
+fn write_as(
+    v: Version,
+    text_length: usize,
+    words: &[u32],
+    count: usize,
+    out: &mut [u8],
+) -> Result<usize, Refusal>
     ensures { Decided (Sound text_length words.now count)
         (write_of v text_length (tokens_in words.now count) (length out.old)) (left result out.new) }
 {
@@ -126,7 +132,12 @@ fn write_as(v: Version, text_length: usize, words: &[u32], count: usize, out: &m
 
 // Writes the first count tokens of the words, a sheet for a text of a length, as a file into a lent buffer. After success the buffer
 // holds the file and zeros behind it, after a refusal it is all zero.
-pub fn write(text_length: usize, words: &[u32], count: usize, out: &mut [u8]) -> Result<usize, Refusal>
+pub fn write(
+    text_length: usize,
+    words: &[u32],
+    count: usize,
+    out: &mut [u8],
+) -> Result<usize, Refusal>
     ensures { Decided (Sound text_length words.now count)
         (write_of V1 text_length (tokens_in words.now count) (length out.old)) (left result out.new) }
 {

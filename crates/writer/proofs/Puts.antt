@@ -1,6 +1,6 @@
 -- What the puts of a token's parts come to.
 -- Assumes nothing.
-use mathlib.Core.Path.{◌≡◌, sym, ap, ◌∙◌}
+use mathlib.Core.Path.{◌≡◌}
 use mathlib.Core.Bool.{Bool, true, false}
 use mathlib.Core.List.{List, [], ◌∷◌, ◌++◌}
 use Prim.Native.Nat.{ℕ}
@@ -12,7 +12,7 @@ use Rattle.writer.specs.declared.pieces.Piece.{Piece}
 use Rattle.writer.specs.declared.pieces.Piece.TheVariants.{Scalar, Heading, Sign}
 use Rattle.put.specs.Parts.{view_of}
 use Rattle.writer.specs.Pieces.{quote_if, sign_bytes, own_bytes}
-use Rattle.writer.specs.Text.{gap, lead, piece_text}
+use Rattle.writer.specs.Text.{lead, piece_text}
 use Rattle.data.proofs.Told.{as_told}
 
 -- nothing at all

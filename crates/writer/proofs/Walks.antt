@@ -18,7 +18,7 @@ use Rattle.tape.proofs.Makers.{opener-container}
 use Rattle.writer.specs.declared.dues.Due.{Due}
 use Rattle.writer.specs.declared.pieces.Piece.{Piece}
 use Rattle.writer.specs.declared.pieces.Piece.TheVariants.{Scalar, Heading, Sign, Mixed, Opener, Other}
-use Rattle.writer.specs.Forest.{Forest, stretch}
+use Rattle.writer.specs.Forest.{stretch}
 use Rattle.writer.specs.Pieces.{scalar_piece, bare_piece, piece_of}
 use Rattle.writer.specs.Dues.{due_in, due_after}
 use Rattle.writer.specs.Form.{takes}
@@ -154,10 +154,9 @@ module _ (ts : List Token) (i j : ℕ) (b : Range ts i j) (h : i < j) where
       (λ n rest. rw (stretch-leaf ts i j h n, bare-behind (leaf-bare (nth ts i) n) (i + 1)))
 
 -- ---- the same by what a step of a walk has in hand: the piece that it read, and where it goes on
-pub read-piece : (words : List ℕ) (count i : ℕ) {x : Token} {p : Piece} → x ≡ token_in words count i → p ≡ piece_of x
-    → p ≡ piece_of (nth (tokens_in words count) i)
+pub read-piece : (words : List ℕ) (count i : ℕ) {p : Piece} → p ≡ piece_of (token_in words count i) → p ≡ piece_of (nth (tokens_in words count) i)
 unfolding token_in
-read-piece words count i e f = f ∙ ap piece_of e
+read-piece words count i e = e
 
 -- a direct token of a part of a sheet that a walk has read: the part from it on, that this is not its end, and what the token is
 pub record Met (ts : List Token) (i j : ℕ) (p : Piece) : Type 0 where
@@ -165,9 +164,9 @@ pub record Met (ts : List Token) (i j : ℕ) (p : Piece) : Type 0 where
   pub early : i < j
   pub piece : p ≡ piece_of (nth ts i)
 
-pub read_met : (words : List ℕ) (count i : ℕ) {j : ℕ} {x : Token} {p : Piece} → Range (tokens_in words count) i j → i < j
-    → x ≡ token_in words count i → p ≡ piece_of x → Met (tokens_in words count) i j p
-read_met words count i b h e f = record { range = b; early = h; piece = read-piece words count i e f }
+pub read_met : (words : List ℕ) (count i : ℕ) {j : ℕ} {p : Piece} → Range (tokens_in words count) i j → i < j
+    → p ≡ piece_of (token_in words count i) → Met (tokens_in words count) i j p
+read_met words count i b h e = record { range = b; early = h; piece = read-piece words count i e }
 
 module _ {ts : List Token} {i j : ℕ} {p : Piece} (met : Met ts i j p) where
   pub step_inside : Inside ts (i + 1) p

@@ -7,4 +7,5 @@ pub mod Levels
 pub mod Ranges
 pub mod Scans
 pub mod Refusals
+pub mod Source
 pub mod Write

@@ -2,20 +2,20 @@
 // follows a MixedContainer. The tokens that are left grow fewer at each call.
 ghost use Rattle.std.specs.Prelude.{◌≡◌, true, ◌+◌, length};
 ghost use Rattle.put.specs.Append.{wrote, append};
-ghost use Rattle.tape.specs.Words.{tokens_in};
 ghost use Rattle.writer.specs.declared.dues.Due.TheVariants as due;
 ghost use Rattle.writer.specs.Forest.{stretch};
 ghost use Rattle.put.specs.Parts.{view_of};
 ghost use Rattle.writer.specs.Pieces.{is_mixed, is_opener, quote_if, sign_bytes};
 ghost use Rattle.writer.specs.Text.{lead, piece_text, body_text};
 ghost use Rattle.writer.specs.Ranges.{Range, Inside, inside_text};
+ghost use Rattle.writer.specs.Source.{tokens};
 
 use crate::dues::{Due, due_after};
-use crate::pieces::{Piece, piece_of, still_first};
+use crate::pieces::{Piece, still_first};
 use crate::ranges::behind;
+use crate::source::Source;
 use put::{part, put_byte, put_bytes};
 use tape::token::ContainerKind;
-use tape::words;
 
 // Puts what stands before a token: nothing before the first of its body, `=` between a key and its entry where no operator stands, and
 // else a space.
@@ -100,17 +100,15 @@ fn opens(piece: Piece) -> bool
 fn put_inside(
     out: &mut [u8],
     at: usize,
-    text: &[u8],
-    words: &[u32],
-    count: usize,
+    source: Source<'_>,
     from: usize,
     first: bool,
     due: Due,
     piece: Piece,
 ) -> usize
-    requires { Inside (tokens_in words.now count) from piece }
+    requires { Inside (tokens source) from piece }
     ensures { wrote result out.new ≡ append out.old at
-        (inside_text text.now (tokens_in words.now count) from first due piece) }
+        (inside_text source.entry.text.now (tokens source.entry) from first due piece) }
 {
     let Piece::Opener { kind, end } = piece else {
         return at;
@@ -119,11 +117,11 @@ fn put_inside(
     let open = put_byte(out, before, b'{');
     match kind {
         ContainerKind::Array => {
-            let close = put_entries(out, open, text, words, count, from, end as usize, true);
+            let close = put_entries(out, open, source, from, end as usize, true);
             put_byte(out, close, b'}')
         }
         ContainerKind::Object => {
-            let close = put_pairs(out, open, text, words, count, from, end as usize);
+            let close = put_pairs(out, open, source, from, end as usize);
             put_byte(out, close, b'}')
         }
     }
@@ -134,37 +132,25 @@ fn put_inside(
 fn put_entries(
     out: &mut [u8],
     at: usize,
-    text: &[u8],
-    words: &[u32],
-    count: usize,
+    source: Source<'_>,
     from: usize,
     end: usize,
     alone: bool,
 ) -> usize
-    requires { Range (tokens_in words.now count) from end }
+    requires { Range (tokens source) from end }
     ensures { wrote result out.new ≡ append out.old at
-        (body_text (stretch (tokens_in words.now count) from end) text.now alone due.Entry) }
+        (body_text (stretch (tokens source.entry) from end) source.entry.text.now alone due.Entry) }
 {
     // Counted by hand: the walk goes on behind the End of what opened, which no range gives.
     let mut i = from;
     let mut next = at;
     let mut first = alone;
     while i < end {
-        let piece = piece_of(words::token_of(words, count, i));
+        let piece = source.piece(i);
         if opens(piece) {
-            next = put_inside(
-                out,
-                next,
-                text,
-                words,
-                count,
-                i + 1,
-                first,
-                Due::Entry,
-                piece,
-            );
+            next = put_inside(out, next, source, i + 1, first, Due::Entry, piece);
         } else {
-            next = put_piece(out, next, text, first, Due::Entry, piece);
+            next = put_piece(out, next, source.text, first, Due::Entry, piece);
         }
         first = still_first(first, piece);
         i = behind(piece, i + 1);
@@ -177,15 +163,13 @@ fn put_entries(
 pub(crate) fn put_pairs(
     out: &mut [u8],
     at: usize,
-    text: &[u8],
-    words: &[u32],
-    count: usize,
+    source: Source<'_>,
     from: usize,
     end: usize,
 ) -> usize
-    requires { Range (tokens_in words.now count) from end }
+    requires { Range (tokens source) from end }
     ensures { wrote result out.new ≡ append out.old at
-        (body_text (stretch (tokens_in words.now count) from end) text.now true due.Key) }
+        (body_text (stretch (tokens source.entry) from end) source.entry.text.now true due.Key) }
 {
     // Counted by hand: the walk goes on behind the End of what opened, which no range gives.
     let mut i = from;
@@ -193,14 +177,14 @@ pub(crate) fn put_pairs(
     let mut first = true;
     let mut due = Due::Key;
     while i < end {
-        let piece = piece_of(words::token_of(words, count, i));
+        let piece = source.piece(i);
         if is_mixed(piece) {
-            return put_entries(out, next, text, words, count, i + 1, end, first);
+            return put_entries(out, next, source, i + 1, end, first);
         }
         if opens(piece) {
-            next = put_inside(out, next, text, words, count, i + 1, first, due, piece);
+            next = put_inside(out, next, source, i + 1, first, due, piece);
         } else {
-            next = put_piece(out, next, text, first, due, piece);
+            next = put_piece(out, next, source.text, first, due, piece);
         }
         first = still_first(first, piece);
         due = due_after(due, piece);

@@ -1,13 +1,14 @@
 // How deep a sheet nests, from one pass over its tokens.
 ghost use Rattle.std.specs.Prelude.{◌≡◌, ◌≤◌};
-ghost use Rattle.tape.specs.Words.{tokens_in};
 ghost use Rattle.writer.specs.Write.{too_deep};
 ghost use Rattle.writer.specs.Levels.{most_levels};
 ghost use Rattle.writer.specs.Scans.{sunk};
 ghost use Rattle.writer.specs.Ranges.{Whole};
+ghost use Rattle.writer.specs.Source.{tokens};
 
+use crate::source::Source;
+use tape::shape;
 use tape::shape::Link;
-use tape::{shape, words};
 
 // Bodies nest to so many levels, the root not counted.
 const MOST_LEVELS: usize = 64;
@@ -26,13 +27,13 @@ fn sink(level: usize, link: Option<Link>) -> Option<usize>
 }
 
 // Whether a sheet nests deeper.
-pub(crate) fn sinks_too_deep(words: &[u32], count: usize) -> bool
-    requires { Whole words.now count }
-    ensures { result ≡ too_deep (tokens_in words.now count) }
+pub(crate) fn sinks_too_deep(source: Source<'_>) -> bool
+    requires { Whole source.words.now source.count }
+    ensures { result ≡ too_deep (tokens source.entry) }
 {
     let mut level = 0;
-    for i in 0..count {
-        let link = shape::link_of(words::token_of(words, count, i));
+    for i in 0..source.count {
+        let link = shape::link_of(source.token(i));
         let Some(next) = sink(level, link) else {
             return true;
         };

@@ -8,8 +8,10 @@ ghost use Rattle.tape.specs.Words.{tokens_in};
 ghost use Rattle.writer.specs.Refusals.{number};
 ghost use Rattle.writer.specs.Write.{left, text_of, refuse, weigh_text, weigh, read_back, write_of};
 ghost use Rattle.writer.specs.Ranges.{Whole};
+ghost use Rattle.writer.specs.Source.{tokens};
 
 use crate::bodies::put_pairs;
+use crate::source::Source;
 use tape::words;
 
 // What a body is written as.
@@ -26,6 +28,8 @@ mod measure;
 pub mod pieces;
 // Walks over a body's direct tokens.
 mod ranges;
+// What is written.
+mod source;
 
 // Why a sheet is not written, by the refusals' numbers.
 #[derive(Clone, Copy, PartialEq, Eq)]
@@ -48,33 +52,33 @@ impl Refusal {
 }
 
 // Whether a sound sheet's text is within the limit and finds room, by a buffer of so many bytes and a scratch of so many words.
-fn weigh_text(text: &[u8], words: &[u32], count: usize, room: usize, scratch: &[u32]) -> Result<(), Refusal>
-    requires { Whole words.now count }
-    ensures { result ≡ weigh_text room (length scratch.now) (tokens_in words.now count)
-        (text_of text.now (tokens_in words.now count)) }
+fn weigh_text(source: Source<'_>, room: usize, scratch: &[u32]) -> Result<(), Refusal>
+    requires { Whole source.words.now source.count }
+    ensures { result ≡ weigh_text room (length scratch.now) (tokens source.entry)
+        (text_of source.entry.text.now (tokens source.entry)) }
 {
-    let size = measure::measure(text, words, count).ok_or(Refusal::TooLong)?;
-    if room < size || words::capacity(scratch) < count {
+    let size = measure::measure(source).ok_or(Refusal::TooLong)?;
+    if room < size || words::capacity(scratch) < source.count {
         return Err(Refusal::NoRoom);
     }
     Ok(())
 }
 
 // What can be said of a sheet before a byte is written. Each reason is looked for in the whole sheet before the next.
-fn weigh(text: &[u8], words: &[u32], count: usize, room: usize, scratch: &[u32]) -> Result<(), Refusal>
-    ensures { Decided (Sound (length text.now) words.now count)
-        (weigh text.now (tokens_in words.now count) room (length scratch.now)) result }
+fn weigh(source: Source<'_>, room: usize, scratch: &[u32]) -> Result<(), Refusal>
+    ensures { Decided (Sound (length source.entry.text.now) source.entry.words.now source.entry.count)
+        (weigh source.entry.text.now (tokens source.entry) room (length scratch.now)) result }
 {
-    if !sheet::check(text.len(), words, count) {
+    if !sheet::check(source.text.len(), source.words, source.count) {
         return Err(Refusal::NotSound);
     }
-    if !form::all_formed(words, count) {
+    if !form::all_formed(source) {
         return Err(Refusal::OtherForm);
     }
-    if levels::sinks_too_deep(words, count) {
+    if levels::sinks_too_deep(source) {
         return Err(Refusal::TooDeep);
     }
-    weigh_text(text, words, count, room, scratch)
+    weigh_text(source, room, scratch)
 }
 
 // Refuses, and leaves all that was lent zero.
@@ -87,21 +91,17 @@ fn refuse(out: &mut [u8], scratch: &mut [u32], r: Refusal) -> Result<usize, Refu
 }
 
 // Writes a sheet that fits, and reads it back.
-fn write_fitting(
-    text: &[u8],
-    words: &[u32],
-    count: usize,
-    out: &mut [u8],
-    scratch: &mut [u32],
-) -> Result<usize, Refusal>
-    requires { Whole words.now count × (length (text_of text.now (tokens_in words.now count)) ≤ length out.old) }
+fn write_fitting(source: Source<'_>, out: &mut [u8], scratch: &mut [u32]) -> Result<usize, Refusal>
+    requires { Whole source.words.now source.count
+        × (length (text_of source.text.now (tokens source)) ≤ length out.old) }
     ensures { left result out.new scratch.new
-        ≡ read_back text.now (tokens_in words.now count) (length out.old) (length scratch.old)
-        (text_of text.now (tokens_in words.now count)) }
+        ≡ read_back source.entry.text.now (tokens source.entry) (length out.old) (length scratch.old)
+        (text_of source.entry.text.now (tokens source.entry)) }
 {
-    let size = put_pairs(out, 0, text, words, count, 0, count);
+    let size = put_pairs(out, 0, source, 0, source.count);
     put::clear_from(out, size);
-    if alike::comes_back(text, words, count, put::front(out, size), scratch) {
+    let front = put::front(out, size);
+    if alike::comes_back(source.text, source.words, source.count, front, scratch) {
         return Ok(size);
     }
     put::clear_from(out, 0);
@@ -122,8 +122,9 @@ pub fn write(
         (write_of text.now (tokens_in words.now count) (length out.old) (length scratch.old))
         (left result out.new scratch.new) }
 {
-    match weigh(text, words, count, out.len(), scratch) {
+    let source = Source { text, words, count };
+    match weigh(source, out.len(), scratch) {
         Err(r) => refuse(out, scratch, r),
-        Ok(()) => write_fitting(text, words, count, out, scratch),
+        Ok(()) => write_fitting(source, out, scratch),
     }
 }

@@ -1,6 +1,6 @@
 // How long a sheet's text will be, from one pass over its tokens and without writing it.
 ghost use Rattle.std.specs.Prelude.{◌≡◌, false, true, ◌+◌, ◌≤◌, length};
-ghost use Rattle.tape.specs.Words.{greatest_word, tokens_in};
+ghost use Rattle.tape.specs.Words.{greatest_word};
 ghost use Rattle.writer.specs.declared.dues.Due.TheVariants.{Entry};
 ghost use Rattle.put.specs.Parts.{view_of};
 ghost use Rattle.writer.specs.Pieces.{quote_if, sign_bytes};
@@ -8,12 +8,14 @@ ghost use Rattle.writer.specs.Text.{lead, piece_text};
 ghost use Rattle.writer.specs.Scans.{token_size, first_behind, measured};
 ghost use Rattle.writer.specs.Write.{text_of};
 ghost use Rattle.writer.specs.Ranges.{Whole};
+ghost use Rattle.writer.specs.Source.{tokens};
 
 use crate::pieces::{Piece, piece_of, still_first};
+use crate::source::Source;
 use parse::TEXT_LIMIT;
+use tape::shape;
 use tape::shape::Link;
 use tape::token::Token;
-use tape::{shape, words};
 
 // How many bytes stand before a token: one, whichever it is, unless the token is the first of its body.
 fn lead_size(first: bool) -> usize
@@ -91,16 +93,16 @@ fn first_behind(first: bool, x: Token, link: Option<Link>) -> bool
 }
 
 // How long a sheet's text will be, unless that is over the limit.
-pub(crate) fn measure(text: &[u8], words: &[u32], count: usize) -> Option<usize>
-    requires { Whole words.now count }
-    ensures { result ≡ measured (length (text_of text.now (tokens_in words.now count))) }
+pub(crate) fn measure(source: Source<'_>) -> Option<usize>
+    requires { Whole source.words.now source.count }
+    ensures { result ≡ measured (length (text_of source.entry.text.now (tokens source.entry))) }
 {
     let mut first = true;
     let mut total = 0;
-    for i in 0..count {
-        let x = words::token_of(words, count, i);
+    for i in 0..source.count {
+        let x = source.token(i);
         let link = shape::link_of(x);
-        let size = token_size(text, first, x, link);
+        let size = token_size(source.text, first, x, link);
         if TEXT_LIMIT - total < size {
             return None;
         }

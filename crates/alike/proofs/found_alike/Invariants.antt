@@ -5,4 +5,3 @@ use Rattle.alike.proofs.found_alike.Given as goal
 
 abbrev pub invariant-loop-i : goal.invariant-loop-i
 invariant-loop-i l = Beside l.text l.other (tokens_in l.words l.count) l.tape l.found l.i
-

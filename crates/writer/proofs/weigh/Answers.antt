@@ -11,7 +11,7 @@ returns-then-not-check c =
     record {
       yes = c.check.result;
       holds = c.check.ensures;
-      gives = weigh-unsound args.text.now (tokens_in args.words.now args.count) args.room (length args.scratch.now)
+      gives = weigh-unsound args.source.text.now (tokens_in args.source.words.now args.source.count) args.room (length args.scratch.now)
           c.if-not-check.true;
     }
 
@@ -24,7 +24,7 @@ returns-then-not-all_formed c =
     record {
       yes = c.check.result;
       holds = c.check.ensures;
-      gives = weigh-other args.text.now (tokens_in args.words.now args.count) args.room (length args.scratch.now)
+      gives = weigh-other args.source.text.now (tokens_in args.source.words.now args.source.count) args.room (length args.scratch.now)
           c.if-not-check.false c.all_formed.ensures c.if-not-all_formed.true;
     }
 
@@ -37,7 +37,7 @@ returns-then-sinks_too_deep c =
     record {
       yes = c.check.result;
       holds = c.check.ensures;
-      gives = weigh_deep args.text.now (tokens_in args.words.now args.count) args.room (length args.scratch.now)
+      gives = weigh_deep args.source.text.now (tokens_in args.source.words.now args.source.count) args.room (length args.scratch.now)
           c.if-not-check.false c.all_formed.ensures
           c.if-not-all_formed.false c.sinks_too_deep.ensures c.if-sinks_too_deep.true;
     }
@@ -52,7 +52,7 @@ returns c =
     record {
       yes = c.check.result;
       holds = c.check.ensures;
-      gives = weigh-on args.text.now (tokens_in args.words.now args.count) args.room (length args.scratch.now)
+      gives = weigh-on args.source.text.now (tokens_in args.source.words.now args.source.count) args.room (length args.scratch.now)
           c.if-not-check.false c.all_formed.ensures
           c.if-not-all_formed.false c.sinks_too_deep.ensures c.if-sinks_too_deep.false c.weigh_text.ensures;
     }

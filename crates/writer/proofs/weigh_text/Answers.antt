@@ -10,12 +10,12 @@ use Rattle.writer.proofs.Forms.{whole-count}
 use Rattle.writer.proofs.Weighing.{text-over, text-no_room, scratch-no_room, text-fits}
 use native.Mathlib.Omega.{arith}
 use Rattle.writer.proofs.weigh_text.Goals as goal
-use Rattle.writer.proofs.weigh_text.Goals.{then-room-size-via-then-room-size, then-room-size-via-else-room-size+then-capacity-count}
+use Rattle.writer.proofs.weigh_text.Goals.{then-room-size-via-then-room-size, then-room-size-via-else-room-size+then-capacity-source}
 
 pub returns-in_err-size : goal.returns-in_err-size
 returns-in_err-size c =
     let args = c.args in
-    let ts : List Token = tokens_in args.words.now args.count in
+    let ts : List Token = tokens_in args.source.words.now args.source.count in
     let over : c.measure.result ≡ None = grind arith in
     let told : c.from_residual.result ≡ Err TooLong = grind arith in
     told ∙ text-over args.room _ ts _ c.measure.ensures over
@@ -23,19 +23,19 @@ returns-in_err-size c =
 pub returns-then-room-size : goal.returns-then-room-size
 returns-then-room-size c =
     let args = c.args in
-    let ts : List Token = tokens_in args.words.now args.count in
+    let ts : List Token = tokens_in args.source.words.now args.source.count in
     let size : c.measure.result ≡ Some c.in_ok-size.size = grind arith in
     elim c.then-room-size.branch [
       | then-room-size-via-then-room-size w ↦ text-no_room args.room _ ts _ c.measure.ensures size w.if-room-size.true
-      | then-room-size-via-else-room-size+then-capacity-count w ↦
+      | then-room-size-via-else-room-size+then-capacity-source w ↦
           scratch-no_room args.room _ ts _ c.measure.ensures size w.if-room-size.false
-          (whole-count c.requires) w.capacity.ensures w.if-capacity-count.true
+          (whole-count c.requires) w.capacity.ensures w.if-capacity-source.true
     ]
 
 pub returns : goal.returns
 returns c =
     let args = c.args in
-    let ts : List Token = tokens_in args.words.now args.count in
+    let ts : List Token = tokens_in args.source.words.now args.source.count in
     let size : c.measure.result ≡ Some c.in_ok-size.size = grind arith in
     text-fits args.room _ ts _ c.measure.ensures size c.if-room-size.false
-    (whole-count c.requires) c.capacity.ensures c.if-capacity-count.false
+    (whole-count c.requires) c.capacity.ensures c.if-capacity-source.false

@@ -19,24 +19,24 @@ put_pairs-size-requires c = whole-range c.requires.0
 pub returns-then-comes_back : goal.returns-then-comes_back
 returns-then-comes_back c =
     let args = c.args in
-    let ts : List Token = tokens_in args.words.now args.count in
-    let bytes : List ℕ = text_of args.text.now ts in
-    let put = c.put_pairs-size.ensures ∙ ap (append args.out.now 0) (whole-text c.requires.0 args.text.now) in
+    let ts : List Token = tokens_in args.source.words.now args.source.count in
+    let bytes : List ℕ = text_of args.source.text.now ts in
+    let put = c.put_pairs-size.ensures ∙ ap (append args.out.now 0) (whole-text c.requires.0 args.source.text.now) in
     let fits = c.requires.1 in
-    let front = put_front args.out.now bytes fits put c.clear_from.ensures c.front.ensures.bytes in
-    reads-back args.text.now ts (length args.out.now) (length args.scratch.now) bytes front
+    let front = put_front args.out.now bytes fits put c.clear_from.ensures c.front-front.ensures.bytes in
+    reads-back args.source.text.now ts (length args.out.now) (length args.scratch.now) bytes front
     c.comes_back.ensures.told c.comes_back.ensures.clear
     c.if-comes_back.true (put-size args.out.now bytes fits put) (put-cleared args.out.now bytes fits put c.clear_from.ensures)
 
 pub returns : goal.returns
 returns c =
     let args = c.args in
-    let ts : List Token = tokens_in args.words.now args.count in
-    let bytes : List ℕ = text_of args.text.now ts in
-    let put = c.put_pairs-size.ensures ∙ ap (append args.out.now 0) (whole-text c.requires.0 args.text.now) in
+    let ts : List Token = tokens_in args.source.words.now args.source.count in
+    let bytes : List ℕ = text_of args.source.text.now ts in
+    let put = c.put_pairs-size.ensures ∙ ap (append args.out.now 0) (whole-text c.requires.0 args.source.text.now) in
     let fits = c.requires.1 in
-    let front = put_front args.out.now bytes fits put c.clear_from.ensures c.front.ensures.bytes in
+    let front = put_front args.out.now bytes fits put c.clear_from.ensures c.front-front.ensures.bytes in
     let kept = c.clear_from.auto.out ∙ c.put_pairs-size.auto.out in
-    reads-otherwise args.text.now ts (length args.out.now) (length args.scratch.now) bytes front
+    reads-otherwise args.source.text.now ts (length args.out.now) (length args.scratch.now) bytes front
     c.comes_back.ensures.told c.comes_back.ensures.clear c.if-comes_back.false
     (buffer-cleared c.clear_from.new.out c.clear_from-2.ensures kept)

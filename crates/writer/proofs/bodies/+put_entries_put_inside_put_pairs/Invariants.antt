@@ -19,16 +19,16 @@ decreases-put_pairs l = left_in l.from l.end
 
 abbrev pub invariant-put_entries-loop-i : goal.invariant-put_entries-loop-i
 invariant-put_entries-loop-i l =
-    Putting (tokens_in l.words l.count) l.text l.initial.out l.at l.from l.end
-    (body_text (stretch (tokens_in l.words l.count) l.from l.end) l.text l.alone Entry) l.out l.i l.next l.first Entry
+    Putting (tokens_in l.source.words.now l.source.count) l.source.text.now l.initial.out l.at l.from l.end
+    (body_text (stretch (tokens_in l.source.words.now l.source.count) l.from l.end) l.source.text.now l.alone Entry) l.out l.i l.next l.first Entry
 
 abbrev pub decreases-put_entries-loop-i : goal.decreases-put_entries-loop-i
 decreases-put_entries-loop-i l = l.end - l.i
 
 abbrev pub invariant-put_pairs-loop-i : goal.invariant-put_pairs-loop-i
 invariant-put_pairs-loop-i l =
-    Putting (tokens_in l.words l.count) l.text l.initial.out l.at l.from l.end
-    (body_text (stretch (tokens_in l.words l.count) l.from l.end) l.text true Key) l.out l.i l.next l.first l.due
+    Putting (tokens_in l.source.words.now l.source.count) l.source.text.now l.initial.out l.at l.from l.end
+    (body_text (stretch (tokens_in l.source.words.now l.source.count) l.from l.end) l.source.text.now true Key) l.out l.i l.next l.first l.due
 
 abbrev pub decreases-put_pairs-loop-i : goal.decreases-put_pairs-loop-i
 decreases-put_pairs-loop-i l = l.end - l.i

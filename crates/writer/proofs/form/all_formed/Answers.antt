@@ -21,25 +21,25 @@ pub inside_formed-requires : goal.inside_formed-requires
 inside_formed-requires c =
     let whole = c.requires in
     let i = c.loop-i.i in
-    let is = read-piece _ _ _ c.token_of.ensures c.piece_of-piece.ensures in
+    let is = read-piece _ _ _ c.piece-piece.ensures in
     whole-inside whole i _ c.loop-i-test.true is
 
 pub returns-then-not-inside_formed : goal.returns-then-not-inside_formed
 returns-then-not-inside_formed c =
     let whole = c.requires in
     let i = c.loop-i.i in
-    let is = read-piece _ _ _ c.token_of.ensures c.piece_of-piece.ensures in
+    let is = read-piece _ _ _ c.piece-piece.ensures in
     inside_wrong whole i _ c.loop-i-test.true is c.inside_formed.ensures c.if-not-inside_formed.true
 
 pub loop-i-preserved : goal.loop-i-preserved
 loop-i-preserved c =
     let whole = c.requires in
     let i = c.loop-i.i in
-    let is = read-piece _ _ _ c.token_of.ensures c.piece_of-piece.ensures in
+    let is = read-piece _ _ _ c.piece-piece.ensures in
     (one_more _ i _ c.loop-i.invariant.0 is c.inside_formed.ensures c.if-not-inside_formed.false, c.loop-i.invariant.1, omega arith)
 
 pub returns : goal.returns
 returns c =
     let args = c.args in
-    let done : c.loop-i.i ≡ args.count = omega arith in
+    let done : c.loop-i.i ≡ args.source.count = omega arith in
     all_right c.requires (λ k u v. c.loop-i.invariant.0 k u (omega arith)) c.loop-i.invariant.1

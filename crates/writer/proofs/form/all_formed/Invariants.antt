@@ -10,4 +10,4 @@ use Rattle.writer.proofs.Forms.{Insides}
 use Rattle.writer.proofs.form.all_formed.Given as goal
 
 abbrev pub invariant-loop-i : goal.invariant-loop-i
-invariant-loop-i l = Insides (tokens_in l.words l.count) 0 l.i × (body_form (stretch (tokens_in l.words l.count) 0 l.count) Key ≡ true) × (l.i ≤ l.count)
+invariant-loop-i l = Insides (tokens_in l.source.words.now l.source.count) 0 l.i × (body_form (stretch (tokens_in l.source.words.now l.source.count) 0 l.source.count) Key ≡ true) × (l.i ≤ l.source.count)

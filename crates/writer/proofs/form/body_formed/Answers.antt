@@ -16,19 +16,19 @@ loop-i-init c = (c.requires, refl)
 
 pub returns-then-not-takes : goal.returns-then-not-takes
 returns-then-not-takes c =
-    let met = read_met _ _ _ c.loop-i.invariant.0 c.loop-i-test.true c.token_of.ensures c.piece_of-piece.ensures in
+    let met = read_met _ _ _ c.loop-i.invariant.0 c.loop-i-test.true c.piece-piece.ensures in
     let m = c.loop-i in
     sym (m.invariant.1 ∙ sym (step_wrong met m.due c.takes.ensures c.if-not-takes.true))
 
 pub loop-i-smaller : goal.loop-i-smaller
 loop-i-smaller c =
-    let met = read_met _ _ _ c.loop-i.invariant.0 c.loop-i-test.true c.token_of.ensures c.piece_of-piece.ensures in
+    let met = read_met _ _ _ c.loop-i.invariant.0 c.loop-i-test.true c.piece-piece.ensures in
     let on = step_ahead met _ c.behind-i.ensures in
     omega (arith, on.0)
 
 pub loop-i-preserved : goal.loop-i-preserved
 loop-i-preserved c =
-    let met = read_met _ _ _ c.loop-i.invariant.0 c.loop-i-test.true c.token_of.ensures c.piece_of-piece.ensures in
+    let met = read_met _ _ _ c.loop-i.invariant.0 c.loop-i-test.true c.piece-piece.ensures in
     let m = c.loop-i in (
       step_range met _ c.behind-i.ensures,
       m.invariant.1
@@ -41,5 +41,5 @@ unfolding body_form
 returns c =
     let args = c.args in
     let m = c.loop-i in
-    let ts : List Token = tokens_in args.words.now args.count in
+    let ts : List Token = tokens_in args.source.words.now args.source.count in
     c.may_end.ensures ∙ sym (m.invariant.1 ∙ ap (λ (f : Forest). body_form f m.due) (stretch-none ts m.i args.end c.loop-i-test.false))

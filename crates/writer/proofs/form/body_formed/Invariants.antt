@@ -8,8 +8,8 @@ use Rattle.writer.proofs.form.body_formed.Given as goal
 
 abbrev pub invariant-loop-i : goal.invariant-loop-i
 invariant-loop-i l =
-    Range (tokens_in l.words l.count) l.i l.end
-    × (body_form (stretch (tokens_in l.words l.count) l.from l.end) l.initial.due ≡ body_form (stretch (tokens_in l.words l.count) l.i l.end) l.due)
+    Range (tokens_in l.source.words.now l.source.count) l.i l.end
+    × (body_form (stretch (tokens_in l.source.words.now l.source.count) l.from l.end) l.initial.due ≡ body_form (stretch (tokens_in l.source.words.now l.source.count) l.i l.end) l.due)
 
 abbrev pub decreases-loop-i : goal.decreases-loop-i
 decreases-loop-i l = l.end - l.i

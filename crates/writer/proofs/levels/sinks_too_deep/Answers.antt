@@ -18,10 +18,10 @@ returns-in_default c =
     let whole = c.requires in
     let m = c.loop-i in
     let read =
-    read-sunk args.words.now args.count m.i m.level
-    c.token_of.ensures c.link_of-link.ensures c.sink.ensures
+    read-sunk args.source.words.now args.source.count m.i m.level
+    c.token.ensures c.link_of-link.ensures c.sink.ensures
     in
-    let inside : m.i < length (tokens_in args.words.now args.count) = omega (arith, whole-count whole, c.loop-i-test.true) in
+    let inside : m.i < length (tokens_in args.source.words.now args.source.count) = omega (arith, whole-count whole, c.loop-i-test.true) in
     sym (sym (deep_told whole) ∙ m.invariant.0 ∙ sinks-now _ m.i m.level inside read c.in_default.is)
 
 pub loop-i-preserved : goal.loop-i-preserved
@@ -30,10 +30,10 @@ loop-i-preserved c =
     let whole = c.requires in
     let m = c.loop-i in
     let read =
-    read-sunk args.words.now args.count m.i m.level
-    c.token_of.ensures c.link_of-link.ensures c.sink.ensures
+    read-sunk args.source.words.now args.source.count m.i m.level
+    c.token.ensures c.link_of-link.ensures c.sink.ensures
     in
-    let inside : m.i < length (tokens_in args.words.now args.count) = omega (arith, whole-count whole, c.loop-i-test.true) in
+    let inside : m.i < length (tokens_in args.source.words.now args.source.count) = omega (arith, whole-count whole, c.loop-i-test.true) in
     let next = c.in-Some.is in
     (m.invariant.0 ∙ sinks_on _ m.i m.level inside read next, sunk-within m.level _ m.invariant.1 (sym read ∙ next))
 

@@ -9,4 +9,4 @@ use Rattle.writer.proofs.levels.sinks_too_deep.Given as goal
 
 abbrev pub invariant-loop-i : goal.invariant-loop-i
 invariant-loop-i l =
-    (sinks (tokens_in l.words l.count) 0 ≡ sinks (drop l.i (tokens_in l.words l.count)) l.level) × (l.level ≤ most_levels)
+    (sinks (tokens_in l.source.words.now l.source.count) 0 ≡ sinks (drop l.i (tokens_in l.source.words.now l.source.count)) l.level) × (l.level ≤ most_levels)

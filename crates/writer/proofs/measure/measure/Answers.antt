@@ -18,10 +18,10 @@ returns-then-total-size c =
     let args = c.args in
     let whole = c.requires in
     let m = c.loop-i in
-    let inside : m.i < length (tokens_in args.words.now args.count) = omega (arith, whole-count whole, c.loop-i-test.true) in
+    let inside : m.i < length (tokens_in args.source.words.now args.source.count) = omega (arith, whole-count whole, c.loop-i-test.true) in
     let on =
-    size-on args.text.now args.words.now args.count m.i m.first inside
-    c.token_of-x.ensures c.link_of-link.ensures
+    size-on args.source.text.now args.source.words.now args.source.count m.i m.first inside
+    c.token-x.ensures c.link_of-link.ensures
     in
     let size = c.token_size-size.ensures.exact in
     measured-over _ (omega (arith, on, size, m.invariant.0, m.invariant.1, c.if-total-size.true))
@@ -31,10 +31,10 @@ loop-i-preserved c =
     let args = c.args in
     let whole = c.requires in
     let m = c.loop-i in
-    let inside : m.i < length (tokens_in args.words.now args.count) = omega (arith, whole-count whole, c.loop-i-test.true) in
+    let inside : m.i < length (tokens_in args.source.words.now args.source.count) = omega (arith, whole-count whole, c.loop-i-test.true) in
     let on =
-    size-on args.text.now args.words.now args.count m.i m.first inside
-    c.token_of-x.ensures c.link_of-link.ensures
+    size-on args.source.text.now args.source.words.now args.source.count m.i m.first inside
+    c.token-x.ensures c.link_of-link.ensures
     in
     let size = c.token_size-size.ensures.exact in
     (rw c.first_behind-first.ensures (omega (arith, on, size, m.invariant.0)), omega (arith, m.invariant.1, c.if-total-size.false))
@@ -44,5 +44,5 @@ returns c =
     let whole = c.requires in
     let m = c.loop-i in
     let args = c.args in
-    let none = size_none args.text.now (tokens_in args.words.now args.count) m.i m.first (omega (arith, whole-count whole)) in
+    let none = size_none args.source.text.now (tokens_in args.source.words.now args.source.count) m.i m.first (omega (arith, whole-count whole)) in
     measured-size m.total _ (omega (arith, none, m.invariant.0)) m.invariant.1

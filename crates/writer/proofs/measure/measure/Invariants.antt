@@ -10,4 +10,4 @@ use Rattle.writer.proofs.measure.measure.Given as goal
 
 abbrev pub invariant-loop-i : goal.invariant-loop-i
 invariant-loop-i l =
-    (l.total + text_size l.text (drop l.i (tokens_in l.words l.count)) l.first ≡ length (text_of l.text (tokens_in l.words l.count))) × (l.total ≤ text_limit)
+    (l.total + text_size l.source.text.now (drop l.i (tokens_in l.source.words.now l.source.count)) l.first ≡ length (text_of l.source.text.now (tokens_in l.source.words.now l.source.count))) × (l.total ≤ text_limit)
