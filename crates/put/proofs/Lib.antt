@@ -2,4 +2,3 @@ pub mod Append
 pub mod Clears
 pub mod Equality
 pub mod Parts
-pub mod Strides
