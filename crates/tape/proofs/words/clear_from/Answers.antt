@@ -1,11 +1,9 @@
 -- `tape::words::clear_from` meets its contract: zeros over the words past the tokens, or past the last whole one.
 -- Assumes nothing.
-use native.Mathlib.Omega.{arith}
-use Rattle.tape.proofs.Laying.{zeros-over, zeros-over-whole}
+use mathlib.Core.Path.{◌∙◌, ap}
+use Prim.Native.Nat.{min}
+use Rattle.tape.proofs.Laying.{zeros-past}
 use Rattle.tape.proofs.words.clear_from.Goals as goal
 
-pub returns-then-laid-whole : goal.returns-then-laid-whole
-returns-then-laid-whole c = zeros-over _ _ c.args.count (omega arith) c.zero_all.ensures
-
 pub returns : goal.returns
-returns c = zeros-over-whole _ _ _ c.if-laid-whole.false c.zero_all-2.ensures
+returns c = zeros-past c.args.tape.now _ c.args.count (c.min-laid.ensures ∙ ap (min c.args.count) c.capacity.ensures) (c.fill.ensures.after (λ y e. e))
