@@ -76,15 +76,21 @@ pub same_bytes : (out : List ℕ) (at : ℕ) (xs ys : List ℕ) {r : ℕ} {o : L
     → wrote r o ≡ append out at ys
 same_bytes out at xs ys e f = e ∙ ap (append out at) f
 
--- as many bytes as there is room for are put, or all: what was put over a part of the buffer
+-- a part of the buffer that is copied over has its bytes stored there
+pub part-set : (out part : List ℕ) (at : ℕ) {n : ℕ} → length part ≡ n → at + n ≤ length out → put_mid at (at + n - at) out part ≡ sets out at part
+part-set out part at {n} size room =
+    let all : at + n - at ≡ length part = omega arith in
+    rw (all, drop-drop (length part) at out, ← append_assoc (take at out) part (drop (at + length part) out))
+    (sym (sets-eq part out at (omega arith)))
+
+-- as many bytes as there is room for are put, or all
 module _ (out : List ℕ) (at : ℕ) (bytes : List ℕ) (n : ℕ) (room : at + n ≤ length out) where
   put_first : n ≤ length bytes → wrote (at + n) (put_mid at (at + n - at) out (take n bytes)) ≡ append out at (take n bytes)
   put_first some =
       let size : length (take n bytes) ≡ n = length-take-le n bytes some in
-      let part : at + n - at ≡ n = omega arith in
-      rw (part, drop-drop n at out, ← append_assoc (take at out) (take n bytes) (drop (at + n) out))
-      (sym (append-fits out at (take n bytes) (omega arith)
-      ∙ ap (λ (k : ℕ). wrote (at + k) (take at out ++ take n bytes ++ drop (at + k) out)) size))
+      ap (wrote (at + n)) (part-set out (take n bytes) at size room)
+      ∙ ap (λ (k : ℕ). wrote (at + k) (sets out at (take n bytes))) (sym size)
+      ∙ sym (stored (take n bytes) out at (omega arith))
 
   pub put-room : n ≤ length bytes → (at + n < length out → length bytes ≤ n) → {part : List ℕ} → part ≡ take n bytes
       → wrote (at + n) (put_mid at (at + n - at) out part) ≡ append out at bytes
