@@ -7,7 +7,7 @@ ghost use Rattle.data.specs.Classes.{classes, is_boundary, may_be_sign};
 // How many bytes there are, each with its class.
 pub const BYTE_COUNT: usize = 256;
 
-// The class of each byte: 1 where it ends an unquoted run, 0 elsewhere.
+// The class of each byte: 1 where it ends an unquoted run, 0 elsewhere. Bytes and no truth values, since C lends such tables to the cuts.
 const CHARACTER_CLASS: [u8; BYTE_COUNT] = [
     0, 0, 0, 0, 0, 0, 0, 0, 0, 1, // tab
     1, // LF

@@ -17,6 +17,7 @@ pub fn read_full<R: Read>(from: &mut R, buffer: &mut [u8]) -> io::Result<usize>
     // The buffer is left unfilled only where the stream ended.
     ensures end { IfOk result (λ n. n < length buffer.new → IsAtEnd (R.remaining from.new)) }
 {
+    // `read_exact` refuses a stream that ends early and does not say how much it read, which is what is answered here.
     let mut done = 0;
     while done < buffer.len() {
         let n = from.read(&mut buffer[done..])?;

@@ -6,13 +6,12 @@ ghost use Rattle.packed.specs.Numbers.{store};
 ghost use Rattle.packed.specs.Packed.{bytes_per_token, bytes_for, token_bytes, packed, token_spelled, words_packed};
 
 use crate::numbers;
+use crate::numbers::{WORD_BYTES, Width};
 use tape::token::Token;
 use tape::{token, words};
 
-// The bytes of a token's code, and of each word behind it.
+// The bytes of a token's code, before its words.
 const CODE_BYTES: usize = 1;
-
-const WORD_BYTES: usize = 4;
 
 // How many bytes a token takes.
 pub const BYTES_PER_TOKEN: usize = CODE_BYTES + WORD_BYTES + WORD_BYTES;
@@ -34,9 +33,9 @@ fn token_at(bytes: &[u8], at: usize) -> Token
     ensures { result ≡ token_spelled bytes.now at }
 {
     Token {
-        code: numbers::one_at(bytes, at),
-        a: numbers::four_at(bytes, at + A_AT),
-        b: numbers::four_at(bytes, at + B_AT),
+        code: numbers::spelt_at(bytes, at, Width::One),
+        a: numbers::spelt_at(bytes, at + A_AT, Width::Four),
+        b: numbers::spelt_at(bytes, at + B_AT, Width::Four),
     }
 }
 
@@ -57,9 +56,9 @@ fn put_token(out: &mut [u8], at: usize, t: Token)
     requires { at + bytes_per_token ≤ length out.old }
     ensures { out.new ≡ sets out.old at (token_bytes t) }
 {
-    numbers::put_one(out, at, t.code);
-    numbers::put_four(out, at + A_AT, t.a);
-    numbers::put_four(out, at + B_AT, t.b);
+    numbers::spell_at(out, at, Width::One, t.code);
+    numbers::spell_at(out, at + A_AT, Width::Four, t.a);
+    numbers::spell_at(out, at + B_AT, Width::Four, t.b);
 }
 
 // Puts the n tokens of a sheet from a place on.
@@ -67,14 +66,12 @@ fn put_all(words: &[u32], count: usize, n: usize, out: &mut [u8], at: usize)
     requires { (n ≡ length (tokens_in words.now count)) × (at + bytes_for n ≤ length out.old) }
     ensures { out.new ≡ sets out.old at (packed (tokens_in words.now count)) }
 {
-    let mut i = 0;
-    while i < n {
+    for i in 0..n {
         put_token(
             out,
             at + i * BYTES_PER_TOKEN,
             words::token_of(words, count, i),
         );
-        i += 1;
     }
 }
 

@@ -2,14 +2,18 @@
 -- Assumes nothing.
 use mathlib.Core.Path.{◌≡◌, refl, sym, ap, ◌∙◌}
 use mathlib.Core.Bool.{false}
-use mathlib.Core.List.{List, [], ◌∷◌, ◌++◌}
-use Prim.Native.Nat.{ℕ, ◌+◌, ◌≤◌, ◌<◌}
+use mathlib.Core.List.{List, [], ◌∷◌, ◌++◌, append_assoc}
+use Prim.Native.Nat.{ℕ, ◌+◌, ◌-◌, ◌≤◌, ◌<◌}
 use native.Mathlib.Numerals.{add-one}
 use native.Mathlib.Omega.{arith}
-use borrow.Author.Tests.{lt-ltb, le-ltb}
+use borrow.Author.Tests.{lt-ltb, le-ltb, ltb-true, ltb-false}
+use borrow.Rule.Slice.PartMut.{put_mid}
 use lib.Dec.{ltb}
-use lib.ListN.{length, get_or, set, take, drop, length-set, drop_of_length-le}
-use lib.Seq.{drop-cons, sets, sets-eq}
+use lib.ListN.{length, set, take, drop, length-set}
+use lib.Seq.{sets, sets-eq, length-take-le, take_all, drop-drop}
+use Rattle.std.proofs.Common.{take-append-drop}
+use Rattle.std.proofs.lemmas.Slice.{overwrites}
+use borrow.Author.Rules.{rules}
 use Rattle.data.proofs.Cases.{by_bool}
 use Rattle.put.specs.Append.{Wrote, wrote, append, and_then}
 
@@ -67,17 +71,39 @@ pub put_on : (out : List ℕ) (at : ℕ) (all xs bs : List ℕ) {r : ℕ} {o : L
 put_on out at all xs bs parts e =
     ap (append out at) parts ∙ append-more out at xs bs ∙ ap (λ (w : Wrote). and_then w bs) (sym e)
 
--- what is left of some bytes from an index on: its first is put, and then what is left from the next on
-pub left-on : (out bytes : List ℕ) (at i : ℕ) {r : ℕ} {o : List ℕ} → i < length bytes → wrote r o ≡ append out at (get_or bytes i 0 ∷ [])
-    → append out at (drop i bytes) ≡ append o r (drop (i + 1) bytes)
-left-on out bytes at i h e = put_on out at (drop i bytes) (get_or bytes i 0 ∷ []) (drop (i + 1) bytes) (rw (drop-cons bytes i 0 h, ← add-one i)) e
-
--- and past its last nothing is left
-pub left-none : (out bytes : List ℕ) (at i : ℕ) → length bytes ≤ i → wrote at out ≡ append out at (drop i bytes)
-unfolding append
-left-none out bytes at i h = rw (drop_of_length-le bytes h)
-
 -- the same bytes by another name
 pub same_bytes : (out : List ℕ) (at : ℕ) (xs ys : List ℕ) {r : ℕ} {o : List ℕ} → wrote r o ≡ append out at xs → xs ≡ ys
     → wrote r o ≡ append out at ys
 same_bytes out at xs ys e f = e ∙ ap (append out at) f
+
+-- a part of the buffer that is copied over has its bytes stored there
+pub part-set : (out part : List ℕ) (at : ℕ) {n : ℕ} → length part ≡ n → at + n ≤ length out → put_mid at (at + n - at) out part ≡ sets out at part
+part-set out part at {n} size room =
+    let all : at + n - at ≡ length part = omega arith in
+    rw (all, drop-drop (length part) at out, ← append_assoc (take at out) part (drop (at + length part) out))
+    (sym (sets-eq part out at (omega arith)))
+
+-- as many bytes as there is room for are put, or all
+module _ (out : List ℕ) (at : ℕ) (bytes : List ℕ) (n : ℕ) (room : at + n ≤ length out) where
+  put_first : n ≤ length bytes → wrote (at + n) (put_mid at (at + n - at) out (take n bytes)) ≡ append out at (take n bytes)
+  put_first some =
+      let size : length (take n bytes) ≡ n = length-take-le n bytes some in
+      ap (wrote (at + n)) (part-set out (take n bytes) at size room)
+      ∙ ap (λ (k : ℕ). wrote (at + k) (sets out at (take n bytes))) (sym size)
+      ∙ sym (stored (take n bytes) out at (omega arith))
+
+  pub put-room : n ≤ length bytes → (at + n < length out → length bytes ≤ n) → {part : List ℕ} → part ≡ take n bytes
+      → wrote (at + n) (put_mid at (at + n - at) out part) ≡ append out at bytes
+  put-room some most {part} e =
+      let after : List ℕ = put_mid at (at + n - at) out (take n bytes) in
+      let size : length after ≡ length out = same_size in
+      rw e
+      (by_bool (ltb (at + n) (length out))
+      (λ l. put_first some ∙ ap (append out at) (take_all n bytes (most (ltb-true (at + n) (length out) l))))
+      (λ f.
+      let full : length after ≤ at + n = omega (arith, size, ltb-false (at + n) (length out) f) in
+      put-none after (at + n) (drop n bytes) full
+      ∙ sym (put_on out at bytes (take n bytes) (drop n bytes) (sym (take-append-drop n bytes)) (put_first some))))
+    where
+      same_size : length (put_mid at (at + n - at) out (take n bytes)) ≡ length out
+      same_size = search (rules, overwrites)

@@ -4,7 +4,8 @@ use Rattle.std.specs.Prelude.{Option, Some, None}
 use mathlib.Core.Path.{◌≡◌, refl, sym, ◌∙◌, ap}
 use mathlib.Core.Bool.{Bool, true, false, false≢true}
 use mathlib.Core.List.{List, ◌++◌, append-nil}
-use Prim.Native.Nat.{ℕ, zero, suc, ◌+◌, ◌-◌, ◌^◌, ◌≤◌, ◌<◌}
+use Prim.Native.Nat.{ℕ, zero, suc, ◌+◌, ◌-◌, ◌^◌, ◌≤◌, ◌<◌, min}
+use Rattle.std.proofs.Math.Nat.{min-le_right}
 use native.Mathlib.Omega.{arith}
 use borrow.Author.Tests.{lt-ltb, le-ltb, ltb-true, ltb-false}
 use lib.Dec.{ltb}
@@ -46,32 +47,19 @@ zeros-over ws zs n h e =
     rw (cleared-taken ws n h, e, mid_len (words_for n) (length ws) ws (omega arith), Post-is (words_for n) (length ws) ws h, drop-length ws)
     (ap (λ (us : List ℕ). take (words_for n) ws ++ us) (append-nil _))
 
--- and from the last whole token on, where more are asked for
-abbrev pub whole_words : List ℕ → ℕ
-whole_words ws = words_for (capacity (length ws))
-
-pub zeros-over-whole : (ws zs : List ℕ) (n : ℕ) → capacity (length ws) ≤ n
-    → zs ≡ replicate (length (mid_of (whole_words ws) (length ws - whole_words ws) ws)) 0
-    → put_mid (whole_words ws) (length ws - whole_words ws) ws zs ≡ cleared ws n
+-- and from the last whole token on, where more are asked for: m are laid
+pub zeros-past : (ws zs : List ℕ) (n : ℕ) {m : ℕ} → m ≡ min n (capacity (length ws))
+    → zs ≡ replicate (length (mid_of (words_for m) (length ws - words_for m) ws)) 0
+    → put_mid (words_for m) (length ws - words_for m) ws zs ≡ cleared ws n
 unfolding cleared
-zeros-over-whole ws zs n h e =
-    zeros-over ws zs (capacity (length ws)) (omega arith) e
-    ∙ sym (ap (λ (ts : List Token). padded (length ws) ts) (tokens-whole ws n h))
-
--- so zeros laid over all words behind the tokens that stand there clear them
-pub zeros-behind : (ws zs : List ℕ) (n k : ℕ) → k ≡ length (tokens_in ws n)
-    → zs ≡ replicate (length (mid_of (words_for k) (length ws - words_for k) ws)) 0
-    → put_mid (words_for k) (length ws - words_for k) ws zs ≡ cleared ws n
-zeros-behind ws zs n k h e =
-    by_bool (ltb n (capacity (length ws)))
+zeros-past ws zs n {m} least e =
+    zeros-over ws zs m (omega (arith, least, min-le_right n (capacity (length ws)))) e
+    ∙ by_bool (ltb n (capacity (length ws)))
+    (λ t. ap (cleared ws) {x = m} {y = n} (omega (arith, least, ltb-true n (capacity (length ws)) t)))
     (λ f.
-    let few : n < capacity (length ws) = ltb-true _ _ f in
-    let same : k ≡ n = omega (arith, h, tokens-length ws n) in
-    rw same (zeros-over ws zs n (omega arith) (rw same at e)))
-    (λ f.
-    let many : capacity (length ws) ≤ n = ltb-false _ _ f in
-    let same : k ≡ capacity (length ws) = omega (arith, h, tokens-length ws n) in
-    rw same (zeros-over-whole ws zs n many (rw same at e)))
+    let past : capacity (length ws) ≤ n = ltb-false n (capacity (length ws)) f in
+    let whole : m ≡ capacity (length ws) = omega (arith, least) in
+    rw whole (sym (ap (λ (ts : List Token). padded (length ws) ts) (tokens-whole ws n past))))
 
 -- two tapes are equal by their room and their tokens
 same-tape : {k l : ℕ} {ts us : List Token} → k ≡ l → ts ≡ us

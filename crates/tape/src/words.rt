@@ -1,6 +1,6 @@
 // Tokens on a lent slice of words: read one, lay one down after the others, change one, clear what stands past them.
 // `count` says how many tokens stand on the tape, and an index that is not below it reads and changes nothing.
-ghost use Rattle.std.specs.Prelude.{◌≡◌, length, get_or, set, replicate, leb};
+ghost use Rattle.std.specs.Prelude.{◌≡◌, length, get_or, set, leb};
 ghost use Rattle.tape.specs.Words.{words_for, a_word, capacity, tokens_in, token_in};
 ghost use Rattle.tape.specs.Words.{put_words, put_in, written, push_words, insert_words, cleared};
 ghost use Rattle.tape.specs.Tape.{view, replace, lay, lay_mixed, after_push};
@@ -140,6 +140,7 @@ pub fn insert_mixed(tape: &mut [u32], count: u32) -> Option<u32>
 pub fn clear_from(tape: &mut [u32], count: u32)
     ensures { tape.new ≡ cleared tape.old count }
 {
-    let from = held(tape, count as usize) * WORDS_PER_TOKEN;
+    let laid = (count as usize).min(capacity(tape));
+    let from = laid * WORDS_PER_TOKEN;
     tape[from..].fill(0);
 }

@@ -13,28 +13,24 @@ use Rattle.packed.proofs.tokens.put_all.Goals as goal
 
 pub loop-i-init : goal.loop-i-init
 unfolding packed
-loop-i-init c = (search rules, refl, refl)
+loop-i-init c = (refl, refl)
 
 pub put_token-requires : goal.put_token-requires
-put_token-requires c = omega (arith, c.loop-i.invariant.1)
-
-pub loop-i-smaller : goal.loop-i-smaller
-loop-i-smaller c = omega arith
+put_token-requires c = omega (arith, c.loop-i.invariant.0)
 
 pub loop-i-preserved : goal.loop-i-preserved
 unfolding token_in
 loop-i-preserved c =
     let inv = c.loop-i.invariant in (
-      omega arith,
       search rules,
-      packed_more _ _ _ _ (omega arith) c.token_of.ensures inv.2 c.put_token.ensures,
+      packed_more _ _ _ _ (omega arith) c.token_of.ensures inv.1 c.put_token.ensures,
     )
 
 pub shape_of-out : goal.shape_of-out
-shape_of-out c = c.loop-i.invariant.1
+shape_of-out c = c.loop-i.invariant.0
 
 pub returns : goal.returns
 returns c =
     let ts : List Token = tokens_in c.args.words.now c.args.count in
-    c.loop-i.invariant.2
+    c.loop-i.invariant.1
     ∙ ap (λ (us : List Token). sets c.args.out.now c.args.at (packed us)) (take_all c.loop-i.i ts (omega arith))

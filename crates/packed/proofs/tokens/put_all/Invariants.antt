@@ -1,6 +1,5 @@
--- What each turn keeps, and what gets less.
+-- What each turn keeps.
 use mathlib.Core.Path.{◌≡◌}
-use Prim.Native.Nat.{◌-◌, ◌≤◌}
 use lib.ListN.{length, take}
 use lib.Seq.{sets}
 use Rattle.tape.specs.Words.{tokens_in}
@@ -9,7 +8,4 @@ use Rattle.packed.proofs.tokens.put_all.Given as goal
 
 abbrev pub invariant-loop-i : goal.invariant-loop-i
 invariant-loop-i l =
-    (l.i ≤ l.n) × (length l.out ≡ length l.initial.out) × (l.out ≡ sets l.initial.out l.at (packed (take l.i (tokens_in l.words l.count))))
-
-abbrev pub decreases-loop-i : goal.decreases-loop-i
-decreases-loop-i l = l.n - l.i
+    (length l.out ≡ length l.initial.out) × (l.out ≡ sets l.initial.out l.at (packed (take l.i (tokens_in l.words l.count))))

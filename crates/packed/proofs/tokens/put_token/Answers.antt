@@ -5,4 +5,4 @@ use Rattle.packed.proofs.tokens.put_token.Goals as goal
 
 pub returns : goal.returns
 returns c =
-    token-put _ _ _ c.put_one.ensures c.put_four.ensures c.put_four-2.ensures
+    token-put _ _ _ c.spell_at.ensures c.spell_at-2.ensures c.spell_at-3.ensures

@@ -4,4 +4,4 @@ use Rattle.packed.proofs.Packing.{token-read}
 use Rattle.packed.proofs.tokens.token_at.Goals as goal
 
 pub returns : goal.returns
-returns c = token-read _ _ c.one_at.ensures c.four_at.ensures c.four_at-2.ensures
+returns c = token-read _ _ c.spelt_at.ensures c.spelt_at-2.ensures c.spelt_at-3.ensures
