@@ -13,7 +13,9 @@ use Rattle.scalar.specs.Whole.{most_i64, has_tail}
 use Rattle.scalar.specs.declared.float.Tail.TheVariants.{End, Point, Other}
 use Rattle.scalar.specs.declared.kinds.ReadingKind.TheVariants.{Bool as Truth, Whole, Decimal, Name}
 use Rattle.scalar.specs.declared.kinds.ReadingKind.{ReadingKind}
-use Rattle.scalar.specs.declared.truth.BoolRead.TheVariants.{Is, InvalidBool}
+use Rattle.std.specs.Prelude.{Ok, Err, is_ok}
+use mathlib.Core.Bool.{false≢true}
+use Rattle.scalar.specs.declared.errors.ScalarError.{ScalarError}
 
 -- ---- without a point
 
@@ -145,24 +147,21 @@ unsigned b s h k = rw (number_or_name, ne_eqb b minus h, ne_eqb b plus k)
 
 -- ---- yes and no
 
-none-answered : {b : Bool} → InvalidBool ≡ Is b → ⊥
-none-answered e = let z : ◌≡◌ {A = ℕ} 0 1 = cc in omega arith
-
 -- the two words are what the reading of yes and no answers
-pub truth : (d : List ℕ) (b : Bool) → bool_read d ≡ Is b → kind_of d ≡ Truth
+pub truth : (d : List ℕ) (b : Bool) → bool_read d ≡ Ok b → kind_of d ≡ Truth
 unfolding bool_read kind_of
 truth d b e =
     by_bool (same d yes)
     (λ t. rw (kind_of, t))
     (λ f. by_bool (same d no)
     (λ t. rw (kind_of, f, t))
-    (λ g. absurd (none-answered (rw (bool_read, f, g) at e))))
+    (λ g. absurd (false≢true (ap is_ok (rw (bool_read, f, g) at e)))))
 
-pub no_truth : (d : List ℕ) → bool_read d ≡ InvalidBool → kind_of d ≡ number_or_name d
+pub no_truth : (d : List ℕ) (e : ScalarError) → bool_read d ≡ Err e → kind_of d ≡ number_or_name d
 unfolding bool_read kind_of
-no_truth d e =
+no_truth d e told =
     by_bool (same d yes)
-    (λ t. absurd (none-answered (sym (rw (bool_read, t) at e))))
+    (λ t. absurd (false≢true (sym (ap is_ok (rw (bool_read, t) at told)))))
     (λ f. by_bool (same d no)
-    (λ t. absurd (none-answered (sym (rw (bool_read, f, t) at e))))
+    (λ t. absurd (false≢true (sym (ap is_ok (rw (bool_read, f, t) at told)))))
     (λ g. rw (kind_of, f, g)))
