@@ -6,7 +6,7 @@ use native.Mathlib.Nat.{mod-lt}
 use native.Mathlib.Omega.{arith}
 use borrow.Author.Tests.{lt-ltb, le-ltb}
 use Rattle.date.specs.Calendar.{date, year_days, days_before, date_counted, date_at}
-use Rattle.date.specs.declared.calendar.DateRead.TheVariants.{Is}
+use Rattle.std.specs.Prelude.{Ok}
 use Rattle.date.proofs.Months.{Falls, month_falls}
 use Rattle.date.proofs.calendar.from_days.Goals as goal
 
@@ -33,4 +33,4 @@ returns c =
     let month = c.month_of-month.ensures in
     let before = c.days_before.ensures ∙ ap days_before month in
     rw (date_at, le-ltb _ _ c.if-days-gt-LAST_DAY.false)
-    (λ j. Is (date (days / year_days + 1) (month j) (days % year_days - before j + 1) 0))
+    (λ j. Ok (date (days / year_days + 1) (month j) (days % year_days - before j + 1) 0))

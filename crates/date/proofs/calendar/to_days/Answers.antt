@@ -3,7 +3,7 @@
 use mathlib.Core.Path.{sym, ◌∙◌, ap}
 use native.Mathlib.Omega.{arith}
 use Rattle.date.specs.Calendar.{count_of, days_of}
-use Rattle.date.specs.declared.calendar.DaysRead.TheVariants.{Is}
+use Rattle.std.specs.Prelude.{Ok}
 use Rattle.date.proofs.Months.{before-year}
 use Rattle.date.proofs.Ranges.{ranged-is}
 use Rattle.date.proofs.calendar.to_days.Goals as goal
@@ -38,4 +38,4 @@ overflow_add-result-2 c =
 
 pub returns : goal.returns
 unfolding days_of count_of
-returns c = rw (days_of, sym c.in_range.ensures ∙ c.if-not-in_range.false) (ap Is (omega (arith, c.days_before-months.ensures)))
+returns c = rw (days_of, sym c.in_range.ensures ∙ c.if-not-in_range.false) (ap Ok (omega (arith, c.days_before-months.ensures)))
