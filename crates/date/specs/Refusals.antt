@@ -1,5 +1,6 @@
 -- Request W8's numbers for what is refused about dates, and what stands for a date where there is none.
-use Rattle.std.specs.Prelude.{ℕ}
+use Rattle.std.specs.Prelude.{Result, ℕ}
+use Rattle.scalar.specs.Numbers.{refusal_of}
 use Rattle.date.specs.Calendar.{date}
 use Rattle.date.specs.declared.calendar.Date.{Date}
 use Rattle.date.specs.declared.refusals.DateError.TheVariants.{NotADate, OutOfRange}
@@ -17,6 +18,10 @@ out_of_range = 52
 abbrev pub error_number_of : DateError → ℕ
 error_number_of NotADate = not_a_date
 error_number_of OutOfRange = out_of_range
+
+-- and of what is answered about dates, 0 where there is an answer
+abbrev pub date_refusal : {A : Type 0} → Result A DateError → ℕ
+date_refusal r = refusal_of error_number_of r
 
 -- zeros, where there is no date
 abbrev pub no_date : Date

@@ -38,6 +38,10 @@ abbrev pub refusal_of : {A E : Type 0} → (E → ℕ) → Result A E → ℕ
 refusal_of number (Ok a) = answered
 refusal_of number (Err e) = number e
 
+-- so of what a reading answered
+abbrev pub scalar_refusal : {A : Type 0} → Result A ScalarError → ℕ
+scalar_refusal r = refusal_of error_number_of r
+
 -- the value of a decimal, which a loss of precision carries too
 abbrev pub f64_value_of : Result Float ScalarError → Float
 f64_value_of (Ok x) = x
