@@ -1,9 +1,10 @@
 -- Demand 2 of the readings: what our definitions answer, in the Rust's words, is what the Rust answers of the same scalar.
+use Rattle.std.specs.Result.{result_unwrap_or}
 use Rattle.std.specs.Prelude.{ℕ, ◌^◌, ◌<◌, Bool, true, false, List, ◌≡◌, eqb, Float, ℤ, length}
 use Rattle.std.specs.Float.{nan}
 use Rattle.scalar.specs.Float.{f64_read}
-use Rattle.scalar.specs.Numbers.{answered, all_digits, overflow, invalid_bool, bool_refusal_of, bool_value_of, u64_refusal_of, u64_value_of}
-use Rattle.scalar.specs.Numbers.{i64_refusal_of, i64_value_of, f64_refusal_of, f64_value_of}
+use Rattle.scalar.specs.Numbers.{answered, all_digits, overflow, invalid_bool, scalar_refusal}
+use Rattle.scalar.specs.Numbers.{scalar_refusal, f64_value_of}
 use Rattle.scalar.specs.Truth.{bool_read}
 use Rattle.scalar.specs.Whole.{u64_read, i64_number, i64_rest, i64_read}
 use Rattle.scalar.specs.declared.float.F64Read.{F64Read}
@@ -42,20 +43,20 @@ abbrev pub nothing_carried : Float
 nothing_carried = nan
 
 abbrev pub rust_bool : BoolRead → Outcome Bool
-rust_bool r = reading_as_rust (bool_refusal_of r) (bool_value_of r) nothing_carried
+rust_bool r = reading_as_rust (scalar_refusal r) (result_unwrap_or r false) nothing_carried
 
 abbrev pub rust_u64 : U64Read → Outcome ℕ
-rust_u64 r = reading_as_rust (u64_refusal_of r) (u64_value_of r) nothing_carried
+rust_u64 r = reading_as_rust (scalar_refusal r) (result_unwrap_or r 0) nothing_carried
 
 abbrev pub rust_i64 : I64Read → Outcome ℤ
-rust_i64 r = reading_as_rust (i64_refusal_of r) (i64_value_of r) nothing_carried
+rust_i64 r = reading_as_rust (scalar_refusal r) (result_unwrap_or r (pos 0)) nothing_carried
 
 abbrev pub rust_f64 : F64Read → Outcome Float
-rust_f64 r = reading_as_rust (f64_refusal_of r) (f64_value_of r) (f64_value_of r)
+rust_f64 r = reading_as_rust (scalar_refusal r) (f64_value_of r) (f64_value_of r)
 
 -- of a number with whatever stands after it, the Rust answers both at once, and we each by a call
 abbrev pub rust_i64_part : I64Read → List ℕ → Outcome (ℤ × List ℕ)
-rust_i64_part r rest = reading_as_rust (i64_refusal_of r) (i64_value_of r, rest) nothing_carried
+rust_i64_part r rest = reading_as_rust (scalar_refusal r) (result_unwrap_or r (pos 0), rest) nothing_carried
 
 -- ---- what is promised
 
