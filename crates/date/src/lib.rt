@@ -4,7 +4,7 @@
 
 mod calendar;
 mod reading;
-mod refusals;
+pub mod refusals;
 
 pub use calendar::{Date, NO_DATE, from_days, in_range, to_days};
 pub use reading::to_date;

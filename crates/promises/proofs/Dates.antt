@@ -53,7 +53,7 @@ in_range-is t = (ranged-is t, is-ranged t)
 
 -- the count of a date in range
 count-told : (t : Date) → in_range t ≡ true → result_unwrap_or (days_of t) 0 ≡ count_of t
-count-told t e = ap result_unwrap_or (days_in-range t e) 0
+count-told t e = ap (λ r. result_unwrap_or r 0) (days_in-range t e)
 
 pub dates_and_back : DatesAndBack
 dates_and_back t e =
@@ -97,7 +97,7 @@ else_refused =
 pub exactly : Exactly
 exactly n = (
   λ found. let t = found.0 in let e = found.1 in
-      omega (arith, day-within t e, sym (count-told t e) ∙ ap result_unwrap_or found.2 0),
+      omega (arith, day-within t e, sym (count-told t e) ∙ ap (λ r. result_unwrap_or r 0) found.2),
   λ h. (date_counted n, date-within n h, days_in-range (date_counted n) (date-within n h) ∙ ap Ok (day-back n h)),
 )
 

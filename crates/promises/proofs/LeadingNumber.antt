@@ -189,7 +189,7 @@ module _ (d : List ℕ) where
           record {
             number_refusal = ap scalar_refusal told ∙ number-refused b.starts small;
             whole_refusal = ap scalar_refusal read ∙ e;
-            number = λ a. ap result_unwrap_or told (pos 0);
+            number = λ a. ap (λ r. result_unwrap_or r (pos 0)) told;
             rest_of = λ a. left;
             no_rest = λ h. absurd (h (ap scalar_refusal told));
             whole = read ∙ only ∙ sym (λ j. whole_of (told j) (left j));

@@ -17,11 +17,11 @@ use Rattle.scalar.specs.Digits.{is_digit, digit_run, value}
 use Rattle.scalar.specs.Float.{tail_of, f64_read}
 use Rattle.scalar.specs.Kind.{kind_above, kind_by_size, kind_of_digits, kind_unpointed, some_digit, kind_pointed, kind_after_point, kind_after_sign}
 use Rattle.scalar.specs.Kind.{number_or_name, kind_of}
-use Rattle.scalar.specs.Numbers.{answered, precision_loss, scalar_refusal}
+use Rattle.scalar.specs.Numbers.{answered, precision_loss, error_number_of, scalar_refusal}
 use Rattle.scalar.specs.Numbers.{kind_bool, kind_whole, kind_decimal, kind_name, kind_number_of}
 use Rattle.scalar.specs.Truth.{yes, no, same, bool_read}
 use Rattle.scalar.specs.Whole.{i64_part, i64_read}
-use Rattle.std.specs.Prelude.{Result, Ok, Err}
+use Rattle.std.specs.Prelude.{Float, ℤ, Result, Ok, Err}
 use Rattle.scalar.specs.declared.errors.ScalarError.TheVariants.{AllDigits, Overflow, InvalidBool, PrecisionLoss}
 use Rattle.scalar.specs.declared.errors.ScalarError.{ScalarError}
 use Rattle.scalar.proofs.Forms.{truth, no_truth}
@@ -44,6 +44,13 @@ by_readings t a f =
 abbrev by_form : Bool → Bool → Bool → Bool → ℕ
 by_form t n a f = elim t [ true ↦ kind_bool | false ↦ elim n [ true ↦ kind_name | false ↦ by_readings false a f ] ]
 
+-- a refusal is no answer
+refused : (e : ScalarError) → eqb (error_number_of e) answered ≡ false
+refused AllDigits = refl
+refused Overflow = refl
+refused InvalidBool = refl
+refused (PrecisionLoss x) = refl
+
 -- whether an f64 answers or gives 24
 abbrev counts : Result Float ScalarError → Bool
 counts x = eqb (scalar_refusal x) answered || eqb (scalar_refusal x) precision_loss
@@ -57,18 +64,13 @@ by_f64 (Err InvalidBool) = refl
 
 by-i64 : (x : Result Float ScalarError) (w : Result ℤ ScalarError) → kind_number_of (kind_by_i64 x w) ≡ by_readings false (eqb (scalar_refusal w) answered) (counts x)
 by-i64 x (Ok n) = refl
-by-i64 x (Err AllDigits) = by_f64 x
-by-i64 x (Err Overflow) = by_f64 x
-by-i64 x (Err InvalidBool) = by_f64 x
-by-i64 x (Err (PrecisionLoss y)) = by_f64 x
+by-i64 x (Err e) = by_f64 x ∙ sym (ap (λ (a : Bool). by_readings false a (counts x)) (refused e))
 
 by-bool_read : (x : Result Float ScalarError) (w : Result ℤ ScalarError) (r : Result Bool ScalarError)
     → kind_number_of (kind_by_bool x w r) ≡ by_readings (eqb (scalar_refusal r) answered) (eqb (scalar_refusal w) answered) (counts x)
 by-bool_read x w (Ok b) = refl
-by-bool_read x w (Err AllDigits) = by-i64 x w
-by-bool_read x w (Err Overflow) = by-i64 x w
-by-bool_read x w (Err InvalidBool) = by-i64 x w
-by-bool_read x w (Err (PrecisionLoss y)) = by-i64 x w
+by-bool_read x w (Err e) =
+    by-i64 x w ∙ sym (ap (λ (t : Bool). by_readings t (eqb (scalar_refusal w) answered) (counts x)) (refused e))
 
 old_is : (d : List ℕ) → old_number d ≡ by_readings (bool_answers d) (i64_answers d) (f64_counts d)
 unfolding kind_by_readings
@@ -87,7 +89,7 @@ new_is : (d : List ℕ) → new_number d ≡ by_form (bool_answers d) (no_number
 new_is d =
     by_truth (bool_read d)
     (λ b e. ap kind_number_of (truth d b e) ∙ sym (ap form e))
-    (λ e. ap kind_number_of (no_truth d e ∙ now-is d (start d)) ∙ by-unless (no_number d) (f64_read d) (i64_read d) ∙ sym (ap form e))
+    (λ why e. ap kind_number_of (no_truth d why e ∙ now-is d (start d)) ∙ by-unless (no_number d) (f64_read d) (i64_read d) ∙ sym (ap form e ∙ ap (λ (t : Bool). by_form t (no_number d) (i64_answers d) (f64_counts d)) (refused why)))
   where
     form : Result Bool ScalarError → ℕ
     form r = by_form (eqb (scalar_refusal r) answered) (no_number d) (i64_answers d) (f64_counts d)

@@ -3,7 +3,7 @@
 #![tactic(auto)]
 
 mod digits;
-mod errors;
+pub mod errors;
 mod float;
 mod kinds;
 mod truth;

@@ -16,7 +16,7 @@ use Rattle.scalar.specs.Whole.{signed, most_i64, has_tail, i64_digits, i64_part,
 use Rattle.scalar.specs.declared.float.Tail.TheVariants.{End, Point, Other}
 use Rattle.scalar.specs.declared.kinds.ReadingKind.TheVariants as Kind
 use Rattle.scalar.specs.declared.kinds.ReadingKind.{ReadingKind}
-use Rattle.std.specs.Prelude.{Result, Ok, Err}
+use Rattle.std.specs.Prelude.{ℤ, Result, Ok, Err}
 use Rattle.scalar.specs.declared.errors.ScalarError.TheVariants.{AllDigits, Overflow}
 use Rattle.scalar.specs.declared.errors.ScalarError.{ScalarError}
 use Rattle.scalar.proofs.Floats.{unpointed-past, unpointed-lossy, lossy-plain, lossy-past, quotient-past, quotient_is}

@@ -15,7 +15,7 @@ use Rattle.scalar.specs.Float.{rest, tail_of, f64_digits, f64_read, begins}
 use Rattle.scalar.specs.Kind.{kind_after_sign, number_or_name}
 use Rattle.scalar.specs.Numbers.{answered, scalar_refusal}
 use Rattle.scalar.specs.Whole.{most_i64, has_tail, i64_read}
-use Rattle.std.specs.Prelude.{Result, Err}
+use Rattle.std.specs.Prelude.{ℤ, Result, Err}
 use Rattle.scalar.specs.declared.errors.ScalarError.TheVariants.{AllDigits}
 use Rattle.scalar.specs.declared.errors.ScalarError.{ScalarError}
 use Rattle.scalar.specs.declared.kinds.ReadingKind.TheVariants as Kind
