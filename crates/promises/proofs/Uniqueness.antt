@@ -34,6 +34,10 @@ use Rattle.scalar.proofs.magnitude.Reads as magnitude
 use Rattle.scalar.proofs.pattern.Reads as pattern
 use Rattle.scalar.proofs.errors.ScalarErrorNumbered.number.Reads as scalar_error_number
 use Rattle.scalar.proofs.refusal.Reads as refusal_told
+use Rattle.scalar.specs.declared.errors.Numbered.{Ghosts}
+use denote.RattleType.{RattleType}
+use denote.Param.Laws.{Laws}
+use mir.Syntax.{Dict}
 use Rattle.scalar.proofs.f64_value.Reads as f64_value
 use Rattle.scalar.proofs.kind_number.Reads as kind_number
 use Rattle.cut.proofs.skip_ws_t.Reads as skip_ws_t
@@ -300,7 +304,6 @@ pub record Scalar : Type 0 where
   pub magnitude : OneResult magnitude.Post
   pub pattern : OneResult pattern.Post
   pub scalar_error_number : OneResult scalar_error_number.Post
-  pub refusal_told : OneResult refusal_told.Post
   pub f64_value : OneResult f64_value.Post
   pub kind_number : OneResult kind_number.Post
 
@@ -318,10 +321,13 @@ scalar_calls =
       magnitude = by_definition _ _;
       pattern = by_definition _ _;
       scalar_error_number = by_definition _ _;
-      refusal_told = by_definition _ _;
       f64_value = by_definition _ _;
       kind_number = by_definition _ _;
     }
+
+-- of the number of a refusal: whatever is answered, and whatever refuses
+pub refusal_calls : (T E : RattleType) (l : Laws T) (m : Laws E) (g : Ghosts E.Denot) (a b c : Dict) → OneResult (refusal_told.Post T E l m g a b c)
+refusal_calls T E l m g a b c = by_definition _ _
 
 pub record Dates : Type 0 where
   pub in_range : OneResult in_range.Post
