@@ -15,7 +15,7 @@ use Rattle.scalar.specs.declared.errors.ScalarError.TheVariants.{AllDigits, Over
 use Rattle.scalar.specs.declared.float.Tail.TheVariants.{End, Point, Other}
 use Rattle.scalar.specs.declared.float.Tail.{Tail}
 use Rattle.scalar.proofs.Gathers.{place_is}
-use Rattle.scalar.proofs.Runs.{digit-in, digit-out, overflow_cutoff, run_length, value_below}
+use Rattle.scalar.proofs.Runs.{digit_in, digit_out, overflow_cutoff, run_length, value_below}
 
 -- ---- what stands after digits
 
@@ -160,7 +160,7 @@ read_plus (b ∷ s) h e = f64_plus b s (λ m. omega arith) e
 pub read_digit : (d : List ℕ) → 0 < length d → digit_zero ≤ get_or d 0 0 → get_or d 0 0 ≤ digit_nine → f64_read d ≡ f64_digits false (drop 0 d)
 unfolding begins
 read_digit [] h low high = absurd (omega arith)
-read_digit (b ∷ s) h low high = f64_bare b s (λ m. omega arith) (λ p. omega arith) (rw (begins, digit-in b low high))
+read_digit (b ∷ s) h low high = f64_bare b s (λ m. omega arith) (λ p. omega arith) (rw (begins, digit_in b low high))
 
 pub read_point : (d : List ℕ) → 0 < length d → get_or d 0 0 ≡ point → f64_read d ≡ f64_digits false (drop 0 d)
 unfolding begins is_digit
@@ -173,7 +173,7 @@ pub read_other : (d : List ℕ) → (0 < length d → get_or d 0 0 ≡ minus →
 unfolding begins
 read_other [] m p t n = f64_none
 read_other (b ∷ s) m p t n =
-    f64_other b s (m (omega arith)) (p (omega arith)) (rw (begins, digit-out b (n (omega arith))) (ne_eqb b point (t (omega arith))))
+    f64_other b s (m (omega arith)) (p (omega arith)) (rw (begins, digit_out b (n (omega arith))) (ne_eqb b point (t (omega arith))))
 
 -- ---- by what was gathered
 
@@ -209,3 +209,7 @@ short-pointed d sign g e within short =
     let below : value g.total (digit_run t) < 10 ^ 18 =
     lt_of_lt_of_le (both_below s t g.total total-le) (pow-le-pow_right {n = 10} (omega arith) digits_le) in
     omega (arith, below)
+
+pub short_carried : (d : List ℕ) (sign : ℕ) (g : Gathered) → g ≡ gathered d sign 0 → g.at < length d → length d < overflow_cutoff
+    → ltb most_u64 (value g.total (digit_run (drop (g.at + 1) d))) ≡ false
+short_carried d sign g e within short = le-ltb most_u64 _ (short-pointed d sign g e within short)

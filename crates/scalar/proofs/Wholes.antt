@@ -12,7 +12,7 @@ use Rattle.scalar.specs.Whole.{starts_number, sign_width, number_of, left_of, i6
 use Rattle.std.specs.Prelude.{Result, Ok, Err}
 use Rattle.scalar.specs.declared.errors.ScalarError.TheVariants.{AllDigits, Overflow}
 use Rattle.scalar.specs.declared.errors.ScalarError.{ScalarError}
-use Rattle.scalar.proofs.Runs.{digit-in, digit-out, run_length}
+use Rattle.scalar.proofs.Runs.{digit_in, digit_out, run_length}
 
 -- what a number in front is answered as: it, and the place after it
 abbrev pub Part : Type 0
@@ -105,12 +105,12 @@ part_plus (b ∷ s) h e = i64-plus b s (λ m. omega arith) e
 
 pub part_digit : (d : List ℕ) → 0 < length d → digit_zero ≤ get_or d 0 0 → get_or d 0 0 ≤ digit_nine → i64_part d ≡ i64_digits false 0 (drop 0 d)
 part_digit [] h low high = absurd (omega arith)
-part_digit (b ∷ s) h low high = i64-bare b s (λ m. omega arith) (λ p. omega arith) (digit-in b low high)
+part_digit (b ∷ s) h low high = i64-bare b s (λ m. omega arith) (λ p. omega arith) (digit_in b low high)
 
 pub part_other : (d : List ℕ) → (0 < length d → get_or d 0 0 ≡ minus → ⊥) → (0 < length d → get_or d 0 0 ≡ plus → ⊥)
     → (0 < length d → digit_zero ≤ get_or d 0 0 → get_or d 0 0 ≤ digit_nine → ⊥) → i64_part d ≡ Err AllDigits
 part_other [] m p n = i64-none
-part_other (b ∷ s) m p n = i64-other b s (m (omega arith)) (p (omega arith)) (digit-out b (n (omega arith)))
+part_other (b ∷ s) m p n = i64-other b s (m (omega arith)) (p (omega arith)) (digit_out b (n (omega arith)))
 
 -- by whether a number may begin with the first byte: then its digits decide, after a sign of so many bytes
 i64_started : (b : ℕ) (s : List ℕ) → starts_number b ≡ true

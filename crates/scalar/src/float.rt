@@ -100,15 +100,13 @@ fn unpointed(d: &[u8], sign: usize, negative: bool, whole: Gathered) -> Result<f
 fn lossy(negative: bool, total: u64) -> Result<f64, ScalarError>
     ensures { result ≡ lossy-of negative total }
 {
-    if negative {
-        if total > MOST_I64 {
-            Err(ScalarError::Overflow)
-        } else {
-            Err(ScalarError::PrecisionLoss(std::num::nearest_i64_to_f64(under_sign(true, total))))
-        }
-    } else {
-        Err(ScalarError::PrecisionLoss(std::num::nearest_u64_to_f64(total)))
+    if !negative {
+        return Err(ScalarError::PrecisionLoss(std::num::nearest_u64_to_f64(total)));
     }
+    if total > MOST_I64 {
+        return Err(ScalarError::Overflow);
+    }
+    Err(ScalarError::PrecisionLoss(std::num::nearest_i64_to_f64(under_sign(true, total))))
 }
 
 // A number with a point, from its gathered whole part on.
@@ -132,15 +130,12 @@ fn pointed(d: &[u8], sign: usize, negative: bool, whole: Gathered) -> Result<f64
 }
 
 // Whether the fraction carries the gathered whole part past what 64 bits hold.
+#[tactic(auto, using(crate::proofs::Floats::short_carried))]
 pub(crate) fn carries_past(d: &[u8], sign: usize, whole: Gathered) -> bool
     requires { (whole ≡ gathered d.now sign 0) × (whole.at < length d.now) }
     ensures { result ≡ nat_lt most_u64 (value whole.total (digit_run (drop (whole.at + 1) d.now))) }
 {
-    if d.len() < OVERFLOW_CUTOFF {
-        false
-    } else {
-        overflows(d, whole.at + 1, whole.total)
-    }
+    d.len() >= OVERFLOW_CUTOFF && overflows(d, whole.at + 1, whole.total)
 }
 
 // A total with `places` fraction digits.
@@ -148,10 +143,9 @@ fn quotient(negative: bool, total: u64, places: usize) -> Result<f64, ScalarErro
     ensures { result ≡ quotient-of negative total places }
 {
     if places > MOST_PLACES {
-        Err(ScalarError::Overflow)
-    } else {
-        Ok(divided(negative, total, places))
+        return Err(ScalarError::Overflow);
     }
+    Ok(divided(negative, total, places))
 }
 
 // A total over the power of ten of its places, under its sign. The total is rounded once, the power
