@@ -15,7 +15,7 @@ use Rattle.date.specs.declared.calendar.Date.{Date}
 use Rattle.date.specs.declared.refusals.DateError.TheVariants.{OutOfRange}
 use Rattle.std.specs.Prelude.{Ok, Err}
 use Rattle.std.specs.Result.{result_unwrap_or}
-use Rattle.date.proofs.Months.{past-here, table-length, before-year, Falls, month_falls}
+use Rattle.date.proofs.Months.{past-here, table-length, before_year, Falls, month_falls}
 use Rattle.date.proofs.Ranges.{ranged-is, is-ranged}
 
 -- ---- what is answered
@@ -61,7 +61,7 @@ module _ (t : Date) (e : in_range t ≡ true) where
   of_year = days_before t.month + (t.day - 1)
 
   small : of_year < year_days
-  small = omega (arith, r.day, before-year t.month)
+  small = omega (arith, r.day, before_year t.month)
 
   split : count_of t ≡ (t.year - 1) * year_days + of_year
   unfolding count_of

@@ -47,6 +47,11 @@ is-ranged t r =
     )
     (le-leb t.hour most_hour r.hour)
 
+-- the same by the bounds of each part
+pub parts_in : (t : Date) → in_range t ≡ true
+    → (1 ≤ t.year) × (t.year ≤ most_year) × (1 ≤ t.month) × (t.month ≤ months) × (1 ≤ t.day) × (t.day ≤ days_in t.month)
+parts_in t e = let r = ranged-is t e in (r.year.0, r.year.1, r.month.0, r.month.1, r.day.0, r.day.1)
+
 -- it is answered, and any other is refused
 pub ranged_in : (t : Date) → in_range t ≡ true → ranged t ≡ Ok t
 unfolding ranged

@@ -54,10 +54,11 @@ pub const NO_DATE: Date = Date {
 };
 
 // Whether a number is from 1 to another.
+#[tactic(auto, unfolding(crate::specs::Calendar::within))]
 fn within(n: u32, most: u32) -> bool
     ensures { result ≡ is_within n most }
 {
-    if 1 <= n { n <= most } else { false }
+    1 <= n && n <= most
 }
 
 // The days of a month.
@@ -69,19 +70,14 @@ fn days_in(month: u32) -> u32
 }
 
 // Whether the calendar has a date.
+#[tactic(auto, using(crate::proofs::Ranges::is_within), unfolding(crate::specs::Calendar::in_range))]
 pub fn in_range(date: Date) -> bool
     ensures { result ≡ in_range date }
 {
-    if !within(date.year, MOST_YEAR) {
-        return false;
-    }
-    if !within(date.month, MONTHS as u32) {
-        return false;
-    }
-    if !within(date.day, days_in(date.month)) {
-        return false;
-    }
-    date.hour <= MOST_HOUR
+    within(date.year, MOST_YEAR)
+        && within(date.month, MONTHS as u32)
+        && within(date.day, days_in(date.month))
+        && date.hour <= MOST_HOUR
 }
 
 // The days of a year before a month.
@@ -90,15 +86,14 @@ fn days_before(month: u32) -> u32
     ensures { result ≡ days_before month }
 {
     let mut days = 0;
-    let mut m = 1;
-    while m < month {
+    for m in 1..month {
         days += days_in(m);
-        m += 1;
     }
     days
 }
 
 // The day count of a date. The hour is left out.
+#[tactic(auto, using(crate::proofs::Ranges::parts_in, crate::proofs::Months::before_year), unfolding(crate::specs::Calendar::days_of, crate::specs::Calendar::count_of))]
 pub fn to_days(date: Date) -> Result<u32, DateError>
     ensures { result ≡ days_of date }
 {
@@ -116,17 +111,15 @@ fn month_of(day: u32) -> u32
     requires { day < year_days }
     ensures { result ≡ month_at day }
 {
-    let mut month = 1;
     let mut left = day;
-    while month < MONTHS as u32 {
+    for month in 1..MONTHS as u32 {
         let days = days_in(month);
         if left < days {
             return month;
         }
         left -= days;
-        month += 1;
     }
-    month
+    MONTHS as u32
 }
 
 // The date of a day count, without an hour. It is never `NotADate`.

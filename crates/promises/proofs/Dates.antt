@@ -27,7 +27,7 @@ use Rattle.date.specs.declared.calendar.Date.{Date}
 use Rattle.std.specs.Prelude.{Result, Ok}
 use Rattle.date.specs.declared.refusals.DateError.{DateError}
 use Rattle.date.proofs.Days.{days_in-range, days_out, date_in-range, date-past, day-within, date-back, date-within, day-back}
-use Rattle.date.proofs.Months.{table-length, table_days, before-later, before-year}
+use Rattle.date.proofs.Months.{table-length, table_days, before-later, before_year}
 use Rattle.date.proofs.Ranges.{ranged-is, is-ranged, ranged_in}
 use Rattle.date.proofs.Readings.{reads-day, reads-hour, by-date, is_read}
 use Rattle.date.proofs.Shapes.{parts-some, parts-point, parts-other, digit-no-point, part-digits, many_parts}
@@ -112,7 +112,7 @@ module _ (a b : Date) (x : in_range a ≡ true) (y : in_range b ≡ true) where
 
   year_earlier : a.year < b.year → count_of a < count_of b
   unfolding count_of
-  year_earlier h = omega (arith, h, p.day, before-year a.month, p.year)
+  year_earlier h = omega (arith, h, p.day, before_year a.month, p.year)
 
   month_earlier : a.year ≡ b.year → a.month < b.month → count_of a < count_of b
   unfolding count_of days_before days_in
