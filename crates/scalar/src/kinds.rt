@@ -62,18 +62,12 @@ fn after_sign(d: &[u8], sign: usize, negative: bool) -> ReadingKind
 }
 
 // The kind of digits that no point follows: an `f` may, and then they are no number.
+#[tactic(auto, using(crate::proofs::Forms::unpointed_followed, crate::proofs::Forms::unpointed_bare, crate::proofs::Forms::unpointed_past, crate::proofs::Forms::unpointed_whole, crate::proofs::Forms::unpointed_negative, crate::proofs::Forms::unpointed_decimal))]
 fn unpointed(d: &[u8], sign: usize, negative: bool, whole: Gathered) -> ReadingKind
     requires { whole ≡ gathered d.now sign 0 }
     ensures { result ≡ kind_unpointed negative (drop sign d.now) }
 {
-    let at = whole.at;
-    if at < d.len() {
-        return ReadingKind::Name;
-    }
-    if at == sign {
-        return ReadingKind::Name;
-    }
-    if exceeds(d, sign) {
+    if whole.at < d.len() || whole.at == sign || exceeds(d, sign) {
         return ReadingKind::Name;
     }
     if whole.total <= MOST_I64 {
