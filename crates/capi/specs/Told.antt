@@ -1,17 +1,13 @@
 -- What the calls tell C: a number for the refusal, 0 for none, and beside it what is written through each pointer.
 -- What a parse tells stands beside the parse: `tell_parse` of crates/parse/specs/Told.antt.
-use Rattle.std.specs.Prelude.{ℕ, Result, List, Float, ℤ, length, Option, Some, None}
+use Rattle.std.specs.Prelude.{ℕ, Result, List, Float, ℤ, length, Option, Some, None, Bool, false, pos}
+use Rattle.std.specs.Result.{result_unwrap_or}
 use Rattle.parse.specs.Told.{bit}
-use Rattle.scalar.specs.Numbers.{bool_refusal_of, bool_value_of, u64_refusal_of, u64_value_of}
-use Rattle.scalar.specs.Numbers.{i64_refusal_of, i64_value_of, f64_refusal_of, f64_value_of}
-use Rattle.scalar.specs.declared.truth.BoolRead.{BoolRead}
-use Rattle.scalar.specs.declared.whole.U64Read.{U64Read}
-use Rattle.scalar.specs.declared.whole.I64Read.{I64Read}
-use Rattle.scalar.specs.declared.float.F64Read.{F64Read}
-use Rattle.date.specs.Refusals.{date_refusal_of, date_value_of, days_refusal_of, days_value_of}
+use Rattle.scalar.specs.Numbers.{scalar_refusal, f64_value_of}
+use Rattle.scalar.specs.declared.errors.ScalarError.{ScalarError}
+use Rattle.date.specs.Refusals.{date_refusal, no_date}
 use Rattle.date.specs.declared.calendar.Date.{Date}
-use Rattle.date.specs.declared.calendar.DateRead.{DateRead}
-use Rattle.date.specs.declared.calendar.DaysRead.{DaysRead}
+use Rattle.date.specs.declared.refusals.DateError.{DateError}
 use Rattle.sheet.specs.Views.{refusal_of, seen}
 use Rattle.file.specs.declared.Refusal.{Refusal}
 use Rattle.file.specs.declared.Found.{Found}
@@ -57,32 +53,32 @@ tell_sheet (file.left f words) = sheet_told (read_refusal f) (text_length_of f) 
 pub data ReadTold (Value : Type 0) : Type 0 where
   read_told : (refusal : ℕ) → Value → ReadTold Value
 
-abbrev pub tell_bool : BoolRead → ReadTold ℕ
-tell_bool r = read_told (bool_refusal_of r) (bit (bool_value_of r))
+abbrev pub tell_bool : Result Bool ScalarError → ReadTold ℕ
+tell_bool r = read_told (scalar_refusal r) (bit (result_unwrap_or r false))
 
-abbrev pub tell_u64 : U64Read → ReadTold ℕ
-tell_u64 r = read_told (u64_refusal_of r) (u64_value_of r)
+abbrev pub tell_u64 : Result ℕ ScalarError → ReadTold ℕ
+tell_u64 r = read_told (scalar_refusal r) (result_unwrap_or r 0)
 
-abbrev pub tell_i64 : I64Read → ReadTold ℤ
-tell_i64 r = read_told (i64_refusal_of r) (i64_value_of r)
+abbrev pub tell_i64 : Result ℤ ScalarError → ReadTold ℤ
+tell_i64 r = read_told (scalar_refusal r) (result_unwrap_or r (pos 0))
 
-abbrev pub tell_f64 : F64Read → ReadTold Float
-tell_f64 r = read_told (f64_refusal_of r) (f64_value_of r)
+abbrev pub tell_f64 : Result Float ScalarError → ReadTold Float
+tell_f64 r = read_told (scalar_refusal r) (f64_value_of r)
 
 -- a date, and a day
-abbrev pub tell_date : DateRead → ReadTold Date
-tell_date r = read_told (date_refusal_of r) (date_value_of r)
+abbrev pub tell_date : Result Date DateError → ReadTold Date
+tell_date r = read_told (date_refusal r) (result_unwrap_or r no_date)
 
-abbrev pub tell_days : DaysRead → ReadTold ℕ
-tell_days r = read_told (days_refusal_of r) (days_value_of r)
+abbrev pub tell_days : Result ℕ DateError → ReadTold ℕ
+tell_days r = read_told (date_refusal r) (result_unwrap_or r 0)
 
 -- the number that a scalar begins with: its refusal, its value, and how many bytes are left over
 pub data PartTold : Type 0 where
   part_told : (refusal : ℕ) (value : ℤ) (left : ℕ) → PartTold
 
 -- what is told of a number and of the part after it
-abbrev pub tell_part : I64Read → List ℕ → PartTold
-tell_part r rest = part_told (i64_refusal_of r) (i64_value_of r) (length rest)
+abbrev pub tell_part : Result ℤ ScalarError → List ℕ → PartTold
+tell_part r rest = part_told (scalar_refusal r) (result_unwrap_or r (pos 0)) (length rest)
 
 -- a token: its code, a and b
 pub data TokenTold : Type 0 where

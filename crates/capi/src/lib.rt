@@ -196,8 +196,8 @@ pub fn tackacorn_to_bool(scalar: &[u8], value: &mut u32) -> u32
     ensures { read_told result value.new ≡ tell_bool (bool_read scalar.now) }
 {
     let read = scalar::to_bool(scalar);
-    *value = bit_of(scalar::bool_value(read));
-    wide(scalar::bool_refusal(read))
+    *value = bit_of(read.unwrap_or(false));
+    wide(scalar::refusal(read))
 }
 
 // Reads a number without a minus.
@@ -205,8 +205,8 @@ pub fn tackacorn_to_u64(scalar: &[u8], value: &mut u64) -> u32
     ensures { read_told result value.new ≡ tell_u64 (u64_read scalar.now) }
 {
     let read = scalar::to_u64(scalar);
-    *value = scalar::u64_value(read);
-    wide(scalar::u64_refusal(read))
+    *value = read.unwrap_or(0);
+    wide(scalar::refusal(read))
 }
 
 // Reads a number with a sign.
@@ -214,8 +214,8 @@ pub fn tackacorn_to_i64(scalar: &[u8], value: &mut i64) -> u32
     ensures { read_told result value.new ≡ tell_i64 (i64_read scalar.now) }
 {
     let read = scalar::to_i64(scalar);
-    *value = scalar::i64_value(read);
-    wide(scalar::i64_refusal(read))
+    *value = read.unwrap_or(0);
+    wide(scalar::refusal(read))
 }
 
 // Reads the number with a sign that a scalar begins with, and says how many bytes are left over after it.
@@ -224,9 +224,9 @@ pub fn tackacorn_to_i64_part(scalar: &[u8], value: &mut i64, left: &mut usize) -
         ≡ tell_part (i64_number scalar.now) (i64_rest scalar.now) }
 {
     let read = scalar::to_i64_t(scalar);
-    *value = scalar::i64_value(read);
+    *value = read.unwrap_or(0);
     *left = scalar::to_i64_rest(scalar).len();
-    wide(scalar::i64_refusal(read))
+    wide(scalar::refusal(read))
 }
 
 // Reads a decimal.
@@ -235,7 +235,7 @@ pub fn tackacorn_to_f64(scalar: &[u8], value: &mut f64) -> u32
 {
     let read = scalar::to_f64(scalar);
     *value = scalar::f64_value(read);
-    wide(scalar::f64_refusal(read))
+    wide(scalar::refusal(read))
 }
 
 // The kind of an unquoted scalar.
@@ -257,12 +257,12 @@ pub fn tackacorn_to_date(
         ≡ tell_date (date_read scalar.now) }
 {
     let read = date::to_date(scalar);
-    let date = date::date_value(read);
+    let date = read.unwrap_or(date::NO_DATE);
     *year = date.year;
     *month = date.month;
     *day = date.day;
     *hour = date.hour;
-    wide(date::date_refusal(read))
+    wide(scalar::refusal(read))
 }
 
 // The day count of a date.
@@ -275,8 +275,8 @@ pub fn tackacorn_to_days(year: u32, month: u32, day: u32, days: &mut u32) -> u32
         day,
         hour: 0,
     });
-    *days = date::days_value(read);
-    wide(date::days_refusal(read))
+    *days = read.unwrap_or(0);
+    wide(scalar::refusal(read))
 }
 
 // The date of a day count.
@@ -284,9 +284,9 @@ pub fn tackacorn_from_days(days: u32, year: &mut u32, month: &mut u32, day: &mut
     ensures { read_told result (date year.new month.new day.new 0) ≡ tell_date (date_at days) }
 {
     let read = date::from_days(days);
-    let date = date::date_value(read);
+    let date = read.unwrap_or(date::NO_DATE);
     *year = date.year;
     *month = date.month;
     *day = date.day;
-    wide(date::date_refusal(read))
+    wide(scalar::refusal(read))
 }

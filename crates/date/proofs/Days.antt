@@ -10,28 +10,29 @@ use lib.Dec.{ltb}
 use Rattle.data.proofs.Cases.{by_bool}
 use Rattle.date.specs.Calendar.{date, month_days, months, year_days, days_in, days_before, in_range, Ranged, count_of, days_of, last_day}
 use Rattle.date.specs.Calendar.{month_at, date_counted, date_at}
-use Rattle.date.specs.Refusals.{date_value_of}
+use Rattle.date.specs.Refusals.{no_date}
 use Rattle.date.specs.declared.calendar.Date.{Date}
-use Rattle.date.specs.declared.calendar.DateRead.TheVariants.{Is, OutOfRange}
-use Rattle.date.specs.declared.calendar.DaysRead.TheVariants as Days
-use Rattle.date.proofs.Months.{past-here, table-length, before-year, Falls, month_falls}
+use Rattle.date.specs.declared.refusals.DateError.TheVariants.{OutOfRange}
+use Rattle.std.specs.Prelude.{Ok, Err}
+use Rattle.std.specs.Result.{result_unwrap_or}
+use Rattle.date.proofs.Months.{past-here, table-length, before_year, Falls, month_falls}
 use Rattle.date.proofs.Ranges.{ranged-is, is-ranged}
 
 -- ---- what is answered
 
-pub days_in-range : (t : Date) → in_range t ≡ true → days_of t ≡ Days.Is (count_of t)
+pub days_in-range : (t : Date) → in_range t ≡ true → days_of t ≡ Ok (count_of t)
 unfolding days_of
 days_in-range t e = rw (days_of, e)
 
-pub days_out : (t : Date) → in_range t ≡ false → days_of t ≡ Days.OutOfRange
+pub days_out : (t : Date) → in_range t ≡ false → days_of t ≡ Err OutOfRange
 unfolding days_of
 days_out t e = rw (days_of, e)
 
-pub date_in-range : (n : ℕ) → n ≤ last_day → date_at n ≡ Is (date_counted n)
+pub date_in-range : (n : ℕ) → n ≤ last_day → date_at n ≡ Ok (date_counted n)
 unfolding date_at
 date_in-range n h = rw (date_at, le-ltb last_day n h)
 
-pub date-past : (n : ℕ) → last_day < n → date_at n ≡ OutOfRange
+pub date-past : (n : ℕ) → last_day < n → date_at n ≡ Err OutOfRange
 unfolding date_at
 date-past n h = rw (date_at, lt-ltb last_day n h)
 
@@ -60,7 +61,7 @@ module _ (t : Date) (e : in_range t ≡ true) where
   of_year = days_before t.month + (t.day - 1)
 
   small : of_year < year_days
-  small = omega (arith, r.day, before-year t.month)
+  small = omega (arith, r.day, before_year t.month)
 
   split : count_of t ≡ (t.year - 1) * year_days + of_year
   unfolding count_of
@@ -103,6 +104,6 @@ module _ (n : ℕ) (h : n ≤ last_day) where
   day-back = omega (arith, falls.after, div-add-mod' n year_days)
 
 -- the date of a day tells no hour, and a refusal tells nothing
-pub no-hour : (n : ℕ) → (date_value_of (date_at n)).hour ≡ 0
+pub no-hour : (n : ℕ) → (result_unwrap_or (date_at n) no_date).hour ≡ 0
 unfolding date_at date_counted
 no-hour n = by_bool (ltb last_day n) (λ t. rw (date_at, t)) (λ f. rw (date_at, f))

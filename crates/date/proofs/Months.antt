@@ -96,13 +96,13 @@ before-next month h k =
     ap (λ (j : ℕ). together (take j month_days)) step ∙ next-month month_days (month - 1) (omega (arith, table-length))
 
 -- with its own they are no more than those of a year
-pub before-year : (month : ℕ) → days_before month + days_in month ≤ year_days
+pub before_year : (month : ℕ) → days_before month + days_in month ≤ year_days
 unfolding days_before days_in
-before-year month = omega (arith, some_of_all month_days (month - 1), table_days)
+before_year month = omega (arith, some_of_all month_days (month - 1), table_days)
 
 -- so no month has more days than a year
 pub days_in-year : (month : ℕ) → days_in month ≤ year_days
-days_in-year month = omega (arith, before-year month)
+days_in-year month = omega (arith, before_year month)
 
 -- ---- the month of a day of the year
 

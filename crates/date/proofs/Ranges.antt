@@ -10,7 +10,8 @@ use Rattle.data.proofs.Cases.{by_bool, both}
 use Rattle.date.specs.Calendar.{date, within, days_in, months, most_year, most_hour, in_range, Ranged, ranged}
 use Rattle.date.specs.Reading.{past_all}
 use Rattle.date.specs.declared.calendar.Date.{Date}
-use Rattle.date.specs.declared.calendar.DateRead.TheVariants.{Is, OutOfRange}
+use Rattle.date.specs.declared.refusals.DateError.TheVariants.{OutOfRange}
+use Rattle.std.specs.Prelude.{Ok, Err}
 use Rattle.date.proofs.Months.{days_in-year}
 
 -- from 1 to a number
@@ -46,12 +47,17 @@ is-ranged t r =
     )
     (le-leb t.hour most_hour r.hour)
 
+-- the same by the bounds of each part
+pub parts_in : (t : Date) → in_range t ≡ true
+    → (1 ≤ t.year) × (t.year ≤ most_year) × (1 ≤ t.month) × (t.month ≤ months) × (1 ≤ t.day) × (t.day ≤ days_in t.month)
+parts_in t e = let r = ranged-is t e in (r.year.0, r.year.1, r.month.0, r.month.1, r.day.0, r.day.1)
+
 -- it is answered, and any other is refused
-pub ranged_in : (t : Date) → in_range t ≡ true → ranged t ≡ Is t
+pub ranged_in : (t : Date) → in_range t ≡ true → ranged t ≡ Ok t
 unfolding ranged
 ranged_in t e = rw (ranged, e)
 
-pub ranged_out : (t : Date) → in_range t ≡ false → ranged t ≡ OutOfRange
+pub ranged_out : (t : Date) → in_range t ≡ false → ranged t ≡ Err OutOfRange
 unfolding ranged
 ranged_out t e = rw (ranged, e)
 

@@ -5,7 +5,7 @@ use mathlib.Core.Bool.{Bool, true, false, ◌&&◌, false≢true, and-false, and
 use mathlib.Core.List.{List, [], ◌∷◌, ◌++◌, append_assoc, append-nil}
 use Prim.Native.Nat.{ℕ, suc, ◌+◌, ◌≤◌, ◌<◌, min}
 use native.Mathlib.Omega.{arith}
-use borrow.Author.Tests.{ne_eqb, leb-true, leb-false}
+use borrow.Author.Tests.{eq-eqb, ne_eqb, leb-true, leb-false}
 use lib.Dec.{eqb, leb}
 use lib.ListN.{length, get_or, drop, length-append, length-drop, drop_of_length-le}
 use lib.Seq.{drop-cons, drop-drop}
@@ -17,7 +17,7 @@ use Rattle.scalar.proofs.Rests.{rest-digit, rest-other, run_alone, rest_plain}
 use Rattle.scalar.proofs.Runs.{digit_bounds, run-digit, run-other}
 use Rattle.date.specs.Reading.{onto, parts, is_part, all_parts, day_parts, hour_parts, right_number, shaped, past_all, part_at, point_first}
 use Rattle.date.specs.Reading.{pointed_part}
-use Rattle.date.specs.declared.reading.Part.{Part}
+use Rattle.std.specs.Prelude.{Option, Some, None}
 
 -- ---- the first part begins with the digits in front
 
@@ -144,25 +144,29 @@ pub record Taken (d : List ℕ) (ps : List (List ℕ)) (at number end : ℕ) : T
   pub number_is : number ≡ min (value 0 (run d at)) past_all
   pub end_is : end ≡ at + length (run d at)
 
+-- a part that stands there, and the place after it, or none
+abbrev pub Part : Type 0
+Part = Option (ℕ × ℕ)
+
 -- what a part tells, by numbers
 abbrev stands : Part → ℕ
-stands (Part.Is number end) = 1
-stands Part.Nothing = 0
+stands (Some (number, end)) = 1
+stands None = 0
 
 abbrev number_in : Part → ℕ
-number_in (Part.Is number end) = number
-number_in Part.Nothing = 0
+number_in (Some (number, end)) = number
+number_in None = 0
 
 abbrev end_in : Part → ℕ
-end_in (Part.Is number end) = end
-end_in Part.Nothing = 0
+end_in (Some (number, end)) = end
+end_in None = 0
 
 part-here : (d : List ℕ) (at : ℕ) → digit_first (drop at d) ≡ true
-    → part_at d at ≡ Part.Is (min (value 0 (run d at)) past_all) (at + length (run d at))
+    → part_at d at ≡ Some (min (value 0 (run d at)) past_all, at + length (run d at))
 unfolding part_at
 part-here d at e = rw (part_at, e)
 
-part_none : (d : List ℕ) (at : ℕ) → digit_first (drop at d) ≡ false → part_at d at ≡ Part.Nothing
+part_none : (d : List ℕ) (at : ℕ) → digit_first (drop at d) ≡ false → part_at d at ≡ None
 unfolding part_at
 part_none d at e = rw (part_at, e)
 
@@ -179,33 +183,33 @@ first-none (b ∷ s) e = ap length (run-other b s e)
 
 -- so a run tells whether a part stands there
 pub part_told : (d : List ℕ) (at number end : ℕ) → at < end → number ≡ min (value 0 (run d at)) past_all → end ≡ at + length (run d at)
-    → Part.Is number end ≡ part_at d at
+    → Some (number, end) ≡ part_at d at
 part_told d at number end h e f =
     by_bool (digit_first (drop at d))
-    (λ t. (λ j. Part.Is (e j) (f j)) ∙ sym (part-here d at t))
+    (λ t. (λ j. Some (e j, f j)) ∙ sym (part-here d at t))
     (λ n. absurd (omega (arith, h, f, first-none (drop at d) n)))
 
-pub part_untold : (d : List ℕ) (at end : ℕ) → end ≤ at → end ≡ at + length (run d at) → Part.Nothing ≡ part_at d at
+pub part_untold : (d : List ℕ) (at end : ℕ) → end ≤ at → end ≡ at + length (run d at) → None ≡ part_at d at
 part_untold d at end h f =
     by_bool (digit_first (drop at d))
     (λ t. absurd (omega (arith, h, f, first_some (drop at d) t)))
     (λ n. sym (part_none d at n))
 
 -- a part that is told was taken
-taken : (d : List ℕ) (ps : List (List ℕ)) (at number end : ℕ) → Front d ps at → part_at d at ≡ Part.Is number end → Taken d ps at number end
+taken : (d : List ℕ) (ps : List (List ℕ)) (at number end : ℕ) → Front d ps at → part_at d at ≡ Some (number, end) → Taken d ps at number end
 taken d ps at number end front e =
     by_bool (digit_first (drop at d))
     (λ t. let is = sym e ∙ part-here d at t in record { front = front; digit = t; number_is = ap number_in is; end_is = ap end_in is })
     (λ f. absurd (omega (arith, ap stands (sym e ∙ part_none d at f))))
 
-untaken : (d : List ℕ) (at : ℕ) → part_at d at ≡ Part.Nothing → digit_first (drop at d) ≡ false
+untaken : (d : List ℕ) (at : ℕ) → part_at d at ≡ None → digit_first (drop at d) ≡ false
 untaken d at e = by_bool (digit_first (drop at d)) (λ t. absurd (omega (arith, ap stands (sym e ∙ part-here d at t)))) (λ f. f)
 
 pub pointed-here : (d : List ℕ) (at : ℕ) → point_first (drop at d) ≡ true → pointed_part d at ≡ part_at d (at + 1)
 unfolding pointed_part
 pointed-here d at e = rw (pointed_part, e)
 
-pub pointed-none : (d : List ℕ) (at : ℕ) → point_first (drop at d) ≡ false → pointed_part d at ≡ Part.Nothing
+pub pointed-none : (d : List ℕ) (at : ℕ) → point_first (drop at d) ≡ false → pointed_part d at ≡ None
 unfolding pointed_part
 pointed-none d at e = rw (pointed_part, e)
 
@@ -217,6 +221,16 @@ point_at d at h = ap point_first (drop-cons d at 0 h)
 pub no-point : (d : List ℕ) (at : ℕ) → length d ≤ at → point_first (drop at d) ≡ false
 unfolding point_first
 no-point d at h = ap point_first (drop_of_length-le d h)
+
+-- so by what stands at the place
+pub pointed_here : (d : List ℕ) (at : ℕ) → at < length d → get_or d at 0 ≡ point → pointed_part d at ≡ part_at d (at + 1)
+pointed_here d at h e = pointed-here d at (point_at d at h ∙ eq-eqb _ _ e)
+
+pub pointed_other : (d : List ℕ) (at : ℕ) → (at < length d → get_or d at 0 ≡ point → ⊥) → pointed_part d at ≡ None
+pointed_other d at h =
+    by_bool (leb (length d) at)
+    (λ over. pointed-none d at (no-point d at (leb-true _ _ over)))
+    (λ under. pointed-none d at (point_at d at (leb-false _ _ under) ∙ ne_eqb _ _ (h (leb-false _ _ under))))
 
 -- bytes that are not all parts have not the shape
 unshaped : (d : List ℕ) → all_parts (parts d) ≡ false → shaped d ≡ false
@@ -235,11 +249,11 @@ many_parts n h = rw (right_number, ne_eqb n day_parts (λ e. omega (arith, e)), 
 
 -- ---- the first
 
-pub first : (d : List ℕ) {number end : ℕ} → part_at d 0 ≡ Part.Is number end → Taken d [] 0 number end
+pub first : (d : List ℕ) {number end : ℕ} → part_at d 0 ≡ Some (number, end) → Taken d [] 0 number end
 unfolding all_parts
 first d e = taken d [] 0 _ _ (record { so_far = refl; each = refl }) e
 
-pub no-first : (d : List ℕ) → part_at d 0 ≡ Part.Nothing → shaped d ≡ false
+pub no-first : (d : List ℕ) → part_at d 0 ≡ None → shaped d ≡ false
 no-first d e = unshaped d (no_part d (untaken d 0 e))
 
 -- ---- and the next
@@ -295,14 +309,14 @@ module _ (d : List ℕ) (ps : List (List ℕ)) (at number end : ℕ) (t : Taken 
       ∙ ap (λ (a : Bool). a && true) e
 
   -- the next part is taken
-  pub next : {m f : ℕ} → pointed_part d end ≡ Part.Is m f → Taken d (ps ++ (part ∷ [])) (end + 1) m f
+  pub next : {m f : ℕ} → pointed_part d end ≡ Some (m, f) → Taken d (ps ++ (part ∷ [])) (end + 1) m f
   next e =
       by_bool (point_first (drop end d))
       (λ p. taken d (ps ++ (part ∷ [])) (end + 1) _ _ (further p) (sym (pointed-here d end p) ∙ e))
       (λ n. absurd (omega (arith, ap stands (sym e ∙ pointed-none d end n))))
 
   -- or there is none, where one must be
-  pub lost : pointed_part d end ≡ Part.Nothing → (length d ≤ end → right_number (suc (length ps)) ≡ false) → shaped d ≡ false
+  pub lost : pointed_part d end ≡ None → (length d ≤ end → right_number (suc (length ps)) ≡ false) → shaped d ≡ false
   lost e few =
       by_bool (point_first (drop end d))
       (λ p. let front = further p in

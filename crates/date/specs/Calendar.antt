@@ -1,11 +1,9 @@
 -- The calendar (request W8): which dates there are, and their days. Our calendar has 365 days each year, February 28. Years run from 1 to 9999.
 -- Day 0 is 1.1.1.
-use Rattle.std.specs.Prelude.{Bool, true, false, ◌&&◌, List, [], ◌∷◌, ℕ, suc, ◌+◌, ◌-◌, ◌*◌, ◌/◌, ◌%◌, ◌≤◌, leb, ltb, get_or, take}
+use Rattle.std.specs.Prelude.{Result, Ok, Err, Bool, true, false, ◌&&◌, List, [], ◌∷◌, ℕ, suc, ◌+◌, ◌-◌, ◌*◌, ◌/◌, ◌%◌, ◌≤◌, leb, ltb, get_or, take}
 use Rattle.date.specs.declared.calendar.Date.{Date}
-use Rattle.date.specs.declared.calendar.DateRead.TheVariants.{Is, OutOfRange}
-use Rattle.date.specs.declared.calendar.DateRead.{DateRead}
-use Rattle.date.specs.declared.calendar.DaysRead.TheVariants as Days
-use Rattle.date.specs.declared.calendar.DaysRead.{DaysRead}
+use Rattle.date.specs.declared.refusals.DateError.TheVariants.{OutOfRange}
+use Rattle.date.specs.declared.refusals.DateError.{DateError}
 
 -- ---- the table
 
@@ -63,8 +61,8 @@ pub record Ranged (t : Date) : Type 0 where
   pub hour : t.hour ≤ most_hour
 
 -- a date that the calendar has
-unfoldable pub ranged : Date → DateRead
-ranged t = elim (in_range t) [ true ↦ Is t | false ↦ OutOfRange ]
+unfoldable pub ranged : Date → Result Date DateError
+ranged t = elim (in_range t) [ true ↦ Ok t | false ↦ Err OutOfRange ]
 
 -- ---- to a day count, which leaves the hour out
 
@@ -72,8 +70,8 @@ unfoldable pub count_of : Date → ℕ
 count_of t = (t.year - 1) * year_days + days_before t.month + (t.day - 1)
 
 -- a date out of range has none
-unfoldable pub days_of : Date → DaysRead
-days_of t = elim (in_range t) [ true ↦ Days.Is (count_of t) | false ↦ Days.OutOfRange ]
+unfoldable pub days_of : Date → Result ℕ DateError
+days_of t = elim (in_range t) [ true ↦ Ok (count_of t) | false ↦ Err OutOfRange ]
 
 -- ---- and back
 
@@ -97,5 +95,5 @@ date_counted count =
     date (count / year_days + 1) (month_at of_year) (of_year - days_before (month_at of_year) + 1) 0
 
 -- a count past the last has none
-unfoldable pub date_at : ℕ → DateRead
-date_at count = elim (ltb last_day count) [ true ↦ OutOfRange | false ↦ Is (date_counted count) ]
+unfoldable pub date_at : ℕ → Result Date DateError
+date_at count = elim (ltb last_day count) [ true ↦ Err OutOfRange | false ↦ Ok (date_counted count) ]

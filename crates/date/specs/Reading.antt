@@ -1,14 +1,13 @@
 -- A date in the bytes of a scalar (request W8): read year.month.day with an optional fourth part, an hour 1 to 24; parts are digits without a sign;
 -- leading zeros are read. Refusals: not the shape first, then a part out of range.
-use Rattle.std.specs.Prelude.{Bool, true, false, not, ◌&&◌, ◌||◌, List, [], ◌∷◌, ◌++◌, map, ℕ, ◌+◌, min, eqb, length, get_or, drop}
+use Rattle.std.specs.Prelude.{Option, Some, None, Result, Ok, Err, Bool, true, false, not, ◌&&◌, ◌||◌, List, [], ◌∷◌, ◌++◌, map, ℕ, ◌+◌, min, eqb, length, get_or, drop}
 use Rattle.data.specs.Bytes.{point}
 use Rattle.data.specs.Reasons.{if_so, first_of}
 use Rattle.scalar.specs.Digits.{digits_alone, digit_first, digit_run, value}
 use Rattle.date.specs.Calendar.{date, most_year, in_range}
 use Rattle.date.specs.declared.calendar.Date.{Date}
-use Rattle.date.specs.declared.calendar.DateRead.TheVariants.{Is, NotADate, OutOfRange}
-use Rattle.date.specs.declared.calendar.DateRead.{DateRead}
-use Rattle.date.specs.declared.reading.Part.{Part}
+use Rattle.date.specs.declared.refusals.DateError.TheVariants.{NotADate, OutOfRange}
+use Rattle.date.specs.declared.refusals.DateError.{DateError}
 
 -- ---- the shape
 
@@ -62,10 +61,10 @@ out_of_range ns = hour_zero ns || not (in_range (told_by ns))
 -- ---- the reading
 
 -- by whether the bytes have the shape, and whether a part is out of range
-unfoldable pub dated : Bool → Bool → Date → DateRead
-dated shape out t = first_of (λ (r : DateRead). r) (Is t) (if_so (not shape) NotADate ∷ if_so out OutOfRange ∷ [])
+unfoldable pub dated : Bool → Bool → Date → Result Date DateError
+dated shape out t = first_of Err (Ok t) (if_so (not shape) NotADate ∷ if_so out OutOfRange ∷ [])
 
-unfoldable pub date_read : List ℕ → DateRead
+unfoldable pub date_read : List ℕ → Result Date DateError
 date_read d = dated (shaped d) (out_of_range (numbers d)) (told_by (numbers d))
 
 -- ---- how it is gone about: part by part
@@ -75,11 +74,11 @@ abbrev pub past_all : ℕ
 past_all = most_year + 1
 
 -- the part that stands at a place, and the place after it
-unfoldable pub part_at : List ℕ → ℕ → Part
+unfoldable pub part_at : List ℕ → ℕ → Option (ℕ × ℕ)
 part_at d at =
     elim (digit_first (drop at d)) [
-      | true ↦ Part.Is (min (value 0 (digit_run (drop at d))) past_all) (at + length (digit_run (drop at d)))
-      | false ↦ Part.Nothing
+      | true ↦ Some (min (value 0 (digit_run (drop at d))) past_all, at + length (digit_run (drop at d)))
+      | false ↦ None
     ]
 
 -- whether a point stands at a place
@@ -88,5 +87,5 @@ point_first [] = false
 point_first (b ∷ d) = eqb b point
 
 -- the part that stands behind it
-unfoldable pub pointed_part : List ℕ → ℕ → Part
-pointed_part d at = elim (point_first (drop at d)) [ true ↦ part_at d (at + 1) | false ↦ Part.Nothing ]
+unfoldable pub pointed_part : List ℕ → ℕ → Option (ℕ × ℕ)
+pointed_part d at = elim (point_first (drop at d)) [ true ↦ part_at d (at + 1) | false ↦ None ]

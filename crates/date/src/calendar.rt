@@ -3,6 +3,8 @@
 ghost use Rattle.std.specs.Prelude.{◌≡◌, ◌≤◌, ◌<◌};
 ghost use Rattle.date.specs.Calendar.{within as is_within, days_in, days_before, year_days, months, in_range, days_of, month_at, date_at};
 
+use crate::refusals::DateError;
+
 // The years, the months of each and the hours of a day, each counted from 1.
 pub(crate) const MOST_YEAR: u32 = 9999;
 
@@ -43,26 +45,20 @@ pub struct Date {
     pub hour: u32,
 }
 
-// A date, or why there is none.
-#[derive(Clone, Copy)]
-pub enum DateRead {
-    Is(Date),
-    NotADate,
-    OutOfRange,
-}
-
-// The day count of a date, or that the calendar has no such date.
-#[derive(Clone, Copy)]
-pub enum DaysRead {
-    Is(u32),
-    OutOfRange,
-}
+// What stands for a date where there is none.
+pub const NO_DATE: Date = Date {
+    year: 0,
+    month: 0,
+    day: 0,
+    hour: 0,
+};
 
 // Whether a number is from 1 to another.
+#[tactic(auto, unfolding(crate::specs::Calendar::within))]
 fn within(n: u32, most: u32) -> bool
     ensures { result ≡ is_within n most }
 {
-    if 1 <= n { n <= most } else { false }
+    1 <= n && n <= most
 }
 
 // The days of a month.
@@ -74,19 +70,14 @@ fn days_in(month: u32) -> u32
 }
 
 // Whether the calendar has a date.
+#[tactic(auto, using(crate::proofs::Ranges::is_within), unfolding(crate::specs::Calendar::in_range))]
 pub fn in_range(date: Date) -> bool
     ensures { result ≡ in_range date }
 {
-    if !within(date.year, MOST_YEAR) {
-        return false;
-    }
-    if !within(date.month, MONTHS as u32) {
-        return false;
-    }
-    if !within(date.day, days_in(date.month)) {
-        return false;
-    }
-    date.hour <= MOST_HOUR
+    within(date.year, MOST_YEAR)
+        && within(date.month, MONTHS as u32)
+        && within(date.day, days_in(date.month))
+        && date.hour <= MOST_HOUR
 }
 
 // The days of a year before a month.
@@ -95,25 +86,24 @@ fn days_before(month: u32) -> u32
     ensures { result ≡ days_before month }
 {
     let mut days = 0;
-    let mut m = 1;
-    while m < month {
+    for m in 1..month {
         days += days_in(m);
-        m += 1;
     }
     days
 }
 
 // The day count of a date. The hour is left out.
-pub fn to_days(date: Date) -> DaysRead
+#[tactic(auto, using(crate::proofs::Ranges::parts_in, crate::proofs::Months::before_year), unfolding(crate::specs::Calendar::days_of, crate::specs::Calendar::count_of))]
+pub fn to_days(date: Date) -> Result<u32, DateError>
     ensures { result ≡ days_of date }
 {
     if !in_range(date) {
-        return DaysRead::OutOfRange;
+        return Err(DateError::OutOfRange);
     }
     let years = (date.year - 1) * YEAR_DAYS;
     let months = days_before(date.month);
     let days = date.day - 1;
-    DaysRead::Is(years + months + days)
+    Ok(years + months + days)
 }
 
 // The month of a day of the year, which is counted from 0.
@@ -121,31 +111,29 @@ fn month_of(day: u32) -> u32
     requires { day < year_days }
     ensures { result ≡ month_at day }
 {
-    let mut month = 1;
     let mut left = day;
-    while month < MONTHS as u32 {
+    for month in 1..MONTHS as u32 {
         let days = days_in(month);
         if left < days {
             return month;
         }
         left -= days;
-        month += 1;
     }
-    month
+    MONTHS as u32
 }
 
 // The date of a day count, without an hour. It is never `NotADate`.
-pub fn from_days(days: u32) -> DateRead
+pub fn from_days(days: u32) -> Result<Date, DateError>
     ensures { result ≡ date_at days }
 {
     if LAST_DAY < days {
-        return DateRead::OutOfRange;
+        return Err(DateError::OutOfRange);
     }
     let year = days / YEAR_DAYS + 1;
     let of_year = days % YEAR_DAYS;
     let month = month_of(of_year);
     let day = of_year - days_before(month) + 1;
-    DateRead::Is(Date {
+    Ok(Date {
         year,
         month,
         day,

@@ -4,8 +4,8 @@
 
 mod calendar;
 mod reading;
-mod refusals;
+pub mod refusals;
 
-pub use calendar::{Date, DateRead, DaysRead, from_days, in_range, to_days};
+pub use calendar::{Date, NO_DATE, from_days, in_range, to_days};
 pub use reading::to_date;
-pub use refusals::{NOT_A_DATE, OUT_OF_RANGE, date_refusal, date_value, days_refusal, days_value};
+pub use refusals::DateError;

@@ -1,5 +1,6 @@
 -- Dates: their days, by the day of the year, and what is read of a scalar, by its parts.
 -- Assumes nothing.
+use Rattle.std.specs.Result.{result_unwrap_or}
 use mathlib.Core.Path.{◌≡◌, refl, sym, ◌∙◌, ap}
 use mathlib.Core.Bool.{Bool, true, false, not, ◌&&◌, ◌||◌, false≢true}
 use mathlib.Core.List.{List, [], ◌∷◌, ◌++◌, map}
@@ -21,13 +22,12 @@ use Rattle.scalar.proofs.Rests.{run_alone}
 use Rattle.scalar.proofs.Runs.{digit_bounds, run_length}
 use Rattle.date.specs.Calendar.{date, month_days, together, days_in, days_before, within, in_range, Ranged, count_of, days_of, date_counted, date_at}
 use Rattle.date.specs.Reading.{onto, parts, is_part, all_parts, right_number, shaped, numbers, told_by, hour_zero, out_of_range, dated, date_read}
-use Rattle.date.specs.Refusals.{date_refusal_of, date_value_of, days_refusal_of, days_value_of}
+use Rattle.date.specs.Refusals.{date_refusal, no_date}
 use Rattle.date.specs.declared.calendar.Date.{Date}
-use Rattle.date.specs.declared.calendar.DateRead.TheVariants as Dated
-use Rattle.date.specs.declared.calendar.DateRead.{DateRead}
-use Rattle.date.specs.declared.calendar.DaysRead.TheVariants as Days
+use Rattle.std.specs.Prelude.{Result, Ok}
+use Rattle.date.specs.declared.refusals.DateError.{DateError}
 use Rattle.date.proofs.Days.{days_in-range, days_out, date_in-range, date-past, day-within, date-back, date-within, day-back}
-use Rattle.date.proofs.Months.{table-length, table_days, before-later, before-year}
+use Rattle.date.proofs.Months.{table-length, table_days, before-later, before_year}
 use Rattle.date.proofs.Ranges.{ranged-is, is-ranged, ranged_in}
 use Rattle.date.proofs.Readings.{reads-day, reads-hour, by-date, is_read}
 use Rattle.date.proofs.Shapes.{parts-some, parts-point, parts-other, digit-no-point, part-digits, many_parts}
@@ -52,14 +52,14 @@ in_range-is t = (ranged-is t, is-ranged t)
 -- ---- day counts
 
 -- the count of a date in range
-count-told : (t : Date) → in_range t ≡ true → days_value_of (days_of t) ≡ count_of t
-count-told t e = ap days_value_of (days_in-range t e)
+count-told : (t : Date) → in_range t ≡ true → result_unwrap_or (days_of t) 0 ≡ count_of t
+count-told t e = ap (λ r. result_unwrap_or r 0) (days_in-range t e)
 
 pub dates_and_back : DatesAndBack
 dates_and_back t e =
     record {
-      counted = ap days_refusal_of (days_in-range t e);
-      back = ap date_at (count-told t e) ∙ date_in-range (count_of t) (day-within t e) ∙ ap Dated.Is (date-back t e);
+      counted = ap date_refusal (days_in-range t e);
+      back = ap date_at (count-told t e) ∙ date_in-range (count_of t) (day-within t e) ∙ ap Ok (date-back t e);
     }
 
 -- the hour is no part of the count
@@ -76,11 +76,11 @@ pub counts_and_back : CountsAndBack
 counts_and_back n h =
     let is = date_in-range n h in
     record {
-      dated = ap date_refusal_of is;
-      ranged = ap (λ (r : DateRead). in_range (date_value_of r)) is ∙ date-within n h;
+      dated = ap date_refusal is;
+      ranged = ap (λ (r : Result Date DateError). in_range (result_unwrap_or r no_date)) is ∙ date-within n h;
       back =
-          ap (λ (r : DateRead). days_of (date_value_of r)) is ∙ days_in-range (date_counted n) (date-within n h)
-          ∙ ap Days.Is (day-back n h);
+          ap (λ (r : Result Date DateError). days_of (result_unwrap_or r no_date)) is ∙ days_in-range (date_counted n) (date-within n h)
+          ∙ ap Ok (day-back n h);
     }
 
 pub ends_hold : EndsHold
@@ -90,15 +90,15 @@ ends_hold = (refl, refl)
 pub else_refused : ElseRefused
 else_refused =
     record {
-      date = λ t e. ap days_refusal_of (days_out t e);
-      count = λ n h. ap date_refusal_of (date-past n h);
+      date = λ t e. ap date_refusal (days_out t e);
+      count = λ n h. ap date_refusal (date-past n h);
     }
 
 pub exactly : Exactly
 exactly n = (
   λ found. let t = found.0 in let e = found.1 in
-      omega (arith, day-within t e, sym (count-told t e) ∙ ap days_value_of found.2),
-  λ h. (date_counted n, date-within n h, days_in-range (date_counted n) (date-within n h) ∙ ap Days.Is (day-back n h)),
+      omega (arith, day-within t e, sym (count-told t e) ∙ ap (λ r. result_unwrap_or r 0) found.2),
+  λ h. (date_counted n, date-within n h, days_in-range (date_counted n) (date-within n h) ∙ ap Ok (day-back n h)),
 )
 
 -- ---- their order
@@ -112,7 +112,7 @@ module _ (a b : Date) (x : in_range a ≡ true) (y : in_range b ≡ true) where
 
   year_earlier : a.year < b.year → count_of a < count_of b
   unfolding count_of
-  year_earlier h = omega (arith, h, p.day, before-year a.month, p.year)
+  year_earlier h = omega (arith, h, p.day, before_year a.month, p.year)
 
   month_earlier : a.year ≡ b.year → a.month < b.month → count_of a < count_of b
   unfolding count_of days_before days_in
@@ -160,21 +160,21 @@ in_order a b x y = (
 
 -- ---- why bytes are refused
 
-by-reasons : (shape out : Bool) (t : Date) → date_refusal_of (dated shape out t) ≡ first_number (date_reasons (not shape) out)
+by-reasons : (shape out : Bool) (t : Date) → date_refusal (dated shape out t) ≡ first_number (date_reasons (not shape) out)
 unfolding dated first_of
 by-reasons true true t = refl
 by-reasons true false t = refl
 by-reasons false out t = refl
 
-none-there : (shape out : Bool) (t : Date) → date_refusal_of (dated shape out t) ≡ answered → date_value_of (dated shape out t) ≡ t
+none-there : (shape out : Bool) (t : Date) → date_refusal (dated shape out t) ≡ answered → result_unwrap_or (dated shape out t) no_date ≡ t
 unfolding dated first_of
 none-there true true t e = absurd (omega (arith, e))
 none-there true false t e = refl
 none-there false out t e = absurd (omega (arith, e))
 
-read-ranged : (d : List ℕ) → date_refusal_of (date_read d) ≡ answered → in_range (date_value_of (date_read d)) ≡ true
+read-ranged : (d : List ℕ) → date_refusal (date_read d) ≡ answered → in_range (result_unwrap_or (date_read d) no_date) ≡ true
 read-ranged d =
-    by-date (λ r. date_refusal_of r ≡ answered → in_range (date_value_of r) ≡ true) d
+    by-date (λ r. date_refusal r ≡ answered → in_range (result_unwrap_or r no_date) ≡ true) d
     (λ t r none. r.ranged)
     (λ none. absurd (omega (arith, none)))
     (λ none. absurd (omega (arith, none)))
@@ -186,7 +186,7 @@ read d =
       refusal = by-reasons (shaped d) (out_of_range (numbers d)) (told_by (numbers d));
       told = none-there (shaped d) (out_of_range (numbers d)) (told_by (numbers d));
       ranged = read-ranged d;
-      counted = λ e. ap days_refusal_of (days_in-range (date_value_of (date_read d)) (read-ranged d e));
+      counted = λ e. ap date_refusal (days_in-range (result_unwrap_or (date_read d) no_date) (read-ranged d e));
     }
 
 -- ---- the parts of a scalar are it again
@@ -276,7 +276,7 @@ written-digits =
 
 module _ (t : Date) (e : in_range t ≡ true) where
   day-reads : (y m k : List ℕ) → Writes y t.year → Writes m t.month → Writes k t.day
-      → date_read (joined (y ∷ m ∷ k ∷ [])) ≡ Dated.Is (without_hour t)
+      → date_read (joined (y ∷ m ∷ k ∷ [])) ≡ Ok (without_hour t)
   unfolding all_parts right_number numbers
   day-reads y m k wy wm wk =
       let each : all_parts (y ∷ m ∷ k ∷ []) ≡ true = λ j. wy.digits j && (wm.digits j && (wk.digits j && true)) in
@@ -285,7 +285,7 @@ module _ (t : Date) (e : in_range t ≡ true) where
       ∙ ranged_in (without_hour t) (without_ranged t e)
 
   hour-reads : (y m k h : List ℕ) → Writes y t.year → Writes m t.month → Writes k t.day → Writes h t.hour → 1 ≤ t.hour
-      → date_read (joined (y ∷ m ∷ k ∷ h ∷ [])) ≡ Dated.Is t
+      → date_read (joined (y ∷ m ∷ k ∷ h ∷ [])) ≡ Ok t
   unfolding all_parts right_number numbers
   hour-reads y m k h wy wm wk wh some =
       let each : all_parts (y ∷ m ∷ k ∷ h ∷ []) ≡ true =
@@ -295,9 +295,9 @@ module _ (t : Date) (e : in_range t ≡ true) where
       some
       ∙ ranged_in t e
 
-  reads_as : (d : List ℕ) → WrittenOut d t → date_read d ≡ Dated.Is t
+  reads_as : (d : List ℕ) → WrittenOut d t → date_read d ≡ Ok t
   reads_as d (to_the_day y m k wy wm wk none same) =
-      ap date_read same ∙ day-reads y m k wy wm wk ∙ ap (λ (h : ℕ). Dated.Is (date t.year t.month t.day h)) (sym none)
+      ap date_read same ∙ day-reads y m k wy wm wk ∙ ap (λ (h : ℕ). Ok (date t.year t.month t.day h)) (sym none)
   reads_as d (to_the_hour y m k h wy wm wk wh some same) = ap date_read same ∙ hour-reads y m k h wy wm wk wh some
 
 -- a part of a scalar, by what is known of it

@@ -1,5 +1,6 @@
 -- The number that a scalar begins with, and what is left over: by how the scalar begins, and then by the size of its digits.
 -- Assumes nothing.
+use Rattle.std.specs.Result.{result_unwrap_or}
 use mathlib.Core.Path.{◌≡◌, refl, sym, ◌∙◌, ap}
 use mathlib.Core.Bool.{Bool, true, false, not, ◌&&◌, ◌||◌}
 use mathlib.Core.List.{List, [], ◌∷◌, ◌++◌, append_assoc}
@@ -16,15 +17,15 @@ use Rattle.data.specs.Bytes.{plus, minus}
 use Rattle.data.specs.Reasons.{first_of}
 use Rattle.scalar.specs.Digits.{is_digit, digit_first, digit_run, value}
 use Rattle.scalar.specs.Float.{rest}
-use Rattle.scalar.specs.Numbers.{answered, i64_refusal_of, i64_value_of}
+use Rattle.scalar.specs.Numbers.{answered, scalar_refusal}
 use Rattle.scalar.specs.Whole.{most_i64, signed, i64_digits, i64_part, i64_number, i64_rest, i64_read}
-use Rattle.scalar.specs.declared.whole.I64Part.TheVariants as Part
-use Rattle.scalar.specs.declared.whole.I64Read.TheVariants as I64
-use Rattle.scalar.specs.declared.whole.I64Read.{I64Read}
+use Rattle.std.specs.Prelude.{Result, Ok, Err}
+use Rattle.scalar.specs.declared.errors.ScalarError.TheVariants.{AllDigits, Overflow}
+use Rattle.scalar.specs.declared.errors.ScalarError.{ScalarError}
 use Rattle.scalar.proofs.Rests.{rest-digit, rest-other, run_alone, rest_plain}
 use Rattle.scalar.proofs.Runs.{run-digit, run-other, run_length}
 use Rattle.scalar.proofs.Wholes.{i64-none, i64-minus, i64-plus, i64-bare, i64-other, i64-is, by_size}
-use Rattle.scalar.proofs.Wholes.{number-told, rest-told, read_none, read_past, read_is, read_tail}
+use Rattle.scalar.proofs.Wholes.{number_told, rest-told, read_refused, read_is, read_tail}
 use Rattle.promises.specs.Cases.{bytes}
 use Rattle.promises.specs.LeadingNumber.{is_sign, sign_of, has_minus, after_sign, digits_of, after_digits, is_empty, Apart}
 use Rattle.promises.specs.LeadingNumber.{no_number, too_large, left_over, number_reasons, whole_reasons, first_number, whole_of, Leading, LoneSign}
@@ -78,7 +79,7 @@ record Begun (d : List ℕ) : Type 0 where
 -- or with none
 record Unbegun (d : List ℕ) : Type 0 where
   pub starts : no_number d ≡ true
-  pub part : i64_part d ≡ Part.AllDigits
+  pub part : i64_part d ≡ Err AllDigits
   pub small : too_large d ≡ false
 
 sign-begins : (b : ℕ) (s : List ℕ) (negative : Bool) → is_sign b ≡ true → eqb b minus ≡ negative
@@ -136,15 +137,15 @@ module _ (d : List ℕ) where
   whole-refused e f g = sym (λ j. first_number (whole_reasons (e j) (f j) (g j)))
 
   -- a refusal: no rest is told, and the reading as a whole is the number's
-  refused : (why : I64Read) → i64_number d ≡ why → i64_rest d ≡ [] → i64_read d ≡ why → (i64_refusal_of why ≡ answered → ⊥)
-      → i64_refusal_of why ≡ first_number (number_reasons (no_number d) (too_large d))
-      → i64_refusal_of why ≡ first_number (whole_reasons (no_number d) (too_large d) (left_over d))
+  refused : (why : Result ℤ ScalarError) → i64_number d ≡ why → i64_rest d ≡ [] → i64_read d ≡ why → (scalar_refusal why ≡ answered → ⊥)
+      → scalar_refusal why ≡ first_number (number_reasons (no_number d) (too_large d))
+      → scalar_refusal why ≡ first_number (whole_reasons (no_number d) (too_large d) (left_over d))
       → Leading d
   refused why number left whole h e f = record {
-    number_refusal = ap i64_refusal_of number ∙ e;
-    whole_refusal = ap i64_refusal_of whole ∙ f;
-    number = λ a. absurd (h (sym (ap i64_refusal_of number) ∙ a));
-    rest_of = λ a. absurd (h (sym (ap i64_refusal_of number) ∙ a));
+    number_refusal = ap scalar_refusal number ∙ e;
+    whole_refusal = ap scalar_refusal whole ∙ f;
+    number = λ a. absurd (h (sym (ap scalar_refusal number) ∙ a));
+    rest_of = λ a. absurd (h (sym (ap scalar_refusal number) ∙ a));
     no_rest = λ a. left;
     whole = whole ∙ sym (λ j. whole_of (number j) (left j));
   }
@@ -152,14 +153,14 @@ module _ (d : List ℕ) where
   unbegun : Unbegun d → Leading d
   unfolding first_of
   unbegun a =
-      refused I64.AllDigits (number-told d _ a.part) (rest-told d _ a.part) (read_none d a.part) (λ e. omega arith)
+      refused (Err AllDigits) (number_told d _ a.part) (rest-told d _ a.part) (read_refused d _ a.part) (λ e. omega arith)
       (number-refused a.starts a.small)
       (by_bool (left_over d) (λ t. whole-refused a.starts a.small t) (λ f. whole-refused a.starts a.small f))
 
-  past : Begun d → i64_part d ≡ Part.Overflow → too_large d ≡ true → Leading d
+  past : Begun d → i64_part d ≡ Err Overflow → too_large d ≡ true → Leading d
   unfolding first_of
   past b part large =
-      refused I64.Overflow (number-told d _ part) (rest-told d _ part) (read_past d part) (λ e. omega arith)
+      refused (Err Overflow) (number_told d _ part) (rest-told d _ part) (read_refused d _ part) (λ e. omega arith)
       (number-refused b.starts large)
       (by_bool (left_over d) (λ t. whole-refused b.starts large t) (λ f. whole-refused b.starts large f))
 
@@ -176,21 +177,21 @@ module _ (d : List ℕ) where
   long : length d ≡ length (sign_of d) + length (after_sign d)
   long = ap length (sym (sign-split d)) ∙ length-append (sign_of d) (after_sign d)
 
-  within : Begun d → i64_part d ≡ Part.Is number place → too_large d ≡ false → Leading d
+  within : Begun d → i64_part d ≡ Ok (number, place) → too_large d ≡ false → Leading d
   unfolding first_of
   within b part small = go (after_digits d) refl
     where
-      answers : (whole : I64Read) → i64_read d ≡ whole → whole ≡ whole_of (I64.Is number) (after_digits d)
-          → i64_refusal_of whole ≡ first_number (whole_reasons (no_number d) (too_large d) (left_over d)) → Leading d
+      answers : (whole : Result ℤ ScalarError) → i64_read d ≡ whole → whole ≡ whole_of (Ok number) (after_digits d)
+          → scalar_refusal whole ≡ first_number (whole_reasons (no_number d) (too_large d) (left_over d)) → Leading d
       answers whole read only e =
-          let told = number-told d _ part in
+          let told = number_told d _ part in
           let left = rest-told d _ part ∙ after_both in
           record {
-            number_refusal = ap i64_refusal_of told ∙ number-refused b.starts small;
-            whole_refusal = ap i64_refusal_of read ∙ e;
-            number = λ a. ap i64_value_of told;
+            number_refusal = ap scalar_refusal told ∙ number-refused b.starts small;
+            whole_refusal = ap scalar_refusal read ∙ e;
+            number = λ a. ap (λ r. result_unwrap_or r (pos 0)) told;
             rest_of = λ a. left;
-            no_rest = λ h. absurd (h (ap i64_refusal_of told));
+            no_rest = λ h. absurd (h (ap scalar_refusal told));
             whole = read ∙ only ∙ sym (λ j. whole_of (told j) (left j));
           }
 
@@ -199,14 +200,14 @@ module _ (d : List ℕ) where
 
       go : (left : List ℕ) → after_digits d ≡ left → Leading d
       go [] e =
-          answers (I64.Is number)
+          answers (Ok number)
           (read_is d _ _ part (omega (arith, long, run_length (after_sign d), left-length e)))
-          (sym (ap (whole_of (I64.Is number)) e))
+          (sym (ap (whole_of (Ok number)) e))
           (whole-refused b.starts small (ap (λ (r : List ℕ). not (is_empty r)) e))
       go (byte ∷ left) e =
-          answers I64.AllDigits
+          answers (Err AllDigits)
           (read_tail d _ _ part (omega (arith, long, run_length (after_sign d), left-length e)))
-          (sym (ap (whole_of (I64.Is number)) e))
+          (sym (ap (whole_of (Ok number)) e))
           (whole-refused b.starts small (ap (λ (r : List ℕ). not (is_empty r)) e))
 
   pub leading : Leading d
@@ -232,16 +233,16 @@ zero_is true = refl
 zero_is false = refl
 
 sign-alone : (negative : Bool) (b : ℕ) (d : List ℕ) → digit_run d ≡ [] → i64_part (b ∷ d) ≡ i64_digits negative 1 d
-    → (i64_number (b ∷ d) ≡ I64.Is (pos 0)) × (i64_rest (b ∷ d) ≡ d)
+    → (i64_number (b ∷ d) ≡ Ok (pos 0)) × (i64_rest (b ∷ d) ≡ d)
 unfolding value
-sign-alone negative b d none e = (number-told (b ∷ d) _ part, rest-told (b ∷ d) _ part)
+sign-alone negative b d none e = (number_told (b ∷ d) _ part, rest-told (b ∷ d) _ part)
   where
-    part : i64_part (b ∷ d) ≡ Part.Is (pos 0) 1
+    part : i64_part (b ∷ d) ≡ Ok (pos 0, 1)
     part =
         e
         ∙ i64-is negative 1 d (rw none (omega arith))
-        ∙ (λ j. Part.Is (signed negative (value 0 (none j))) (1 + length (none j)))
-        ∙ ap (λ (i : ℤ). Part.Is i 1) (zero_is negative)
+        ∙ (λ j. Ok (signed negative (value 0 (none j)), 1 + length (none j)))
+        ∙ ap (λ (i : ℤ). Ok (i, 1)) (zero_is negative)
 
 pub lone-sign : LoneSign
 lone-sign b d e f =

@@ -17,16 +17,13 @@ use Rattle.scalar.specs.Digits.{is_digit, digit_run, value}
 use Rattle.scalar.specs.Float.{tail_of, f64_read}
 use Rattle.scalar.specs.Kind.{kind_above, kind_by_size, kind_of_digits, kind_unpointed, some_digit, kind_pointed, kind_after_point, kind_after_sign}
 use Rattle.scalar.specs.Kind.{number_or_name, kind_of}
-use Rattle.scalar.specs.Numbers.{answered, precision_loss, bool_refusal_of, i64_refusal_of, f64_refusal_of}
+use Rattle.scalar.specs.Numbers.{answered, precision_loss, error_number_of, scalar_refusal}
 use Rattle.scalar.specs.Numbers.{kind_bool, kind_whole, kind_decimal, kind_name, kind_number_of}
 use Rattle.scalar.specs.Truth.{yes, no, same, bool_read}
 use Rattle.scalar.specs.Whole.{i64_part, i64_read}
-use Rattle.scalar.specs.declared.float.F64Read.TheVariants as F64
-use Rattle.scalar.specs.declared.float.F64Read.{F64Read}
-use Rattle.scalar.specs.declared.truth.BoolRead.TheVariants as Truth
-use Rattle.scalar.specs.declared.truth.BoolRead.{BoolRead}
-use Rattle.scalar.specs.declared.whole.I64Read.TheVariants as I64
-use Rattle.scalar.specs.declared.whole.I64Read.{I64Read}
+use Rattle.std.specs.Prelude.{Float, ℤ, Result, Ok, Err}
+use Rattle.scalar.specs.declared.errors.ScalarError.TheVariants.{AllDigits, Overflow, InvalidBool, PrecisionLoss}
+use Rattle.scalar.specs.declared.errors.ScalarError.{ScalarError}
 use Rattle.scalar.proofs.Forms.{truth, no_truth}
 use Rattle.promises.specs.Cases.{bytes}
 use Rattle.promises.specs.ReadingKinds.{kind_by_f64, kind_by_i64, kind_by_bool, kind_by_readings, old_number, new_number, is_number, bool_answers}
@@ -47,36 +44,44 @@ by_readings t a f =
 abbrev by_form : Bool → Bool → Bool → Bool → ℕ
 by_form t n a f = elim t [ true ↦ kind_bool | false ↦ elim n [ true ↦ kind_name | false ↦ by_readings false a f ] ]
 
+-- a refusal is no answer
+refused : (e : ScalarError) → eqb (error_number_of e) answered ≡ false
+refused AllDigits = refl
+refused Overflow = refl
+refused InvalidBool = refl
+refused (PrecisionLoss x) = refl
+
 -- whether an f64 answers or gives 24
-abbrev counts : F64Read → Bool
-counts x = eqb (f64_refusal_of x) answered || eqb (f64_refusal_of x) precision_loss
+abbrev counts : Result Float ScalarError → Bool
+counts x = eqb (scalar_refusal x) answered || eqb (scalar_refusal x) precision_loss
 
-by_f64 : (x : F64Read) → kind_number_of (kind_by_f64 x) ≡ by_readings false false (counts x)
-by_f64 (F64.Is x) = refl
-by_f64 (F64.PrecisionLoss x) = refl
-by_f64 F64.AllDigits = refl
-by_f64 F64.Overflow = refl
+by_f64 : (x : Result Float ScalarError) → kind_number_of (kind_by_f64 x) ≡ by_readings false false (counts x)
+by_f64 (Ok x) = refl
+by_f64 (Err (PrecisionLoss x)) = refl
+by_f64 (Err AllDigits) = refl
+by_f64 (Err Overflow) = refl
+by_f64 (Err InvalidBool) = refl
 
-by-i64 : (x : F64Read) (w : I64Read) → kind_number_of (kind_by_i64 x w) ≡ by_readings false (eqb (i64_refusal_of w) answered) (counts x)
-by-i64 x (I64.Is n) = refl
-by-i64 x I64.AllDigits = by_f64 x
-by-i64 x I64.Overflow = by_f64 x
+by-i64 : (x : Result Float ScalarError) (w : Result ℤ ScalarError) → kind_number_of (kind_by_i64 x w) ≡ by_readings false (eqb (scalar_refusal w) answered) (counts x)
+by-i64 x (Ok n) = refl
+by-i64 x (Err e) = by_f64 x ∙ sym (ap (λ (a : Bool). by_readings false a (counts x)) (refused e))
 
-by-bool_read : (x : F64Read) (w : I64Read) (r : BoolRead)
-    → kind_number_of (kind_by_bool x w r) ≡ by_readings (eqb (bool_refusal_of r) answered) (eqb (i64_refusal_of w) answered) (counts x)
-by-bool_read x w (Truth.Is b) = refl
-by-bool_read x w Truth.InvalidBool = by-i64 x w
+by-bool_read : (x : Result Float ScalarError) (w : Result ℤ ScalarError) (r : Result Bool ScalarError)
+    → kind_number_of (kind_by_bool x w r) ≡ by_readings (eqb (scalar_refusal r) answered) (eqb (scalar_refusal w) answered) (counts x)
+by-bool_read x w (Ok b) = refl
+by-bool_read x w (Err e) =
+    by-i64 x w ∙ sym (ap (λ (t : Bool). by_readings t (eqb (scalar_refusal w) answered) (counts x)) (refused e))
 
 old_is : (d : List ℕ) → old_number d ≡ by_readings (bool_answers d) (i64_answers d) (f64_counts d)
 unfolding kind_by_readings
 old_is d = by-bool_read (f64_read d) (i64_read d) (bool_read d)
 
-by_truth : {P : Type 0} (r : BoolRead) → ((b : Bool) → r ≡ Truth.Is b → P) → (r ≡ Truth.InvalidBool → P) → P
-by_truth (Truth.Is b) is none = is b refl
-by_truth Truth.InvalidBool is none = none refl
+by_truth : {P : Type 0} (r : Result Bool ScalarError) → ((b : Bool) → r ≡ Ok b → P) → ((e : ScalarError) → r ≡ Err e → P) → P
+by_truth (Ok b) is none = is b refl
+by_truth (Err e) is none = none e refl
 
-by-unless : (n : Bool) (x : F64Read) (w : I64Read)
-    → kind_number_of (unless n (kind_by_i64 x w)) ≡ by_form false n (eqb (i64_refusal_of w) answered) (counts x)
+by-unless : (n : Bool) (x : Result Float ScalarError) (w : Result ℤ ScalarError)
+    → kind_number_of (unless n (kind_by_i64 x w)) ≡ by_form false n (eqb (scalar_refusal w) answered) (counts x)
 by-unless true x w = refl
 by-unless false x w = by-i64 x w
 
@@ -84,10 +89,10 @@ new_is : (d : List ℕ) → new_number d ≡ by_form (bool_answers d) (no_number
 new_is d =
     by_truth (bool_read d)
     (λ b e. ap kind_number_of (truth d b e) ∙ sym (ap form e))
-    (λ e. ap kind_number_of (no_truth d e ∙ now-is d (start d)) ∙ by-unless (no_number d) (f64_read d) (i64_read d) ∙ sym (ap form e))
+    (λ why e. ap kind_number_of (no_truth d why e ∙ now-is d (start d)) ∙ by-unless (no_number d) (f64_read d) (i64_read d) ∙ sym (ap form e ∙ ap (λ (t : Bool). by_form t (no_number d) (i64_answers d) (f64_counts d)) (refused why)))
   where
-    form : BoolRead → ℕ
-    form r = by_form (eqb (bool_refusal_of r) answered) (no_number d) (i64_answers d) (f64_counts d)
+    form : Result Bool ScalarError → ℕ
+    form r = by_form (eqb (scalar_refusal r) answered) (no_number d) (i64_answers d) (f64_counts d)
 
 -- ---- neither of the two words is a number
 

@@ -33,13 +33,12 @@ use Rattle.scalar.proofs.to_f64.Reads as to_f64
 use Rattle.scalar.proofs.kind.Reads as kind
 use Rattle.scalar.proofs.magnitude.Reads as magnitude
 use Rattle.scalar.proofs.pattern.Reads as pattern
-use Rattle.scalar.proofs.bool_refusal.Reads as bool_refusal
-use Rattle.scalar.proofs.bool_value.Reads as bool_value
-use Rattle.scalar.proofs.u64_refusal.Reads as u64_refusal
-use Rattle.scalar.proofs.u64_value.Reads as u64_value
-use Rattle.scalar.proofs.i64_refusal.Reads as i64_refusal
-use Rattle.scalar.proofs.i64_value.Reads as i64_value
-use Rattle.scalar.proofs.f64_refusal.Reads as f64_refusal
+use Rattle.scalar.proofs.errors.ScalarErrorNumbered.number.Reads as scalar_error_number
+use Rattle.scalar.proofs.refusal.Reads as refusal_told
+use Rattle.scalar.specs.declared.errors.Numbered.{Ghosts}
+use denote.RattleType.{RattleType}
+use denote.Param.Laws.{Laws}
+use mir.Syntax.{Dict}
 use Rattle.scalar.proofs.f64_value.Reads as f64_value
 use Rattle.scalar.proofs.kind_number.Reads as kind_number
 use Rattle.cut.proofs.skip_ws_t.Reads as skip_ws_t
@@ -141,10 +140,7 @@ use Rattle.date.proofs.in_range.Reads as in_range
 use Rattle.date.proofs.to_date.Reads as to_date
 use Rattle.date.proofs.to_days.Reads as to_days
 use Rattle.date.proofs.from_days.Reads as from_days
-use Rattle.date.proofs.date_refusal.Reads as date_refusal
-use Rattle.date.proofs.date_value.Reads as date_value
-use Rattle.date.proofs.days_refusal.Reads as days_refusal
-use Rattle.date.proofs.days_value.Reads as days_value
+use Rattle.date.proofs.refusals.DateErrorNumbered.number.Reads as date_error_number
 use Rattle.report.proofs.numbers.put_decimal.Reads as put_decimal
 use Rattle.report.proofs.numbers.put_hex.Reads as put_hex
 use Rattle.report.proofs.numbers.put_integer.Reads as put_integer
@@ -308,13 +304,7 @@ pub record Scalar : Type 0 where
   pub digits_at : OneResult digits_at.Post
   pub magnitude : OneResult magnitude.Post
   pub pattern : OneResult pattern.Post
-  pub bool_refusal : OneResult bool_refusal.Post
-  pub bool_value : OneResult bool_value.Post
-  pub u64_refusal : OneResult u64_refusal.Post
-  pub u64_value : OneResult u64_value.Post
-  pub i64_refusal : OneResult i64_refusal.Post
-  pub i64_value : OneResult i64_value.Post
-  pub f64_refusal : OneResult f64_refusal.Post
+  pub scalar_error_number : OneResult scalar_error_number.Post
   pub f64_value : OneResult f64_value.Post
   pub kind_number : OneResult kind_number.Post
 
@@ -331,26 +321,21 @@ scalar_calls =
       digits_at = by_definition _ _;
       magnitude = by_definition _ _;
       pattern = by_definition _ _;
-      bool_refusal = by_definition _ _;
-      bool_value = by_definition _ _;
-      u64_refusal = by_definition _ _;
-      u64_value = by_definition _ _;
-      i64_refusal = by_definition _ _;
-      i64_value = by_definition _ _;
-      f64_refusal = by_definition _ _;
+      scalar_error_number = by_definition _ _;
       f64_value = by_definition _ _;
       kind_number = by_definition _ _;
     }
+
+-- of the number of a refusal: whatever is answered, and whatever refuses
+pub refusal_calls : (T E : RattleType) (l : Laws T) (m : Laws E) (g : Ghosts E.Denot) (a b c : Dict) → OneResult (refusal_told.Post T E l m g a b c)
+refusal_calls T E l m g a b c = by_definition _ _
 
 pub record Dates : Type 0 where
   pub in_range : OneResult in_range.Post
   pub to_date : OneResult to_date.Post
   pub to_days : OneResult to_days.Post
   pub from_days : OneResult from_days.Post
-  pub date_refusal : OneResult date_refusal.Post
-  pub date_value : OneResult date_value.Post
-  pub days_refusal : OneResult days_refusal.Post
-  pub days_value : OneResult days_value.Post
+  pub date_error_number : OneResult date_error_number.Post
 
 pub date_calls : Dates
 date_calls =
@@ -359,10 +344,7 @@ date_calls =
       to_date = by_definition _ _;
       to_days = by_definition _ _;
       from_days = by_definition _ _;
-      date_refusal = by_definition _ _;
-      date_value = by_definition _ _;
-      days_refusal = by_definition _ _;
-      days_value = by_definition _ _;
+      date_error_number = by_definition _ _;
     }
 
 pub record Cut : Type 0 where

@@ -1,18 +1,18 @@
 -- Dates (request W8): their day counts and their reading. Told by the request's numbers.
+use Rattle.std.specs.Result.{result_unwrap_or}
 use Rattle.std.specs.Prelude.{ℕ, ◌+◌, ◌≤◌, ◌<◌, Bool, true, false, not, List, [], ◌∷◌, ◌++◌, map, ◌⊎◌, ◌↔◌, ◌≡◌, eqb, pos, length}
 use Prim.Native.String.{String}
 use Rattle.data.specs.Bytes.{point, digit_zero}
 use Rattle.data.specs.Reasons.{Reason, if_so}
 use Rattle.scalar.specs.Digits.{digit_first, value, digits_in}
-use Rattle.scalar.specs.Numbers.{answered, i64_refusal_of, i64_value_of}
+use Rattle.scalar.specs.Numbers.{answered, scalar_refusal}
 use Rattle.scalar.specs.Whole.{i64_number, i64_rest}
 use Rattle.date.specs.Calendar.{date, month_days, together, months, year_days, days_in, most_year, in_range, Ranged, days_of, last_day, date_at}
 use Rattle.date.specs.Reading.{parts, is_part, all_parts, right_number, shaped, numbers, told_by, out_of_range, date_read}
 use Rattle.date.specs.Refusals as refusals
-use Rattle.date.specs.Refusals.{date_refusal_of, date_value_of, days_refusal_of, days_value_of}
+use Rattle.date.specs.Refusals.{date_refusal, no_date}
 use Rattle.date.specs.declared.calendar.Date.{Date}
-use Rattle.date.specs.declared.calendar.DateRead.TheVariants as Dated
-use Rattle.date.specs.declared.calendar.DaysRead.TheVariants as Days
+use Rattle.std.specs.Prelude.{Result, Ok}
 use Rattle.report.specs.Digits.{decimal}
 use Rattle.promises.specs.Cases.{bytes}
 use Rattle.promises.specs.LeadingNumber.{first_number}
@@ -35,8 +35,8 @@ without_hour t = date t.year t.month t.day 0
 
 -- date to count and back is the date
 pub record DateAndBack (t : Date) : Type 0 where
-  pub counted : days_refusal_of (days_of t) ≡ answered
-  pub back : date_at (days_value_of (days_of t)) ≡ Dated.Is (without_hour t)
+  pub counted : date_refusal (days_of t) ≡ answered
+  pub back : date_at (result_unwrap_or (days_of t) 0) ≡ Ok (without_hour t)
 
 abbrev pub DatesAndBack : Type 0
 DatesAndBack = (t : Date) → in_range t ≡ true → DateAndBack t
@@ -47,9 +47,9 @@ HourLeftOut = (t : Date) → in_range t ≡ true → days_of t ≡ days_of (with
 
 -- count to date and back is the count; the date is in range
 pub record CountAndBack (n : ℕ) : Type 0 where
-  pub dated : date_refusal_of (date_at n) ≡ answered
-  pub ranged : in_range (date_value_of (date_at n)) ≡ true
-  pub back : days_of (date_value_of (date_at n)) ≡ Days.Is n
+  pub dated : date_refusal (date_at n) ≡ answered
+  pub ranged : in_range (result_unwrap_or (date_at n) no_date) ≡ true
+  pub back : days_of (result_unwrap_or (date_at n) no_date) ≡ Ok n
 
 abbrev pub CountsAndBack : Type 0
 CountsAndBack = (n : ℕ) → n ≤ last_day → CountAndBack n
@@ -62,20 +62,20 @@ Earlier a b =
 
 -- later dates have larger counts, and larger counts later dates
 abbrev pub InOrder : Type 0
-InOrder = (a b : Date) → in_range a ≡ true → in_range b ≡ true → Earlier a b ↔ (days_value_of (days_of a) < days_value_of (days_of b))
+InOrder = (a b : Date) → in_range a ≡ true → in_range b ≡ true → Earlier a b ↔ (result_unwrap_or (days_of a) 0 < result_unwrap_or (days_of b) 0)
 
 -- the counts of all dates in range are exactly 0 to the last day
 abbrev pub Exactly : Type 0
-Exactly = (n : ℕ) → ((t : Date) × (in_range t ≡ true) × (days_of t ≡ Days.Is n)) ↔ (n ≤ last_day)
+Exactly = (n : ℕ) → ((t : Date) × (in_range t ≡ true) × (days_of t ≡ Ok n)) ↔ (n ≤ last_day)
 
 -- day 0 is 1.1.1, and the last is the end of the year 9999
 abbrev pub EndsHold : Type 0
-EndsHold = (days_of (date 1 1 1 0) ≡ Days.Is 0) × (days_of (date most_year months (days_in months) 0) ≡ Days.Is last_day)
+EndsHold = (days_of (date 1 1 1 0) ≡ Ok 0) × (days_of (date most_year months (days_in months) 0) ≡ Ok last_day)
 
 -- all else is refused: a date out of range, and a count past the last day
 pub record ElseRefused : Type 0 where
-  pub date : (t : Date) → in_range t ≡ false → days_refusal_of (days_of t) ≡ refusals.out_of_range
-  pub count : (n : ℕ) → last_day < n → date_refusal_of (date_at n) ≡ refusals.out_of_range
+  pub date : (t : Date) → in_range t ≡ false → date_refusal (days_of t) ≡ refusals.out_of_range
+  pub count : (n : ℕ) → last_day < n → date_refusal (date_at n) ≡ refusals.out_of_range
 
 -- ---- the reading
 
@@ -85,11 +85,11 @@ date_reasons unshaped out = if_so unshaped refusals.not_a_date ∷ if_so out ref
 
 pub record Read (d : List ℕ) : Type 0 where
   -- the refusal is the first reason's
-  pub refusal : date_refusal_of (date_read d) ≡ first_number (date_reasons (not (shaped d)) (out_of_range (numbers d)))
+  pub refusal : date_refusal (date_read d) ≡ first_number (date_reasons (not (shaped d)) (out_of_range (numbers d)))
   -- what is read are the numbers that the parts write, it is in range, and it has a day count
-  pub told : date_refusal_of (date_read d) ≡ answered → date_value_of (date_read d) ≡ told_by (numbers d)
-  pub ranged : date_refusal_of (date_read d) ≡ answered → in_range (date_value_of (date_read d)) ≡ true
-  pub counted : date_refusal_of (date_read d) ≡ answered → days_refusal_of (days_of (date_value_of (date_read d))) ≡ answered
+  pub told : date_refusal (date_read d) ≡ answered → result_unwrap_or (date_read d) no_date ≡ told_by (numbers d)
+  pub ranged : date_refusal (date_read d) ≡ answered → in_range (result_unwrap_or (date_read d) no_date) ≡ true
+  pub counted : date_refusal (date_read d) ≡ answered → date_refusal (days_of (result_unwrap_or (date_read d) no_date)) ≡ answered
 
 -- parts with points between them
 unfoldable pub joined : List (List ℕ) → List ℕ
@@ -125,7 +125,7 @@ pub data WrittenOut (d : List ℕ) (t : Date) : Type 0 where
 
 -- written out so, a date in range reads as itself, and no other scalar reads as it
 abbrev pub ReadsExactly : Type 0
-ReadsExactly = (d : List ℕ) (t : Date) → (date_read d ≡ Dated.Is t) ↔ ((in_range t ≡ true) × WrittenOut d t)
+ReadsExactly = (d : List ℕ) (t : Date) → (date_read d ≡ Ok t) ↔ ((in_range t ≡ true) × WrittenOut d t)
 
 -- so it does in its decimal digits, with the hour where it has one
 abbrev pub hour_part : ℕ → List (List ℕ)
@@ -135,18 +135,18 @@ unfoldable pub written : Date → List ℕ
 written t = joined (decimal t.year ∷ decimal t.month ∷ decimal t.day ∷ hour_part t.hour)
 
 abbrev pub WrittenReads : Type 0
-WrittenReads = (t : Date) → in_range t ≡ true → date_read (written t) ≡ Dated.Is t
+WrittenReads = (t : Date) → in_range t ≡ true → date_read (written t) ≡ Ok t
 
 -- ---- on W7
 
 -- bytes that begin with a digit: where the leading number is answered, it is the one that a part is read from, and what is left over begins where
 -- the part ends
 pub record OnLeadingNumber (d : List ℕ) : Type 0 where
-  pub number : i64_value_of (i64_number d) ≡ pos (digits_in d 0).number
+  pub number : result_unwrap_or (i64_number d) (pos 0) ≡ pos (digits_in d 0).number
   pub end : (digits_in d 0).end + length (i64_rest d) ≡ length d
 
 abbrev pub OnLeadingNumbers : Type 0
-OnLeadingNumbers = (d : List ℕ) → digit_first d ≡ true → i64_refusal_of (i64_number d) ≡ answered → OnLeadingNumber d
+OnLeadingNumbers = (d : List ℕ) → digit_first d ≡ true → scalar_refusal (i64_number d) ≡ answered → OnLeadingNumber d
 
 -- ---- both sides of each edge: a scalar, its refusal, its date and its day count
 
@@ -184,7 +184,7 @@ edges =
 abbrev pub told : List ℕ → ℕ × Date × ℕ
 told d =
     let read = date_read d in
-    (date_refusal_of read, date_value_of read, days_value_of (days_of (date_value_of read)))
+    (date_refusal read, result_unwrap_or read no_date, result_unwrap_or (days_of (result_unwrap_or read no_date)) 0)
 
 -- what is promised: each line holds
 abbrev pub EdgesHold : Type 0

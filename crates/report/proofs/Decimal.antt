@@ -14,7 +14,7 @@ use Rattle.data.proofs.Cases.{by_bool}
 use Rattle.data.specs.Bytes.{digit_zero, digit_nine, plus}
 use Rattle.scalar.specs.Digits.{is_digit, digit_run, carry, value, most_u64}
 use Rattle.scalar.specs.Whole.{u64_digits, u64_read}
-use Rattle.scalar.specs.declared.whole.U64Read.TheVariants.{Is}
+use Rattle.std.specs.Prelude.{Ok}
 use Rattle.report.proofs.Digits.{quotient_falls, decimal-one, decimal-more}
 use Rattle.report.specs.Digits.{glyph, decimal}
 
@@ -109,14 +109,14 @@ plus-no_digit b e =
     (λ t. ne_eqb b plus (λ is. omega (arith, leb-true digit_zero b t)))
     (λ f. absurd (false≢true (rw (is_digit, f) at e)))
 
-digits_say : (d : List ℕ) (n : ℕ) → digit_run d ≡ d → value 0 d ≡ n → n ≤ most_u64 → u64_digits d ≡ Is n
+digits_say : (d : List ℕ) (n : ℕ) → digit_run d ≡ d → value 0 d ≡ n → n ≤ most_u64 → u64_digits d ≡ Ok n
 unfolding u64_digits
 digits_say d n digits says small =
     let total : value 0 (digit_run d) ≡ n = ap (value 0) digits ∙ says in
     rw (u64_digits, le-ltb (length (digit_run d)) (length d) (omega (arith, ap length digits)), le-ltb most_u64 (value 0 (digit_run d)) (omega arith))
-    (ap Is total)
+    (ap Ok total)
 
-reads : (d : List ℕ) (n : ℕ) → digit_run d ≡ d → 0 < length d → value 0 d ≡ n → n ≤ most_u64 → u64_read d ≡ Is n
+reads : (d : List ℕ) (n : ℕ) → digit_run d ≡ d → 0 < length d → value 0 d ≡ n → n ≤ most_u64 → u64_read d ≡ Ok n
 unfolding u64_read digit_run
 reads [] n digits some says small = absurd (omega arith)
 reads (b ∷ d) n digits some says small =
@@ -125,5 +125,5 @@ reads (b ∷ d) n digits some says small =
     (λ f. let none = rw (digit_run, f) at digits in let z : ◌≡◌ {A = ℕ} 0 1 = cc in absurd (omega arith))
 
 -- the u64 reading of what is written for a number is the number
-pub decimal-reads : (n : ℕ) → n ≤ most_u64 → u64_read (decimal n) ≡ Is n
+pub decimal-reads : (n : ℕ) → n ≤ most_u64 → u64_read (decimal n) ≡ Ok n
 decimal-reads n small = reads (decimal n) n (decimal-run n) (decimal-some n) (decimal-value n) small

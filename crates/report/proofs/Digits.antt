@@ -4,18 +4,17 @@ use mathlib.Core.Path.{◌≡◌, refl, sym, ap, ◌∙◌}
 use mathlib.Core.Bool.{true, false, false≢true}
 use mathlib.Core.List.{List, [], ◌∷◌, ◌++◌}
 use Prim.Native.Nat.{ℕ, zero, suc, ◌-◌, ◌/◌, ◌%◌, ◌≤◌, ◌<◌, min}
-use native.Mathlib.Nat.{div-lt_self}
+use native.Mathlib.Nat.{div-lt_self, not-suc-le-zero}
 use native.Mathlib.Omega.{arith}
-use borrow.Author.Tests.{lt-ltb, le-ltb, ltb-false}
+use borrow.Author.Tests.{lt-ltb, le-ltb, ltb-true, ltb-false}
 use lib.Dec.{ltb}
 use lib.IntN.{ℤ, pos, negsuc, nat_abs}
 use lib.Signed.{lt_z}
 use mir.Syntax.{w64}
-use mir.Val.{SFits}
+use mir.Val.{SFits, to_z, of_z}
 use mir.ValLaws.{to_z-of_z}
 use Rattle.data.proofs.Cases.{by_bool}
 use Rattle.data.specs.Bytes.{minus}
-use Rattle.scalar.proofs.Signs.{back, negative-form}
 use Rattle.report.specs.Digits.{glyph, decimal_by, decimal, hex_by, most_hex, hex}
 use Rattle.report.specs.Readings.{integer}
 
@@ -66,6 +65,18 @@ hex-few k n h = ap (λ (j : ℕ). hex_by j n) {x = k} {y = min k most_hex} (omeg
 pub hex_many : (k n : ℕ) → most_hex ≤ k → hex_by most_hex n ≡ hex k n
 unfolding hex
 hex_many k n h = ap (λ (j : ℕ). hex_by j n) {x = most_hex} {y = min k most_hex} (omega arith)
+
+-- the bits of a number, read back
+abbrev pub back : ℤ → ℤ
+back z = to_z w64 (of_z w64 z)
+
+below_zero : (z : ℤ) → lt_z z (pos 0) ≡ true → (k : ℕ) × (z ≡ negsuc k)
+below_zero (pos n) e = absurd (not-suc-le-zero (ltb-true n 0 e))
+below_zero (negsuc k) e = (k, refl)
+
+-- a number below zero, by its place below
+negative-form : (n : ℤ) → SFits w64 n → lt_z (back n) (pos 0) ≡ true → (k : ℕ) × (n ≡ negsuc k)
+negative-form n f e = below_zero n (ap (λ (z : ℤ). lt_z z (pos 0)) (sym (to_z-of_z w64 n f)) ∙ e)
 
 -- a number below zero is a minus and its magnitude
 pub integer-negative : (n : ℤ) (m : ℕ) → SFits w64 n → lt_z (back n) (pos 0) ≡ true → m ≡ nat_abs (back n)

@@ -13,9 +13,8 @@ use lib.ListN.{length, take, drop, length-append, length-take, length-drop}
 use Rattle.data.proofs.Cases.{by_bool}
 use Rattle.data.specs.Bytes.{plus}
 use Rattle.date.specs.Calendar.{in_range, days_of, last_day, date_counted}
-use Rattle.date.specs.Refusals.{not_a_date, out_of_range, days_value_of}
+use Rattle.date.specs.Refusals.{not_a_date, out_of_range}
 use Rattle.date.specs.declared.calendar.Date.{Date}
-use Rattle.date.specs.declared.calendar.DateRead.TheVariants as Dated
 use Rattle.date.proofs.Days.{days_in-range, date_in-range, date-past, day-within, date-within}
 use Rattle.date.proofs.Months.{days_in-year}
 use Rattle.date.proofs.Ranges.{ranged-is}
@@ -23,29 +22,25 @@ use Rattle.date.proofs.Readings.{by-date}
 use Rattle.scalar.specs.Digits.{digit_run, value, most_u64}
 use Rattle.scalar.specs.Float.{f64_read, pattern_of}
 use Rattle.scalar.specs.Kind.{kind_of}
-use Rattle.scalar.specs.Numbers.{kind_number_of}
+use Rattle.scalar.specs.Numbers.{error_number_of, kind_number_of}
 use Rattle.scalar.specs.Truth.{bool_read}
 use Rattle.scalar.specs.Whole.{most_i64, has_tail, u64_digits, u64_read, signed, i64_part, whole_only, i64_read, number_of, i64_number, i64_rest}
-use Rattle.scalar.specs.declared.float.F64Read.TheVariants as F64
-use Rattle.scalar.specs.declared.float.F64Read.{F64Read}
+use Rattle.std.specs.Prelude.{Result, Ok, Err, Float}
+use Rattle.std.specs.Result.{result_unwrap_or}
+use Rattle.scalar.specs.declared.errors.ScalarError.TheVariants.{AllDigits, Overflow, InvalidBool, PrecisionLoss}
+use Rattle.scalar.specs.declared.errors.ScalarError.{ScalarError}
 use Rattle.scalar.specs.declared.kinds.ReadingKind.TheVariants as Kind
 use Rattle.scalar.specs.declared.kinds.ReadingKind.{ReadingKind}
-use Rattle.scalar.specs.declared.truth.BoolRead.TheVariants as Truth
-use Rattle.scalar.specs.declared.truth.BoolRead.{BoolRead}
-use Rattle.scalar.specs.declared.whole.I64Part.TheVariants as Part
-use Rattle.scalar.specs.declared.whole.I64Part.{I64Part}
-use Rattle.scalar.specs.declared.whole.I64Read.TheVariants as I64
-use Rattle.scalar.specs.declared.whole.I64Read.{I64Read}
-use Rattle.scalar.proofs.Wholes.{by_part, by_size, rest-within}
+use Rattle.scalar.proofs.Wholes.{Part, by_part, by_size, rest-within}
+use Rattle.sheet.specs.declared.views.Viewed.{Viewed}
 use Rattle.writer.specs.declared.Refusal.{Refusal}
 use Rattle.writer.specs.declared.Refusal.TheVariants.{NotSound, TooDeep, TooLong, NoRoom, ReadsOtherwise, OtherForm}
-use Rattle.std.specs.Prelude.{Result, Ok, Err}
 use Rattle.writer.specs.Refusals.{number}
 use Rattle.report.proofs.Room.{decimal-short, bit-short, number_short}
 use Rattle.report.specs.Dates.{year_month_day, date_text, date_line, day_line}
 use Rattle.report.specs.Digits.{decimal, hex_by, most_hex, hex}
 use Rattle.report.specs.Dump.{field}
-use Rattle.report.specs.Readings.{integer, bool_text, u64_text, i64_text, f64_text, exact_of, readings_of, left_text, leading_of}
+use Rattle.report.specs.Readings.{integer, bool_text, u64_text, i64_text, carried_text, f64_text, exact_of, readings_of, left_text, leading_of}
 use Rattle.report.specs.Room.{most_input}
 use Rattle.report.specs.Sheets.{verdict, hex_bytes, view_text, written_text}
 
@@ -71,9 +66,15 @@ hex_bytes-short [] = omega arith
 hex_bytes-short (b ∷ bs) = rw (hex_bytes, length-append) (omega (arith, hex-short 2 b, hex_bytes-short bs))
 
 -- ---- the readings, each by what it answers
-bool-short : (r : BoolRead) → length (bool_text r) ≤ 2
-bool-short (Truth.Is b) = omega (arith, bit-short b)
-bool-short Truth.InvalidBool = two_short 23 (omega arith)
+error-short : (e : ScalarError) → length (decimal (error_number_of e)) ≤ 2
+error-short AllDigits = two_short 21 (omega arith)
+error-short Overflow = two_short 22 (omega arith)
+error-short InvalidBool = two_short 23 (omega arith)
+error-short (PrecisionLoss x) = two_short 24 (omega arith)
+
+bool-short : (r : Result Bool ScalarError) → length (bool_text r) ≤ 2
+bool-short (Ok b) = omega (arith, bit-short b)
+bool-short (Err e) = error-short e
 
 u64_digits-short : (s : List ℕ) → length (u64_text (u64_digits s)) ≤ 21
 unfolding u64_digits
@@ -100,10 +101,9 @@ signed-short true (suc n) h = omega (arith, number_short (suc n) (omega arith))
 signed-short false n h = omega (arith, number_short n (omega arith))
 
 -- what may be left of a part is short
-abbrev PartShort : I64Part → Type 0
-PartShort (Part.Is i rest) = length (integer i) ≤ 21
-PartShort Part.AllDigits = Unit {0}
-PartShort Part.Overflow = Unit {0}
+abbrev PartShort : Part → Type 0
+PartShort (Ok (i, rest)) = length (integer i) ≤ 21
+PartShort (Err e) = Unit {0}
 
 i64_part-short : (d : List ℕ) → PartShort (i64_part d)
 i64_part-short d =
@@ -114,35 +114,36 @@ i64_part-short d =
     (λ e. rw e tt)
 
 -- the number that a scalar begins with, and one that is all of it
-number_of-short : (p : I64Part) → PartShort p → length (i64_text (number_of p)) ≤ 22
-number_of-short (Part.Is i rest) h = omega arith
-number_of-short Part.AllDigits h = omega (arith, two_short 21 (omega arith))
-number_of-short Part.Overflow h = omega (arith, two_short 22 (omega arith))
+number_of-short : (p : Part) → PartShort p → length (i64_text (number_of p)) ≤ 22
+number_of-short (Ok (i, rest)) h = omega arith
+number_of-short (Err e) h = omega (arith, error-short e)
 
-kept-short : (tail : Bool) (i : ℤ) → length (integer i) ≤ 21 → length (i64_text (elim tail [ true ↦ I64.AllDigits | false ↦ I64.Is i ])) ≤ 22
-kept-short true i h = number_of-short Part.AllDigits tt
-kept-short false i h = number_of-short (Part.Is i 0) h
+kept-short : (tail : Bool) (i : ℤ) → length (integer i) ≤ 21 → length (i64_text (elim tail [ true ↦ Err AllDigits | false ↦ Ok i ])) ≤ 22
+kept-short true i h = number_of-short (Err AllDigits) tt
+kept-short false i h = number_of-short (Ok (i, 0)) h
 
-whole-short : (n : ℕ) (p : I64Part) → PartShort p → length (i64_text (whole_only n p)) ≤ 22
-whole-short n (Part.Is i rest) h = kept-short (ltb rest n) i h
-whole-short n Part.AllDigits h = number_of-short Part.AllDigits h
-whole-short n Part.Overflow h = number_of-short Part.Overflow h
+whole-short : (n : ℕ) (p : Part) → PartShort p → length (i64_text (whole_only n p)) ≤ 22
+whole-short n (Ok (i, rest)) h = kept-short (ltb rest n) i h
+whole-short n (Err e) h = number_of-short (Err e) h
 
 i64-short : (d : List ℕ) → length (i64_text (i64_read d)) ≤ 22
 unfolding i64_read
 i64-short d = whole-short (length d) (i64_part d) (i64_part-short d)
 
 -- and how many bytes are left over
-left-short : (r : I64Read) (left : ℕ) → left < 2 ^ 64 → length (left_text r left) ≤ 21
-left-short (I64.Is i) left h = omega (arith, number_short left h)
-left-short I64.AllDigits left h = omega arith
-left-short I64.Overflow left h = omega arith
+left-short : (r : Result ℤ ScalarError) (left : ℕ) → left < 2 ^ 64 → length (left_text r left) ≤ 21
+left-short (Ok i) left h = omega (arith, number_short left h)
+left-short (Err e) left h = omega arith
 
-f64_short : (r : F64Read) → length (f64_text r) ≤ 19
-f64_short (F64.Is x) = omega (arith, hex-short 16 (pattern_of x))
-f64_short F64.AllDigits = omega (arith, two_short 21 (omega arith))
-f64_short F64.Overflow = omega (arith, two_short 22 (omega arith))
-f64_short (F64.PrecisionLoss x) = simp length-append (omega (arith, two_short 24 (omega arith), hex-short 16 (pattern_of x)))
+carried-short : (e : ScalarError) → length (carried_text e) ≤ 17
+carried-short AllDigits = omega arith
+carried-short Overflow = omega arith
+carried-short InvalidBool = omega arith
+carried-short (PrecisionLoss x) = omega (arith, hex-short 16 (pattern_of x))
+
+f64_short : (r : Result Float ScalarError) → length (f64_text r) ≤ 19
+f64_short (Ok x) = omega (arith, hex-short 16 (pattern_of x))
+f64_short (Err e) = simp length-append (omega (arith, error-short e, carried-short e))
 
 kind-short : (k : ReadingKind) → length (decimal (kind_number_of k)) ≤ 1
 kind-short Kind.Bool = decimal-short 0 1 (omega arith)
@@ -177,16 +178,16 @@ ranged-short t e =
     let r = ranged-is t e in
     year_month_day-short t (omega (arith, r.year)) (omega (arith, r.month)) (omega (arith, r.day, days_in-year t.month))
 
-read_short : (t : Date) → in_range t ≡ true → length (date_text (Dated.Is t)) ≤ 105
+read_short : (t : Date) → in_range t ≡ true → length (date_text (Ok t)) ≤ 105
 read_short t e =
     let r = ranged-is t e in
-    let days = ap days_value_of (days_in-range t e) in
+    let days = ap (λ r. result_unwrap_or r 0) (days_in-range t e) in
     rw length-append (rw length-append
     (omega (
       arith,
       ranged-short t e,
       field-short t.hour (omega (arith, r.hour)),
-      field-short (days_value_of (days_of t)) (omega (arith, days, day-within t e)),
+      field-short (result_unwrap_or (days_of t) 0) (omega (arith, days, day-within t e)),
     )))
 
 pub date-short : (d : List ℕ) → length (date_line d) ≤ 106

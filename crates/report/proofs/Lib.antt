@@ -2,6 +2,5 @@ pub mod Digits
 pub mod Lines
 pub mod Hexes
 pub mod Decimal
-pub mod Refused
 pub mod Room
 pub mod Lengths

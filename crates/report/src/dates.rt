@@ -6,8 +6,9 @@ ghost use Rattle.report.specs.Dates.{year_month_day, date_text, date_line, refus
 use crate::numbers::put_decimal;
 use crate::readings::put_value;
 use crate::tokens::put_field;
-use date::{Date, DateRead};
+use date::{Date, DateError};
 use put::{put_byte, put_bytes};
+use scalar::Numbered;
 
 // Puts an `=`, and year, month and day.
 fn put_year_month_day(out: &mut [u8], at: usize, date: Date) -> usize
@@ -19,17 +20,16 @@ fn put_year_month_day(out: &mut [u8], at: usize, date: Date) -> usize
 }
 
 // Puts a date with its hour and its day count, or the refusal's number.
-fn put_read(out: &mut [u8], at: usize, r: DateRead) -> usize
+fn put_read(out: &mut [u8], at: usize, r: Result<Date, DateError>) -> usize
     ensures { wrote result out.new ≡ append out.old at (date_text r) }
 {
     match r {
-        DateRead::Is(date) => {
+        Ok(date) => {
             let day = put_year_month_day(out, at, date);
             let hour = put_field(out, day, date.hour as u64);
-            put_field(out, hour, date::days_value(date::to_days(date)) as u64)
+            put_field(out, hour, date::to_days(date).unwrap_or(0) as u64)
         }
-        DateRead::NotADate => put_decimal(out, at, date::date_refusal(r) as u64),
-        DateRead::OutOfRange => put_decimal(out, at, date::date_refusal(r) as u64),
+        Err(e) => put_decimal(out, at, e.number() as u64),
     }
 }
 
@@ -42,21 +42,20 @@ pub fn put_date(out: &mut [u8], at: usize, d: &[u8]) -> usize
 }
 
 // Puts that a date is refused, and the refusal's number.
-fn put_refusal(out: &mut [u8], at: usize, r: DateRead) -> usize
-    ensures { wrote result out.new ≡ append out.old at (refusal_text r) }
+fn put_refusal(out: &mut [u8], at: usize, e: DateError) -> usize
+    ensures { wrote result out.new ≡ append out.old at (refusal_text e) }
 {
     let word = put_bytes(out, at, b"refused ");
-    put_decimal(out, word, date::date_refusal(r) as u64)
+    put_decimal(out, word, e.number() as u64)
 }
 
 // Puts a date, or that it is refused.
-fn put_told(out: &mut [u8], at: usize, r: DateRead) -> usize
+fn put_told(out: &mut [u8], at: usize, r: Result<Date, DateError>) -> usize
     ensures { wrote result out.new ≡ append out.old at (told_text r) }
 {
     match r {
-        DateRead::Is(date) => put_year_month_day(out, at, date),
-        DateRead::NotADate => put_refusal(out, at, r),
-        DateRead::OutOfRange => put_refusal(out, at, r),
+        Ok(date) => put_year_month_day(out, at, date),
+        Err(e) => put_refusal(out, at, e),
     }
 }
 

@@ -4,12 +4,12 @@ ghost use Rattle.std.specs.Prelude.{◌≡◌, [], ◌∷◌, ◌++◌};
 ghost use Rattle.data.specs.Bytes.{equals};
 ghost use Rattle.put.specs.Append.{wrote, append};
 ghost use Rattle.report.specs.Digits.{decimal};
-ghost use Rattle.report.specs.Readings.{bool_text, u64_text, i64_text, f64_text, exact_of, readings_of, left_text, leading_of};
+ghost use Rattle.report.specs.Readings.{bool_text, u64_text, i64_text, carried_text, f64_text, exact_of, readings_of, left_text, leading_of};
 
 use crate::numbers::{put_decimal, put_hex, put_integer};
 use crate::tokens::bit;
 use put::put_byte;
-use scalar::{BoolRead, F64Read, I64Read, U64Read};
+use scalar::{Numbered, ScalarError};
 
 // Puts an `=` and a number.
 pub(crate) fn put_value(out: &mut [u8], at: usize, n: u64) -> usize
@@ -20,55 +20,63 @@ pub(crate) fn put_value(out: &mut [u8], at: usize, n: u64) -> usize
 }
 
 // Puts what bytes say as yes or no.
-pub fn put_bool(out: &mut [u8], at: usize, r: BoolRead) -> usize
+pub fn put_bool(out: &mut [u8], at: usize, r: Result<bool, ScalarError>) -> usize
     ensures { wrote result out.new ≡ append out.old at (bool_text r) }
 {
     match r {
-        BoolRead::Is(b) => put_value(out, at, bit(b)),
-        BoolRead::InvalidBool => put_decimal(out, at, scalar::bool_refusal(r) as u64),
+        Ok(b) => put_value(out, at, bit(b)),
+        Err(e) => put_decimal(out, at, e.number() as u64),
     }
 }
 
 // Puts what bytes say as a number without a minus.
-pub fn put_u64(out: &mut [u8], at: usize, r: U64Read) -> usize
+pub fn put_u64(out: &mut [u8], at: usize, r: Result<u64, ScalarError>) -> usize
     ensures { wrote result out.new ≡ append out.old at (u64_text r) }
 {
     match r {
-        U64Read::Is(n) => put_value(out, at, n),
-        U64Read::AllDigits => put_decimal(out, at, scalar::u64_refusal(r) as u64),
-        U64Read::Overflow => put_decimal(out, at, scalar::u64_refusal(r) as u64),
+        Ok(n) => put_value(out, at, n),
+        Err(e) => put_decimal(out, at, e.number() as u64),
     }
 }
 
 // Puts what bytes say as a number with a sign.
-pub fn put_i64(out: &mut [u8], at: usize, r: I64Read) -> usize
+pub fn put_i64(out: &mut [u8], at: usize, r: Result<i64, ScalarError>) -> usize
     ensures { wrote result out.new ≡ append out.old at (i64_text r) }
 {
     match r {
-        I64Read::Is(i) => {
+        Ok(i) => {
             let next = put_byte(out, at, b'=');
             put_integer(out, next, i)
         }
-        I64Read::AllDigits => put_decimal(out, at, scalar::i64_refusal(r) as u64),
-        I64Read::Overflow => put_decimal(out, at, scalar::i64_refusal(r) as u64),
+        Err(e) => put_decimal(out, at, e.number() as u64),
+    }
+}
+
+// Puts the f64 that a refusal carries, bit for bit, and nothing where it carries none.
+fn put_carried(out: &mut [u8], at: usize, e: ScalarError) -> usize
+    ensures { wrote result out.new ≡ append out.old at (carried_text e) }
+{
+    match e {
+        ScalarError::PrecisionLoss(x) => {
+            let next = put_byte(out, at, b':');
+            put_hex(out, next, scalar::pattern(x), 16)
+        }
+        _ => at,
     }
 }
 
 // Puts what bytes say as an f64, bit for bit.
-pub fn put_f64(out: &mut [u8], at: usize, r: F64Read) -> usize
+pub fn put_f64(out: &mut [u8], at: usize, r: Result<f64, ScalarError>) -> usize
     ensures { wrote result out.new ≡ append out.old at (f64_text r) }
 {
     match r {
-        F64Read::Is(x) => {
+        Ok(x) => {
             let next = put_byte(out, at, b'=');
             put_hex(out, next, scalar::pattern(x), 16)
         }
-        F64Read::AllDigits => put_decimal(out, at, scalar::f64_refusal(r) as u64),
-        F64Read::Overflow => put_decimal(out, at, scalar::f64_refusal(r) as u64),
-        F64Read::PrecisionLoss(x) => {
-            let number = put_decimal(out, at, scalar::f64_refusal(r) as u64);
-            let next = put_byte(out, number, b':');
-            put_hex(out, next, scalar::pattern(x), 16)
+        Err(e) => {
+            let number = put_decimal(out, at, e.number() as u64);
+            put_carried(out, number, e)
         }
     }
 }
@@ -97,16 +105,15 @@ pub fn put_readings(out: &mut [u8], at: usize, d: &[u8]) -> usize
 }
 
 // Puts how many bytes are left over after a number, and nothing for a refusal.
-fn put_left(out: &mut [u8], at: usize, r: I64Read, left: usize) -> usize
+fn put_left(out: &mut [u8], at: usize, r: Result<i64, ScalarError>, left: usize) -> usize
     ensures { wrote result out.new ≡ append out.old at (left_text r left) }
 {
     match r {
-        I64Read::Is(_) => {
+        Ok(_) => {
             let next = put_byte(out, at, b' ');
             put_decimal(out, next, left as u64)
         }
-        I64Read::AllDigits => at,
-        I64Read::Overflow => at,
+        Err(_) => at,
     }
 }
 

@@ -15,7 +15,7 @@ use Rattle.scalar.specs.Digits.{is_digit, digit_run, value, most_u64}
 use Rattle.scalar.specs.Float.{most_safe, most_places, rest, tail_of, lossy, unpointed, factor, divided, quotient, pointed, after_point, f64_digits, begins}
 use Rattle.scalar.specs.Float.{f64_read}
 use Rattle.scalar.specs.Whole.{most_i64}
-use Rattle.scalar.specs.declared.float.F64Read.TheVariants.{Is}
+use Rattle.std.specs.Prelude.{Ok}
 use Rattle.scalar.specs.declared.float.Tail.TheVariants.{End, Point, Other}
 use Rattle.scalar.specs.declared.float.Tail.{Tail}
 use Rattle.scalar.proofs.Floats.{unpointed-past, unpointed-lossy, unpointed-is, pointed-past, pointed-is, point-within}
@@ -60,7 +60,7 @@ unfolding paper_quotient quotient
 quotient-same negative total places =
     by_bool (ltb most_places places)
     (λ p. rw (paper_quotient, quotient, p))
-    (λ f. rw (paper_quotient, quotient, f) (ap Is (answer-same negative total places)))
+    (λ f. rw (paper_quotient, quotient, f) (ap Ok (answer-same negative total places)))
 
 pointed-same : (negative : Bool) (all whole : ℕ) (fraction : List ℕ) → (all < many_bytes → value whole fraction ≤ most_u64)
     → paper_pointed negative all whole fraction ≡ pointed negative whole fraction

@@ -6,22 +6,16 @@ pub mod Fractions
 pub mod Floats
 pub mod Truths
 use mathlib.Core.Path.{◌≡◌, sym, ◌∙◌, ap}
-use mathlib.Core.List.{List}
 use Prim.Native.Nat.{ℕ}
+use lib.Dec.{eqb}
 use native.Mathlib.Omega.{arith}
-use Rattle.scalar.specs.Float.{f64_read}
-use Rattle.scalar.specs.Truth.{bool_read}
-use Rattle.scalar.specs.Whole.{u64_read, i64_number, i64_rest, i64_read}
-use Rattle.scalar.specs.declared.float.F64Read.TheVariants as F64
-use Rattle.scalar.specs.declared.float.F64Read.{F64Read}
-use Rattle.scalar.specs.declared.truth.BoolRead.TheVariants as Truth
-use Rattle.scalar.specs.declared.truth.BoolRead.{BoolRead}
-use Rattle.scalar.specs.declared.whole.I64Read.TheVariants as I64
-use Rattle.scalar.specs.declared.whole.I64Read.{I64Read}
-use Rattle.scalar.specs.declared.whole.U64Read.TheVariants as U64
-use Rattle.scalar.specs.declared.whole.U64Read.{U64Read}
-use Rattle.rust_scalar.specs.RustReadings.{Outcome, Ok, Err, Panic, ScalarError, AllDigits, Overflow, InvalidBool, PrecisionLoss}
-use Rattle.rust_scalar.specs.RustReadingsAlike.{rust_bool, rust_u64, rust_i64_part, rust_i64, rust_f64, Slice, ReadAlike, Unpanicked, CallsAlike}
+use Rattle.std.specs.Prelude.{Float, List}
+use Rattle.data.proofs.Cases.{by_bool}
+use Rattle.scalar.specs.Numbers.{answered}
+use Rattle.scalar.specs.Whole.{i64_rest}
+use Rattle.rust_scalar.specs.RustReadings.{Outcome, Ok, Err, Panic, ScalarError}
+use Rattle.rust_scalar.specs.RustReadingsAlike.{error_numbered, reading_as_rust, rust_bool, rust_u64, rust_i64_part, rust_i64, rust_f64}
+use Rattle.rust_scalar.specs.RustReadingsAlike.{Slice, ReadAlike, Unpanicked, CallsAlike}
 use Rattle.rust_scalar.proofs.RustReadings.Floats.{f64_same}
 use Rattle.rust_scalar.proofs.RustReadings.Truths.{bool_same}
 use Rattle.rust_scalar.proofs.RustReadings.Wholes.{u64-same, i64_part-same, i64-same}
@@ -42,38 +36,19 @@ answers a e = let z : ◌≡◌ {A = ℕ} 0 1 = cc in omega arith
 refuses : {A : Type 0} (e : ScalarError) → ◌≡◌ {A = Outcome A} (Err e) Panic → ⊥
 refuses e p = let z : ◌≡◌ {A = ℕ} 0 1 = cc in omega arith
 
-bool_answers : (r : BoolRead) → rust_bool r ≡ Panic → ⊥
-bool_answers (Truth.Is b) e = answers b e
-bool_answers Truth.InvalidBool e = refuses InvalidBool e
-
-u64-answers : (r : U64Read) → rust_u64 r ≡ Panic → ⊥
-u64-answers (U64.Is n) e = answers n e
-u64-answers U64.AllDigits e = refuses AllDigits e
-u64-answers U64.Overflow e = refuses Overflow e
-
-i64_part-answers : (r : I64Read) (rest : List ℕ) → rust_i64_part r rest ≡ Panic → ⊥
-i64_part-answers (I64.Is i) rest e = answers (i, rest) e
-i64_part-answers I64.AllDigits rest e = refuses AllDigits e
-i64_part-answers I64.Overflow rest e = refuses Overflow e
-
-i64_answers : (r : I64Read) → rust_i64 r ≡ Panic → ⊥
-i64_answers (I64.Is i) e = answers i e
-i64_answers I64.AllDigits e = refuses AllDigits e
-i64_answers I64.Overflow e = refuses Overflow e
-
-f64_answers : (r : F64Read) → rust_f64 r ≡ Panic → ⊥
-f64_answers (F64.Is x) e = answers x e
-f64_answers F64.AllDigits e = refuses AllDigits e
-f64_answers F64.Overflow e = refuses Overflow e
-f64_answers (F64.PrecisionLoss x) e = refuses (PrecisionLoss x) e
+none_panics : {A : Type 0} (refusal : ℕ) (value : A) (carried : Float) → reading_as_rust refusal value carried ≡ Panic → ⊥
+none_panics refusal value carried e =
+    by_bool (eqb refusal answered)
+    (λ t. answers value (rw (reading_as_rust, t) at e))
+    (λ f. refuses (error_numbered refusal carried) (rw (reading_as_rust, f) at e))
 
 pub readings-end : (d : List ℕ) → Slice d → Unpanicked d
 readings-end d sized = record {
-  bool_ends = λ e. bool_answers (bool_read d) (sym (bool_same d) ∙ e);
-  u64_ends = λ e. u64-answers (u64_read d) (sym (u64-same d) ∙ e);
-  i64_part_ends = λ e. i64_part-answers (i64_number d) (i64_rest d) (sym (i64_part-same d) ∙ e);
-  i64_ends = λ e. i64_answers (i64_read d) (sym (i64-same d) ∙ e);
-  f64_ends = λ e. f64_answers (f64_read d) (sym (f64_same d sized) ∙ e);
+  bool_ends = λ e. none_panics _ _ _ (sym (bool_same d) ∙ e);
+  u64_ends = λ e. none_panics _ _ _ (sym (u64-same d) ∙ e);
+  i64_part_ends = λ e. none_panics _ _ _ (sym (i64_part-same d) ∙ e);
+  i64_ends = λ e. none_panics _ _ _ (sym (i64-same d) ∙ e);
+  f64_ends = λ e. none_panics _ _ _ (sym (f64_same d sized) ∙ e);
 }
 
 pub calls_alike : CallsAlike

@@ -4,17 +4,18 @@ use Rattle.std.proofs.Common.{◌≡◌, ℕ, suc, ◌+◌, ◌%◌, ◌^◌, �
 use native.Mathlib.Nat.{mod-le, pow-le-pow_right}
 use lib.Ieee.{binary64, of_int}
 use Rattle.data.proofs.Cases.{by_bool}
-use Rattle.data.specs.Bytes.{plus, minus, point, letter_f}
-use Rattle.scalar.specs.Digits.{digit_run, value, gathered, most_u64}
+use Rattle.data.specs.Bytes.{plus, minus, point, letter_f, digit_zero, digit_nine}
+use Rattle.scalar.specs.Digits.{is_digit, digit_run, value, gathered, most_u64}
 use Rattle.scalar.specs.Float.{most_safe, most_places, rest, tail_of, lossy, unpointed, divided, quotient, pointed, after_point, f64_digits, begins}
 use Rattle.scalar.specs.Float.{f64_read}
 use Rattle.scalar.specs.Whole.{signed, most_i64}
 use Rattle.scalar.specs.declared.digits.Gathered.{Gathered}
-use Rattle.scalar.specs.declared.float.F64Read.TheVariants.{Is, AllDigits, Overflow, PrecisionLoss}
+use Rattle.std.specs.Prelude.{Ok, Err}
+use Rattle.scalar.specs.declared.errors.ScalarError.TheVariants.{AllDigits, Overflow, PrecisionLoss}
 use Rattle.scalar.specs.declared.float.Tail.TheVariants.{End, Point, Other}
 use Rattle.scalar.specs.declared.float.Tail.{Tail}
 use Rattle.scalar.proofs.Gathers.{place_is}
-use Rattle.scalar.proofs.Runs.{overflow_cutoff, run_length, value_below}
+use Rattle.scalar.proofs.Runs.{digit_in, digit_out, overflow_cutoff, run_length, value_below}
 
 -- ---- what stands after digits
 
@@ -51,7 +52,7 @@ point-within d at e =
 
 -- ---- a number without a point
 
-pub unpointed-past : (negative : Bool) (n : ℕ) → most_u64 < n → unpointed negative n ≡ Overflow
+pub unpointed-past : (negative : Bool) (n : ℕ) → most_u64 < n → unpointed negative n ≡ Err Overflow
 unfolding unpointed
 unpointed-past negative n h = rw (unpointed, lt-ltb most_u64 n h)
 
@@ -59,35 +60,35 @@ pub unpointed-lossy : (negative : Bool) (n : ℕ) → n ≤ most_u64 → most_sa
 unfolding unpointed
 unpointed-lossy negative n h k = rw (unpointed, le-ltb most_u64 n h, lt-ltb most_safe n k)
 
-pub unpointed-is : (negative : Bool) (n : ℕ) → n ≤ most_safe → unpointed negative n ≡ Is (of_int binary64 (signed negative n))
+pub unpointed-is : (negative : Bool) (n : ℕ) → n ≤ most_safe → unpointed negative n ≡ Ok (of_int binary64 (signed negative n))
 unfolding unpointed
 unpointed-is negative n h = rw (unpointed, le-ltb most_u64 n (omega arith), le-ltb most_safe n h)
 
-pub lossy-plain : (negative : Bool) (n : ℕ) → negative ≡ false → lossy negative n ≡ PrecisionLoss (of_int binary64 (pos n))
+pub lossy-plain : (negative : Bool) (n : ℕ) → negative ≡ false → lossy negative n ≡ Err (PrecisionLoss (of_int binary64 (pos n)))
 unfolding lossy
 lossy-plain negative n e = ap (λ (b : Bool). lossy b n) e
 
-pub lossy-past : (negative : Bool) (n : ℕ) → negative ≡ true → most_i64 < n → lossy negative n ≡ Overflow
+pub lossy-past : (negative : Bool) (n : ℕ) → negative ≡ true → most_i64 < n → lossy negative n ≡ Err Overflow
 unfolding lossy
 lossy-past negative n e h = ap (λ (b : Bool). lossy b n) e ∙ rw (lossy, lt-ltb most_i64 n h)
 
 pub lossy-negative : (negative : Bool) (n : ℕ) → negative ≡ true → n ≤ most_i64
-    → lossy negative n ≡ PrecisionLoss (of_int binary64 (signed true n))
+    → lossy negative n ≡ Err (PrecisionLoss (of_int binary64 (signed true n)))
 unfolding lossy
 lossy-negative negative n e h = ap (λ (b : Bool). lossy b n) e ∙ rw (lossy, le-ltb most_i64 n h)
 
 -- ---- a number with a point
 
-pub quotient-past : (negative : Bool) (total places : ℕ) → most_places < places → quotient negative total places ≡ Overflow
+pub quotient-past : (negative : Bool) (total places : ℕ) → most_places < places → quotient negative total places ≡ Err Overflow
 unfolding quotient
 quotient-past negative total places h = rw (quotient, lt-ltb most_places places h)
 
-pub quotient_is : (negative : Bool) (total places : ℕ) → places ≤ most_places → quotient negative total places ≡ Is (divided negative total places)
+pub quotient_is : (negative : Bool) (total places : ℕ) → places ≤ most_places → quotient negative total places ≡ Ok (divided negative total places)
 unfolding quotient
 quotient_is negative total places h = rw (quotient, le-ltb most_places places h)
 
 pub pointed-past : (negative : Bool) (whole : ℕ) (fraction : List ℕ) → ltb most_u64 (value whole fraction) ≡ true
-    → pointed negative whole fraction ≡ Overflow
+    → pointed negative whole fraction ≡ Err Overflow
 unfolding pointed
 pointed-past negative whole fraction e = rw (pointed, e)
 
@@ -101,11 +102,11 @@ pub after_point-end : (negative : Bool) (whole : ℕ) (s : List ℕ) → tail_of
 unfolding after_point
 after_point-end negative whole s e = rw (after_point, e)
 
-pub after_point-point : (negative : Bool) (whole : ℕ) (s : List ℕ) → tail_of (rest s) ≡ Point → after_point negative whole s ≡ AllDigits
+pub after_point-point : (negative : Bool) (whole : ℕ) (s : List ℕ) → tail_of (rest s) ≡ Point → after_point negative whole s ≡ Err AllDigits
 unfolding after_point
 after_point-point negative whole s e = rw (after_point, e)
 
-pub after_point-other : (negative : Bool) (whole : ℕ) (s : List ℕ) → tail_of (rest s) ≡ Other → after_point negative whole s ≡ AllDigits
+pub after_point-other : (negative : Bool) (whole : ℕ) (s : List ℕ) → tail_of (rest s) ≡ Other → after_point negative whole s ≡ Err AllDigits
 unfolding after_point
 after_point-other negative whole s e = rw (after_point, e)
 
@@ -120,13 +121,13 @@ pub digits-point : (negative : Bool) (s : List ℕ) → tail_of (rest s) ≡ Poi
 unfolding f64_digits
 digits-point negative s e = rw (f64_digits, e)
 
-pub digits-other : (negative : Bool) (s : List ℕ) → tail_of (rest s) ≡ Other → f64_digits negative s ≡ AllDigits
+pub digits-other : (negative : Bool) (s : List ℕ) → tail_of (rest s) ≡ Other → f64_digits negative s ≡ Err AllDigits
 unfolding f64_digits
 digits-other negative s e = rw (f64_digits, e)
 
 -- ---- the first byte
 
-pub f64_none : f64_read [] ≡ AllDigits
+pub f64_none : f64_read [] ≡ Err AllDigits
 unfolding f64_read
 f64_none = refl
 
@@ -143,9 +144,36 @@ pub f64_bare : (b : ℕ) (s : List ℕ) → (b ≡ minus → ⊥) → (b ≡ plu
 unfolding f64_read
 f64_bare b s h k e = rw (f64_read, ne_eqb b minus h, ne_eqb b plus k, e)
 
-pub f64_other : (b : ℕ) (s : List ℕ) → (b ≡ minus → ⊥) → (b ≡ plus → ⊥) → begins b ≡ false → f64_read (b ∷ s) ≡ AllDigits
+pub f64_other : (b : ℕ) (s : List ℕ) → (b ≡ minus → ⊥) → (b ≡ plus → ⊥) → begins b ≡ false → f64_read (b ∷ s) ≡ Err AllDigits
 unfolding f64_read
 f64_other b s h k e = rw (f64_read, ne_eqb b minus h, ne_eqb b plus k, e)
+
+-- the same of bytes by the first of them
+pub read_minus : (d : List ℕ) → 0 < length d → get_or d 0 0 ≡ minus → f64_read d ≡ f64_digits true (drop 1 d)
+read_minus [] h e = absurd (omega arith)
+read_minus (b ∷ s) h e = f64_minus b s e
+
+pub read_plus : (d : List ℕ) → 0 < length d → get_or d 0 0 ≡ plus → f64_read d ≡ f64_digits false (drop 1 d)
+read_plus [] h e = absurd (omega arith)
+read_plus (b ∷ s) h e = f64_plus b s (λ m. omega arith) e
+
+pub read_digit : (d : List ℕ) → 0 < length d → digit_zero ≤ get_or d 0 0 → get_or d 0 0 ≤ digit_nine → f64_read d ≡ f64_digits false (drop 0 d)
+unfolding begins
+read_digit [] h low high = absurd (omega arith)
+read_digit (b ∷ s) h low high = f64_bare b s (λ m. omega arith) (λ p. omega arith) (rw (begins, digit_in b low high))
+
+pub read_point : (d : List ℕ) → 0 < length d → get_or d 0 0 ≡ point → f64_read d ≡ f64_digits false (drop 0 d)
+unfolding begins is_digit
+read_point [] h e = absurd (omega arith)
+read_point (b ∷ s) h e = f64_bare b s (λ m. omega arith) (λ p. omega arith) (ap begins e)
+
+pub read_other : (d : List ℕ) → (0 < length d → get_or d 0 0 ≡ minus → ⊥) → (0 < length d → get_or d 0 0 ≡ plus → ⊥)
+    → (0 < length d → get_or d 0 0 ≡ point → ⊥) → (0 < length d → digit_zero ≤ get_or d 0 0 → get_or d 0 0 ≤ digit_nine → ⊥)
+    → f64_read d ≡ Err AllDigits
+unfolding begins
+read_other [] m p t n = f64_none
+read_other (b ∷ s) m p t n =
+    f64_other b s (m (omega arith)) (p (omega arith)) (rw (begins, digit_out b (n (omega arith))) (ne_eqb b point (t (omega arith))))
 
 -- ---- by what was gathered
 
@@ -181,3 +209,7 @@ short-pointed d sign g e within short =
     let below : value g.total (digit_run t) < 10 ^ 18 =
     lt_of_lt_of_le (both_below s t g.total total-le) (pow-le-pow_right {n = 10} (omega arith) digits_le) in
     omega (arith, below)
+
+pub short_carried : (d : List ℕ) (sign : ℕ) (g : Gathered) → g ≡ gathered d sign 0 → g.at < length d → length d < overflow_cutoff
+    → ltb most_u64 (value g.total (digit_run (drop (g.at + 1) d))) ≡ false
+short_carried d sign g e within short = le-ltb most_u64 _ (short-pointed d sign g e within short)

@@ -1,19 +1,23 @@
 -- Laws of the kinds: each case, by the form and the size that lead to it.
 -- Assumes nothing.
-use Rattle.std.proofs.Common.{◌≡◌, ℕ, ◌+◌, ◌%◌, ◌^◌, ◌<◌, ◌≤◌, Bool, true, false, List, [], ◌∷◌, length, drop, sym, refl, ap, ◌∙◌, arith, eq-eqb, ne_eqb, le-leb}
+use Rattle.std.proofs.Common.{ltb, le_trans, le_of_eq, lt_of_lt_of_le, ltb-false, ltb-true, ◌≡◌, ℕ, ◌+◌, ◌%◌, ◌^◌, ◌<◌, ◌≤◌, Bool, true, false, List, [], ◌∷◌, length, drop, sym, refl, ap, ◌∙◌, arith, eq-eqb, ne_eqb, le-leb}
 use borrow.Author.Tests.{lt-leb}
 use Rattle.data.proofs.Cases.{by_bool}
 use Rattle.data.specs.Bytes.{plus, minus}
-use Rattle.scalar.specs.Digits.{digit_run, value, most_u64}
+use Rattle.scalar.specs.Digits.{gathered, digit_run, value, most_u64}
 use Rattle.scalar.specs.Float.{most_places, rest, tail_of}
 use Rattle.scalar.specs.Kind.{kind_above, kind_by_size, kind_of_digits, kind_unpointed, some_digit, kind_pointed, kind_after_point, kind_after_sign}
 use Rattle.scalar.specs.Kind.{number_or_name, kind_of}
 use Rattle.scalar.specs.Truth.{yes, no, same, bool_read}
 use Rattle.scalar.specs.Whole.{most_i64, has_tail}
+use Rattle.scalar.specs.declared.digits.Gathered.{Gathered}
+use Rattle.scalar.proofs.Gathers.{place_is, tailed, untailed, total-is}
 use Rattle.scalar.specs.declared.float.Tail.TheVariants.{End, Point, Other}
 use Rattle.scalar.specs.declared.kinds.ReadingKind.TheVariants.{Bool as Truth, Whole, Decimal, Name}
 use Rattle.scalar.specs.declared.kinds.ReadingKind.{ReadingKind}
-use Rattle.scalar.specs.declared.truth.BoolRead.TheVariants.{Is, InvalidBool}
+use Rattle.std.specs.Prelude.{Ok, Err, is_ok}
+use mathlib.Core.Bool.{false≢true}
+use Rattle.scalar.specs.declared.errors.ScalarError.{ScalarError}
 
 -- ---- without a point
 
@@ -63,6 +67,37 @@ unpointed_tail negative s e = rw (kind_unpointed, e)
 pub unpointed-digits : (negative : Bool) (s : List ℕ) → has_tail s ≡ false → kind_unpointed negative s ≡ kind_of_digits negative (digit_run s)
 unfolding kind_unpointed
 unpointed-digits negative s e = rw (kind_unpointed, e)
+
+-- the same of digits that were gathered from a place on
+module _ (negative : Bool) (d : List ℕ) (sign : ℕ) (whole : Gathered) (e : whole ≡ gathered d sign 0) where
+  pub unpointed_followed : whole.at < length d → kind_unpointed negative (drop sign d) ≡ Name
+  unpointed_followed h = unpointed_tail _ _ (tailed _ _ 0 _ e h)
+
+  pub unpointed_bare : length d ≤ whole.at → whole.at ≡ sign → kind_unpointed negative (drop sign d) ≡ Name
+  unpointed_bare h none = unpointed-digits _ _ (untailed _ _ 0 _ e h) ∙ digits-none _ _ (omega (arith, place_is d sign 0 whole e, none))
+
+  -- where digits stand and nothing after them, their size decides
+  module _ (h : length d ≤ whole.at) (some : whole.at ≡ sign → ⊥) where
+    by-size : kind_unpointed negative (drop sign d) ≡ kind_by_size negative (value 0 (digit_run (drop sign d)))
+    by-size =
+        unpointed-digits _ _ (untailed _ _ 0 _ e h)
+        ∙ digits-some _ _ (λ none. some (omega (arith, place_is d sign 0 whole e, none)))
+
+    pub unpointed_past : ltb most_u64 (value 0 (digit_run (drop sign d))) ≡ true → kind_unpointed negative (drop sign d) ≡ Name
+    unpointed_past t = by-size ∙ size-past _ _ (ltb-true _ _ t)
+
+    module _ (f : ltb most_u64 (value 0 (digit_run (drop sign d))) ≡ false) where
+      number : whole.total ≡ value 0 (digit_run (drop sign d))
+      number = total-is d sign 0 whole e (ltb-false _ _ f)
+
+      pub unpointed_whole : whole.total ≤ most_i64 → kind_unpointed negative (drop sign d) ≡ Whole
+      unpointed_whole k = by-size ∙ size-whole _ _ (le_trans (le_of_eq (sym number)) k)
+
+      pub unpointed_negative : most_i64 < whole.total → negative ≡ true → kind_unpointed negative (drop sign d) ≡ Name
+      unpointed_negative k n = by-size ∙ size-negative _ _ (lt_of_lt_of_le k (le_of_eq number)) n
+
+      pub unpointed_decimal : most_i64 < whole.total → negative ≡ false → kind_unpointed negative (drop sign d) ≡ Decimal
+      unpointed_decimal k n = by-size ∙ size-decimal _ _ (lt_of_lt_of_le k (le_of_eq number)) (ltb-false _ _ f) n
 
 -- ---- with a point
 
@@ -145,24 +180,21 @@ unsigned b s h k = rw (number_or_name, ne_eqb b minus h, ne_eqb b plus k)
 
 -- ---- yes and no
 
-none-answered : {b : Bool} → InvalidBool ≡ Is b → ⊥
-none-answered e = let z : ◌≡◌ {A = ℕ} 0 1 = cc in omega arith
-
 -- the two words are what the reading of yes and no answers
-pub truth : (d : List ℕ) (b : Bool) → bool_read d ≡ Is b → kind_of d ≡ Truth
+pub truth : (d : List ℕ) (b : Bool) → bool_read d ≡ Ok b → kind_of d ≡ Truth
 unfolding bool_read kind_of
 truth d b e =
     by_bool (same d yes)
     (λ t. rw (kind_of, t))
     (λ f. by_bool (same d no)
     (λ t. rw (kind_of, f, t))
-    (λ g. absurd (none-answered (rw (bool_read, f, g) at e))))
+    (λ g. absurd (false≢true (ap is_ok (rw (bool_read, f, g) at e)))))
 
-pub no_truth : (d : List ℕ) → bool_read d ≡ InvalidBool → kind_of d ≡ number_or_name d
+pub no_truth : (d : List ℕ) (e : ScalarError) → bool_read d ≡ Err e → kind_of d ≡ number_or_name d
 unfolding bool_read kind_of
-no_truth d e =
+no_truth d e told =
     by_bool (same d yes)
-    (λ t. absurd (none-answered (sym (rw (bool_read, t) at e))))
+    (λ t. absurd (false≢true (sym (ap is_ok (rw (bool_read, t) at told)))))
     (λ f. by_bool (same d no)
-    (λ t. absurd (none-answered (sym (rw (bool_read, f, t) at e))))
+    (λ t. absurd (false≢true (sym (ap is_ok (rw (bool_read, f, t) at told)))))
     (λ g. rw (kind_of, f, g)))

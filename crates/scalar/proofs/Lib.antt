@@ -6,4 +6,3 @@ pub mod Wholes
 pub mod Floats
 pub mod Forms
 pub mod Powers
-pub mod Signs

@@ -1,6 +1,6 @@
 -- Laws of runs of digits: how a run goes on and ends, and how large the number is that it writes.
 -- Assumes nothing.
-use Rattle.std.proofs.Common.{◌≡◌, ℕ, suc, ◌+◌, ◌*◌, ◌/◌, ◌%◌, ◌^◌, ◌<◌, ◌≤◌, true, false, leb, List, [], ◌∷◌, length, get_or, drop, sym, ap, ◌∙◌, suc-le-suc, zero-le, le_trans, le_refl, lt_of_lt_of_le, mul-le-mul_right, pow-suc, div-add-mod', add-one, arith, length-drop, drop_of_length-le, drop-cons, leb-true}
+use Rattle.std.proofs.Common.{◌≡◌, ℕ, suc, ◌+◌, ◌*◌, ◌/◌, ◌%◌, ◌^◌, ◌<◌, ◌≤◌, true, false, leb, ltb, List, [], ◌∷◌, length, get_or, drop, sym, ap, ◌∙◌, suc-le-suc, zero-le, le_trans, le_refl, lt_of_lt_of_le, mul-le-mul_right, pow-suc, div-add-mod', add-one, arith, length-drop, drop_of_length-le, drop-cons, leb-true, le-leb, le-ltb}
 use mathlib.Core.Bool.{false≢true}
 use native.Mathlib.Nat.{pow-le-pow_right, add-mul-mod_self_right}
 use Rattle.data.proofs.Cases.{by_bool}
@@ -13,6 +13,14 @@ digit_bounds b e =
     by_bool (leb 48 b)
     (λ t. (leb-true 48 b t, leb-true b 57 (rw (is_digit, t) at e)))
     (λ f. absurd (false≢true (rw (is_digit, f) at e)))
+
+pub digit_in : (b : ℕ) → 48 ≤ b → b ≤ 57 → is_digit b ≡ true
+unfolding is_digit
+digit_in b low high = rw (is_digit, le-leb 48 b low, le-leb b 57 high)
+
+-- and any other byte does not
+pub digit_out : (b : ℕ) → (48 ≤ b → b ≤ 57 → ⊥) → is_digit b ≡ false
+digit_out b h = by_bool (is_digit b) (λ t. absurd (h (digit_bounds b t).0 (digit_bounds b t).1)) (λ f. f)
 
 -- a digit at a place begins the run from there
 pub run_on : (d : List ℕ) (i : ℕ) → i < length d → is_digit (get_or d i 0) ≡ true → digit_run (drop i d) ≡ get_or d i 0 ∷ digit_run (drop (i + 1) d)
@@ -110,3 +118,6 @@ overflow_cutoff = 20
 -- so they write no number past 64 bits
 pub short-number : (d : List ℕ) (at : ℕ) → length d < overflow_cutoff → value 0 (digit_run (drop at d)) ≤ most_u64
 short-number d at h = omega (arith, number-below (drop at d) 19 (rw length-drop (omega arith)))
+
+pub short_fits : (d : List ℕ) (at : ℕ) → length d < overflow_cutoff → ltb most_u64 (value 0 (digit_run (drop at d))) ≡ false
+short_fits d at h = le-ltb most_u64 _ (short-number d at h)

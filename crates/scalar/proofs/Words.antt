@@ -1,59 +1,35 @@
--- Laws of words: when bytes are one, and what the reading of yes and no makes of them.
+-- Laws of the two words: what the reading of yes and no makes of bytes, by their length and each of them.
 -- Assumes nothing.
-use Rattle.std.proofs.Common.{◌≡◌, ℕ, suc, true, false, eqb, List, [], ◌∷◌, length, get_or, refl, ap, arith, eq-eqb, ne_eqb}
+use Rattle.std.proofs.Common.{◌≡◌, ℕ, true, false, List, length, get_or, ap, rules}
+use Rattle.std.proofs.lemmas.Slice.Eq.{compares_Decides, text_from_reads}
+use Rattle.std.specs.Prelude.{Ok, Err}
 use Rattle.data.proofs.Cases.{by_bool}
+use Rattle.data.specs.Bytes.{letter_e, letter_n, letter_o, letter_s, letter_y}
 use Rattle.scalar.specs.Truth.{yes, no, same, bool_read}
-use Rattle.scalar.specs.declared.truth.BoolRead.TheVariants.{Is, InvalidBool}
+use Rattle.scalar.specs.declared.errors.ScalarError.TheVariants.{InvalidBool}
 
--- one byte alike, and the rest decides
-pub same-on : (a b : ℕ) (s t : List ℕ) → a ≡ b → same (a ∷ s) (b ∷ t) ≡ same s t
+-- runs of bytes that the definition calls the same are one
+one_run : (s t : List ℕ) → same s t ≡ true → s ≡ t
 unfolding same
-same-on a b s t e = rw (same, eq-eqb a b e)
+one_run s t = (compares_Decides same (search rules) s t).0
 
--- one byte apart, and the two are not the same
-pub same_off : (a b : ℕ) (s t : List ℕ) → (a ≡ b → ⊥) → same (a ∷ s) (b ∷ t) ≡ false
-unfolding same
-same_off a b s t h = rw (same, ne_eqb a b h)
-
--- nothing left on either side, and the two are the same
-pub same-done : same [] [] ≡ true
-unfolding same
-same-done = refl
-
--- bytes of another length are not the same
-pub not_same : (s t : List ℕ) → (length s ≡ length t → ⊥) → same s t ≡ false
-unfolding same
-not_same [] [] h = absurd (h refl)
-not_same [] (b ∷ t) h = refl
-not_same (a ∷ s) [] h = refl
-not_same (a ∷ s) (b ∷ t) h =
-    by_bool (eqb a b)
-    (λ e. rw (same, e) (not_same s t (λ k. h (ap suc k))))
-    (λ e. rw (same, e))
-
-pub read-yes : (d : List ℕ) → same d yes ≡ true → bool_read d ≡ Is true
+pub is_yes : (d : List ℕ) → length d ≡ 3 → get_or d 0 0 ≡ letter_y → get_or d 1 0 ≡ letter_e → get_or d 2 0 ≡ letter_s → bool_read d ≡ Ok true
 unfolding bool_read
-read-yes d e = rw (bool_read, e)
+is_yes d n y e s = ap bool_read (text_from_reads d yes n (y, (e, (s, tt))))
 
-pub read_no : (d : List ℕ) → same d yes ≡ false → same d no ≡ true → bool_read d ≡ Is false
+pub is_no : (d : List ℕ) → length d ≡ 2 → get_or d 0 0 ≡ letter_n → get_or d 1 0 ≡ letter_o → bool_read d ≡ Ok false
 unfolding bool_read
-read_no d e f = rw (bool_read, e, f)
+is_no d m n o = ap bool_read (text_from_reads d no m (n, (o, tt)))
 
-pub read_none : (d : List ℕ) → same d yes ≡ false → same d no ≡ false → bool_read d ≡ InvalidBool
+-- bytes that are neither are refused
+pub no_word : (d : List ℕ)
+    → (length d ≡ 3 → get_or d 0 0 ≡ letter_y → get_or d 1 0 ≡ letter_e → get_or d 2 0 ≡ letter_s → ⊥)
+    → (length d ≡ 2 → get_or d 0 0 ≡ letter_n → get_or d 1 0 ≡ letter_o → ⊥)
+    → bool_read d ≡ Err InvalidBool
 unfolding bool_read
-read_none d e f = rw (bool_read, e, f)
-
--- two bytes, one by one
-pub two_bytes : (d : List ℕ) → length d ≡ 2 → d ≡ get_or d 0 0 ∷ get_or d 1 0 ∷ []
-two_bytes [] e = absurd (omega arith)
-two_bytes (a ∷ []) e = absurd (omega arith)
-two_bytes (a ∷ b ∷ []) e = refl
-two_bytes (a ∷ b ∷ c ∷ d) e = absurd (omega arith)
-
--- three bytes, one by one
-pub three_bytes : (d : List ℕ) → length d ≡ 3 → d ≡ get_or d 0 0 ∷ get_or d 1 0 ∷ get_or d 2 0 ∷ []
-three_bytes [] e = absurd (omega arith)
-three_bytes (a ∷ []) e = absurd (omega arith)
-three_bytes (a ∷ b ∷ []) e = absurd (omega arith)
-three_bytes (a ∷ b ∷ c ∷ []) e = refl
-three_bytes (a ∷ b ∷ c ∷ x ∷ d) e = absurd (omega arith)
+no_word d not_yes not_no =
+    by_bool (same d yes)
+    (λ t. absurd (not_yes (ap length (one_run d yes t)) (ap (λ (x : List ℕ). get_or x 0 0) (one_run d yes t)) (ap (λ (x : List ℕ). get_or x 1 0) (one_run d yes t)) (ap (λ (x : List ℕ). get_or x 2 0) (one_run d yes t))))
+    (λ f. by_bool (same d no)
+    (λ t. absurd (not_no (ap length (one_run d no t)) (ap (λ (x : List ℕ). get_or x 0 0) (one_run d no t)) (ap (λ (x : List ℕ). get_or x 1 0) (one_run d no t))))
+    (λ g. rw (bool_read, f, g)))

@@ -1,12 +1,12 @@
 -- Decimals: what bytes say as an f64, bit for bit.
-use Rattle.std.specs.Prelude.{ℕ, ◌-◌, ◌%◌, ◌^◌, Bool, true, false, List, [], ◌∷◌, length, drop, pos, negsuc, ◌==◌, is_nan, nat_eq, nat_lt, to_bits, Float}
+use Rattle.std.specs.Prelude.{Result, Ok, Err, ℕ, ◌-◌, ◌%◌, ◌^◌, Bool, true, false, List, [], ◌∷◌, length, drop, pos, negsuc, ◌==◌, is_nan, nat_eq, nat_lt, to_bits, Float}
 use Rattle.std.specs.Float.{binary64}
 use Rattle.std.specs.Float.Ieee.{of_int, mul, div}
 use Rattle.data.specs.Bytes.{plus, minus, point, letter_f}
 use Rattle.scalar.specs.Digits.{is_digit, digit_run, value, most_u64}
 use Rattle.scalar.specs.Whole.{signed, most_i64}
-use Rattle.scalar.specs.declared.float.F64Read.TheVariants.{Is, AllDigits, Overflow, PrecisionLoss}
-use Rattle.scalar.specs.declared.float.F64Read.{F64Read}
+use Rattle.scalar.specs.declared.errors.ScalarError.TheVariants.{AllDigits, Overflow, PrecisionLoss}
+use Rattle.scalar.specs.declared.errors.ScalarError.{ScalarError}
 use Rattle.scalar.specs.declared.float.Tail.TheVariants.{End, Point, Other}
 use Rattle.scalar.specs.declared.float.Tail.{Tail}
 
@@ -33,17 +33,17 @@ tail_of [] = End
 tail_of (b ∷ d) = elim (b == point) [ true ↦ Point | false ↦ elim (b == letter_f) [ true ↦ after_f d | false ↦ Other ] ]
 
 -- a number above 2^53 - 1: the nearest f64, handed over as one that lost precision; refused where it is negative and above 2^63 - 1
-unfoldable pub lossy : Bool → ℕ → F64Read
-lossy false n = PrecisionLoss (of_int binary64 (pos n))
-lossy true n = elim (nat_lt most_i64 n) [ true ↦ Overflow | false ↦ PrecisionLoss (of_int binary64 (signed true n)) ]
+unfoldable pub lossy : Bool → ℕ → Result Float ScalarError
+lossy false n = Err (PrecisionLoss (of_int binary64 (pos n)))
+lossy true n = elim (nat_lt most_i64 n) [ true ↦ Err Overflow | false ↦ Err (PrecisionLoss (of_int binary64 (signed true n))) ]
 
 -- a number without a point: above 2^64 - 1 is refused, above 2^53 - 1 loses precision, and any other is an f64
-unfoldable pub unpointed : Bool → ℕ → F64Read
+unfoldable pub unpointed : Bool → ℕ → Result Float ScalarError
 unfolding lossy
 unpointed negative n =
     elim (nat_lt most_u64 n) [
-      | true ↦ Overflow
-      | false ↦ elim (nat_lt most_safe n) [ true ↦ lossy negative n | false ↦ Is (of_int binary64 (signed negative n)) ]
+      | true ↦ Err Overflow
+      | false ↦ elim (nat_lt most_safe n) [ true ↦ lossy negative n | false ↦ Ok (of_int binary64 (signed negative n)) ]
     ]
 
 -- the sign as a factor
@@ -57,30 +57,30 @@ unfolding factor
 divided negative total places = mul binary64 (factor negative) (div binary64 (of_int binary64 (pos total)) (of_int binary64 (pos (10 ^ places))))
 
 -- a total with so many fraction digits: over 22 are refused
-unfoldable pub quotient : Bool → ℕ → ℕ → F64Read
+unfoldable pub quotient : Bool → ℕ → ℕ → Result Float ScalarError
 unfolding divided
-quotient negative total places = elim (nat_lt most_places places) [ true ↦ Overflow | false ↦ Is (divided negative total places) ]
+quotient negative total places = elim (nat_lt most_places places) [ true ↦ Err Overflow | false ↦ Ok (divided negative total places) ]
 
 -- a number with a point: refused where the gathered whole part is carried through the fraction past 2^64 - 1
-unfoldable pub pointed : Bool → ℕ → List ℕ → F64Read
+unfoldable pub pointed : Bool → ℕ → List ℕ → Result Float ScalarError
 unfolding value quotient
 pointed negative whole fraction =
-    elim (nat_lt most_u64 (value whole fraction)) [ true ↦ Overflow | false ↦ quotient negative (value whole fraction) (length fraction) ]
+    elim (nat_lt most_u64 (value whole fraction)) [ true ↦ Err Overflow | false ↦ quotient negative (value whole fraction) (length fraction) ]
 
 -- after a point: digits and at most a closing `f`
-unfoldable pub after_point : Bool → ℕ → List ℕ → F64Read
+unfoldable pub after_point : Bool → ℕ → List ℕ → Result Float ScalarError
 unfolding digit_run tail_of pointed
 after_point negative whole s =
-    elim (tail_of (rest s)) [ End ↦ pointed negative whole (digit_run s) | Point ↦ AllDigits | Other ↦ AllDigits ]
+    elim (tail_of (rest s)) [ End ↦ pointed negative whole (digit_run s) | Point ↦ Err AllDigits | Other ↦ Err AllDigits ]
 
 -- after the sign: digits, gathered modulo 2^64 where a point follows, and at most a closing `f`
-unfoldable pub f64_digits : Bool → List ℕ → F64Read
+unfoldable pub f64_digits : Bool → List ℕ → Result Float ScalarError
 unfolding digit_run value tail_of unpointed after_point
 f64_digits negative s =
     elim (tail_of (rest s)) [
       | End ↦ unpointed negative (value 0 (digit_run s))
       | Point ↦ after_point negative (value 0 (digit_run s) % 2 ^ 64) (drop 1 (rest s))
-      | Other ↦ AllDigits
+      | Other ↦ Err AllDigits
     ]
 
 -- whether a byte begins a number that has no sign
@@ -89,15 +89,15 @@ unfolding is_digit
 begins b = elim (is_digit b) [ true ↦ true | false ↦ nat_eq b point ]
 
 -- the first byte must be a sign, a digit or a point; nothing at all is refused
-unfoldable pub f64_read : List ℕ → F64Read
+unfoldable pub f64_read : List ℕ → Result Float ScalarError
 unfolding f64_digits begins
-f64_read [] = AllDigits
+f64_read [] = Err AllDigits
 f64_read (b ∷ d) =
     elim (b == minus) [
       | true ↦ f64_digits true d
       | false ↦ elim (b == plus) [
         | true ↦ f64_digits false d
-        | false ↦ elim (begins b) [ true ↦ f64_digits false (b ∷ d) | false ↦ AllDigits ]
+        | false ↦ elim (begins b) [ true ↦ f64_digits false (b ∷ d) | false ↦ Err AllDigits ]
       ]
     ]
 

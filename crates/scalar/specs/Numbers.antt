@@ -1,16 +1,10 @@
--- Document 01's numbers: of each refusal, 0 where a reading answers, of each kind, and the value of each answer.
-use Rattle.std.specs.Prelude.{ℕ, Bool, false, ℤ, pos, Float}
+-- Document 01's numbers: of each refusal, 0 where a reading answers, of each kind, and the value of a decimal's answer.
+use Rattle.std.specs.Prelude.{Result, Ok, Err, ℕ, false, pos, Float}
 use Rattle.std.specs.Float.{fin}
-use Rattle.scalar.specs.declared.float.F64Read.TheVariants as F64
-use Rattle.scalar.specs.declared.float.F64Read.{F64Read}
+use Rattle.scalar.specs.declared.errors.ScalarError.TheVariants.{AllDigits, Overflow, InvalidBool, PrecisionLoss}
+use Rattle.scalar.specs.declared.errors.ScalarError.{ScalarError}
 use Rattle.scalar.specs.declared.kinds.ReadingKind.TheVariants as Kind
 use Rattle.scalar.specs.declared.kinds.ReadingKind.{ReadingKind}
-use Rattle.scalar.specs.declared.truth.BoolRead.TheVariants as Truth
-use Rattle.scalar.specs.declared.truth.BoolRead.{BoolRead}
-use Rattle.scalar.specs.declared.whole.I64Read.TheVariants as I64
-use Rattle.scalar.specs.declared.whole.I64Read.{I64Read}
-use Rattle.scalar.specs.declared.whole.U64Read.TheVariants as U64
-use Rattle.scalar.specs.declared.whole.U64Read.{U64Read}
 
 -- the number of an answer that is no refusal
 abbrev pub answered : ℕ
@@ -32,53 +26,29 @@ invalid_bool = 23
 abbrev pub precision_loss : ℕ
 precision_loss = 24
 
--- the refusal of a truth
-abbrev pub bool_refusal_of : BoolRead → ℕ
-bool_refusal_of (Truth.Is b) = answered
-bool_refusal_of Truth.InvalidBool = invalid_bool
+-- the number of a refusal
+abbrev pub error_number_of : ScalarError → ℕ
+error_number_of AllDigits = all_digits
+error_number_of Overflow = overflow
+error_number_of InvalidBool = invalid_bool
+error_number_of (PrecisionLoss x) = precision_loss
 
--- and its value
-abbrev pub bool_value_of : BoolRead → Bool
-bool_value_of (Truth.Is b) = b
-bool_value_of Truth.InvalidBool = false
+-- the number of what is answered, by that of each refusal
+abbrev pub refusal_of : {A E : Type 0} → (E → ℕ) → Result A E → ℕ
+refusal_of number (Ok a) = answered
+refusal_of number (Err e) = number e
 
--- the refusal of a number without a minus
-abbrev pub u64_refusal_of : U64Read → ℕ
-u64_refusal_of (U64.Is n) = answered
-u64_refusal_of U64.AllDigits = all_digits
-u64_refusal_of U64.Overflow = overflow
+-- so of what a reading answered
+abbrev pub scalar_refusal : {A : Type 0} → Result A ScalarError → ℕ
+scalar_refusal r = refusal_of error_number_of r
 
--- and its value
-abbrev pub u64_value_of : U64Read → ℕ
-u64_value_of (U64.Is n) = n
-u64_value_of U64.AllDigits = 0
-u64_value_of U64.Overflow = 0
-
--- the refusal of a number with a sign
-abbrev pub i64_refusal_of : I64Read → ℕ
-i64_refusal_of (I64.Is i) = answered
-i64_refusal_of I64.AllDigits = all_digits
-i64_refusal_of I64.Overflow = overflow
-
--- and its value
-abbrev pub i64_value_of : I64Read → ℤ
-i64_value_of (I64.Is i) = i
-i64_value_of I64.AllDigits = pos 0
-i64_value_of I64.Overflow = pos 0
-
--- the refusal of a decimal
-abbrev pub f64_refusal_of : F64Read → ℕ
-f64_refusal_of (F64.Is x) = answered
-f64_refusal_of F64.AllDigits = all_digits
-f64_refusal_of F64.Overflow = overflow
-f64_refusal_of (F64.PrecisionLoss x) = precision_loss
-
--- and its value, which a loss of precision carries too
-abbrev pub f64_value_of : F64Read → Float
-f64_value_of (F64.Is x) = x
-f64_value_of F64.AllDigits = fin false 0 (pos 0)
-f64_value_of F64.Overflow = fin false 0 (pos 0)
-f64_value_of (F64.PrecisionLoss x) = x
+-- the value of a decimal, which a loss of precision carries too
+abbrev pub f64_value_of : Result Float ScalarError → Float
+f64_value_of (Ok x) = x
+f64_value_of (Err AllDigits) = fin false 0 (pos 0)
+f64_value_of (Err Overflow) = fin false 0 (pos 0)
+f64_value_of (Err InvalidBool) = fin false 0 (pos 0)
+f64_value_of (Err (PrecisionLoss x)) = x
 
 -- the numbers of the kinds
 abbrev pub kind_bool : ℕ

@@ -1,8 +1,8 @@
 -- Yes or no: the two words, and what any bytes say.
-use Rattle.std.specs.Prelude.{ℕ, Bool, true, false, List, [], ◌∷◌, ◌==◌}
+use Rattle.std.specs.Prelude.{Result, Ok, Err, ℕ, Bool, true, false, List, [], ◌∷◌, ◌==◌}
 use Rattle.data.specs.Bytes.{letter_e, letter_n, letter_o, letter_s, letter_y}
-use Rattle.scalar.specs.declared.truth.BoolRead.TheVariants.{Is, InvalidBool}
-use Rattle.scalar.specs.declared.truth.BoolRead.{BoolRead}
+use Rattle.scalar.specs.declared.errors.ScalarError.TheVariants.{InvalidBool}
+use Rattle.scalar.specs.declared.errors.ScalarError.{ScalarError}
 
 -- the word `yes`
 abbrev pub yes : List ℕ
@@ -20,6 +20,6 @@ same (a ∷ s) [] = false
 same (a ∷ s) (b ∷ t) = elim (a == b) [ true ↦ same s t | false ↦ false ]
 
 -- `yes` is true and `no` is false; anything else is refused
-unfoldable pub bool_read : List ℕ → BoolRead
+unfoldable pub bool_read : List ℕ → Result Bool ScalarError
 unfolding same
-bool_read d = elim (same d yes) [ true ↦ Is true | false ↦ elim (same d no) [ true ↦ Is false | false ↦ InvalidBool ] ]
+bool_read d = elim (same d yes) [ true ↦ Ok true | false ↦ elim (same d no) [ true ↦ Ok false | false ↦ Err InvalidBool ] ]

@@ -1,13 +1,9 @@
 -- Whole numbers: what bytes say as a u64, and as an i64.
-use Rattle.std.specs.Prelude.{ℕ, ◌+◌, ◌-◌, ◌^◌, Bool, true, false, List, [], ◌∷◌, length, drop, ℤ, pos, neg_ℤ, ◌==◌, nat_lt}
+use Rattle.std.specs.Prelude.{Result, Ok, Err, ℕ, ◌+◌, ◌-◌, ◌^◌, Bool, true, false, List, [], ◌∷◌, length, drop, ℤ, pos, neg_ℤ, ◌==◌, nat_lt}
 use Rattle.data.specs.Bytes.{plus, minus}
 use Rattle.scalar.specs.Digits.{is_digit, digit_run, value, most_u64}
-use Rattle.scalar.specs.declared.whole.I64Part.TheVariants as Part
-use Rattle.scalar.specs.declared.whole.I64Part.{I64Part}
-use Rattle.scalar.specs.declared.whole.I64Read.TheVariants as I64
-use Rattle.scalar.specs.declared.whole.I64Read.{I64Read}
-use Rattle.scalar.specs.declared.whole.U64Read.TheVariants as U64
-use Rattle.scalar.specs.declared.whole.U64Read.{U64Read}
+use Rattle.scalar.specs.declared.errors.ScalarError.TheVariants.{AllDigits, Overflow}
+use Rattle.scalar.specs.declared.errors.ScalarError.{ScalarError}
 
 -- the most that 63 bits hold
 abbrev pub most_i64 : ℕ
@@ -18,18 +14,18 @@ abbrev pub has_tail : List ℕ → Bool
 has_tail s = nat_lt (length (digit_run s)) (length s)
 
 -- digits alone: any other byte is refused first, and a number above 2^64 - 1 next
-unfoldable pub u64_digits : List ℕ → U64Read
+unfoldable pub u64_digits : List ℕ → Result ℕ ScalarError
 unfolding digit_run value
 u64_digits s =
     elim (has_tail s) [
-      | true ↦ U64.AllDigits
-      | false ↦ elim (nat_lt most_u64 (value 0 (digit_run s))) [ true ↦ U64.Overflow | false ↦ U64.Is (value 0 (digit_run s)) ]
+      | true ↦ Err AllDigits
+      | false ↦ elim (nat_lt most_u64 (value 0 (digit_run s))) [ true ↦ Err Overflow | false ↦ Ok (value 0 (digit_run s)) ]
     ]
 
 -- an optional `+`, then digits; nothing at all is refused
-unfoldable pub u64_read : List ℕ → U64Read
+unfoldable pub u64_read : List ℕ → Result ℕ ScalarError
 unfolding u64_digits
-u64_read [] = U64.AllDigits
+u64_read [] = Err AllDigits
 u64_read (b ∷ d) = elim (b == plus) [ true ↦ u64_digits d | false ↦ u64_digits (b ∷ d) ]
 
 -- a number under its sign: there is one zero
@@ -38,12 +34,12 @@ signed true n = neg_ℤ (pos n)
 signed false n = pos n
 
 -- digits after a sign of so many bytes: a number above 2^63 - 1 is refused; any other is answered with the place after its digits
-unfoldable pub i64_digits : Bool → ℕ → List ℕ → I64Part
+unfoldable pub i64_digits : Bool → ℕ → List ℕ → Result (ℤ × ℕ) ScalarError
 unfolding digit_run value
 i64_digits negative sign s =
     elim (nat_lt most_i64 (value 0 (digit_run s))) [
-      | true ↦ Part.Overflow
-      | false ↦ Part.Is (signed negative (value 0 (digit_run s))) (sign + length (digit_run s))
+      | true ↦ Err Overflow
+      | false ↦ Ok (signed negative (value 0 (digit_run s)), sign + length (digit_run s))
     ]
 
 -- whether a number may begin with a byte: a sign or a digit
@@ -55,32 +51,30 @@ abbrev pub sign_width : ℕ → ℕ
 sign_width b = elim (b == minus) [ true ↦ 1 | false ↦ elim (b == plus) [ true ↦ 1 | false ↦ 0 ] ]
 
 -- an optional sign, then digits, with whatever stands after them left over; any other first byte is refused
-unfoldable pub i64_part : List ℕ → I64Part
+unfoldable pub i64_part : List ℕ → Result (ℤ × ℕ) ScalarError
 unfolding is_digit i64_digits
-i64_part [] = Part.AllDigits
+i64_part [] = Err AllDigits
 i64_part (b ∷ d) =
     elim (b == minus) [
       | true ↦ i64_digits true 1 d
       | false ↦ elim (b == plus) [
         | true ↦ i64_digits false 1 d
-        | false ↦ elim (is_digit b) [ true ↦ i64_digits false 0 (b ∷ d) | false ↦ Part.AllDigits ]
+        | false ↦ elim (is_digit b) [ true ↦ i64_digits false 0 (b ∷ d) | false ↦ Err AllDigits ]
       ]
     ]
 
 -- of such a part the number alone, or the refusal
-abbrev pub number_of : I64Part → I64Read
-number_of (Part.Is i rest) = I64.Is i
-number_of Part.AllDigits = I64.AllDigits
-number_of Part.Overflow = I64.Overflow
+abbrev pub number_of : Result (ℤ × ℕ) ScalarError → Result ℤ ScalarError
+number_of (Ok (i, rest)) = Ok i
+number_of (Err e) = Err e
 
 -- and what is left over of the bytes, nothing after a refusal
-abbrev pub left_of : List ℕ → I64Part → List ℕ
-left_of d (Part.Is i rest) = drop rest d
-left_of d Part.AllDigits = []
-left_of d Part.Overflow = []
+abbrev pub left_of : List ℕ → Result (ℤ × ℕ) ScalarError → List ℕ
+left_of d (Ok (i, rest)) = drop rest d
+left_of d (Err e) = []
 
 -- the number that bytes begin with (request W7)
-unfoldable pub i64_number : List ℕ → I64Read
+unfoldable pub i64_number : List ℕ → Result ℤ ScalarError
 unfolding i64_part
 i64_number d = number_of (i64_part d)
 
@@ -94,12 +88,11 @@ abbrev pub place_of_rest : ℕ × ℕ → List ℕ → List ℕ → ℕ × ℕ
 place_of_rest start d rest = (start.0, start.1 + (length d - length rest))
 
 -- a part of so many bytes that leaves something over is refused
-abbrev pub whole_only : ℕ → I64Part → I64Read
-whole_only n (Part.Is i rest) = elim (nat_lt rest n) [ true ↦ I64.AllDigits | false ↦ I64.Is i ]
-whole_only n Part.AllDigits = I64.AllDigits
-whole_only n Part.Overflow = I64.Overflow
+abbrev pub whole_only : ℕ → Result (ℤ × ℕ) ScalarError → Result ℤ ScalarError
+whole_only n (Ok (i, rest)) = elim (nat_lt rest n) [ true ↦ Err AllDigits | false ↦ Ok i ]
+whole_only n (Err e) = Err e
 
 -- an optional sign and digits, and nothing after them
-unfoldable pub i64_read : List ℕ → I64Read
+unfoldable pub i64_read : List ℕ → Result ℤ ScalarError
 unfolding i64_part
 i64_read d = whole_only (length d) (i64_part d)

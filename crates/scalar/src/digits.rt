@@ -21,10 +21,11 @@ pub struct Digits {
 }
 
 // Whether a byte is a decimal digit.
-pub(crate) fn is_digit(b: u8) -> bool
+#[tactic(auto, using(crate::proofs::Runs::digit_in, crate::proofs::Runs::digit_out))]
+fn is_digit(b: u8) -> bool
     ensures { result ≡ is_digit b }
 {
-    if b'0' <= b { b <= b'9' } else { false }
+    matches!(b, b'0'..=b'9')
 }
 
 // Ten times a number, modulo 2^64: eight times and twice, which shifts cannot overflow.
@@ -47,17 +48,17 @@ pub(crate) fn gather(d: &[u8], at: usize, start: u64) -> Gathered
     ensures { result ≡ gathered d.now at start }
 {
     let mut total = start;
-    let mut i = at;
-    while i < d.len() {
+    for i in at..d.len() {
         let b = d[i];
-        if is_digit(b) {
-            total = carried(total, b);
-            i += 1;
-        } else {
+        if !is_digit(b) {
             return Gathered { total, at: i };
         }
+        total = carried(total, b);
     }
-    Gathered { total, at: i }
+    Gathered {
+        total,
+        at: at.max(d.len()),
+    }
 }
 
 // Whether the digits from a place on carry a total past what 64 bits hold. Only long inputs pay for
@@ -66,8 +67,7 @@ pub(crate) fn overflows(d: &[u8], at: usize, start: u64) -> bool
     ensures { result ≡ nat_lt most_u64 (value start (digit_run (drop at d.now))) }
 {
     let mut total = start;
-    let mut i = at;
-    while i < d.len() {
+    for i in at..d.len() {
         let b = d[i];
         if !is_digit(b) {
             return false;
@@ -77,20 +77,16 @@ pub(crate) fn overflows(d: &[u8], at: usize, start: u64) -> bool
             return true;
         }
         total = total * 10 + digit;
-        i += 1;
     }
     false
 }
 
 // Whether the digits from a place on write a number past what 64 bits hold.
+#[tactic(auto, using(crate::proofs::Runs::short_fits))]
 pub(crate) fn exceeds(d: &[u8], at: usize) -> bool
     ensures { result ≡ nat_lt most_u64 (value 0 (digit_run (drop at d.now))) }
 {
-    if d.len() < OVERFLOW_CUTOFF {
-        false
-    } else {
-        overflows(d, at, 0)
-    }
+    d.len() >= OVERFLOW_CUTOFF && overflows(d, at, 0)
 }
 
 // The digits that stand at a place of some bytes, none of them where another byte or none stands there.
@@ -98,14 +94,9 @@ pub fn digits_at(d: &[u8], at: usize) -> Digits
     ensures { result ≡ digits_in d.now at }
 {
     let run = gather(d, at, 0);
-    if exceeds(d, at) {
-        return Digits {
-            number: u64::MAX,
-            end: run.at,
-        };
-    }
+    let number = if exceeds(d, at) { u64::MAX } else { run.total };
     Digits {
-        number: run.total,
+        number,
         end: run.at,
     }
 }

@@ -4,9 +4,10 @@ ghost use Rattle.std.specs.Float.{binary64};
 ghost use Rattle.std.specs.Float.Ieee.{of_int};
 ghost use Rattle.scalar.specs.Digits.{digit_run, value, gathered, most_u64};
 ghost use Rattle.scalar.specs.Float.{most_places, tail_of, lossy as lossy-of, unpointed as unpointed-of, factor as factor-of, divided as divided-of};
-ghost use Rattle.scalar.specs.Float.{quotient as quotient-of, after_point, f64_digits, begins as begins-number, f64_read, pattern_of};
+ghost use Rattle.scalar.specs.Float.{quotient as quotient-of, after_point, f64_digits, f64_read, pattern_of};
 
-use crate::digits::{Gathered, OVERFLOW_CUTOFF, exceeds, gather, is_digit, overflows};
+use crate::digits::{Gathered, OVERFLOW_CUTOFF, exceeds, gather, overflows};
+use crate::errors::ScalarError;
 use crate::whole::{MOST_I64, under_sign};
 
 // Up to this one a power of ten is an f64 of its own.
@@ -24,15 +25,6 @@ const SAFE_INTEGER: u64 = 0x1f_ffff_ffff_ffff;
 // The pattern that stands for every NaN: a quiet one.
 const NAN_PATTERN: u64 = 0x7ff8_0000_0000_0000;
 
-// What bytes say as an f64. A number that an f64 cannot hold comes with the nearest that can.
-#[derive(Clone, Copy)]
-pub enum F64Read {
-    Is(f64),
-    AllDigits,
-    Overflow,
-    PrecisionLoss(f64),
-}
-
 // What stands after a run of digits: the end or a closing `f`, a point, or anything else.
 #[derive(Clone, Copy)]
 pub enum Tail {
@@ -42,35 +34,20 @@ pub enum Tail {
 }
 
 // Reads a sign, digits, a point and a closing `f`.
-pub fn to_f64(d: &[u8]) -> F64Read
+#[tactic(auto, using(crate::proofs::Floats::read_minus, crate::proofs::Floats::read_plus, crate::proofs::Floats::read_digit, crate::proofs::Floats::read_point, crate::proofs::Floats::read_other))]
+pub fn to_f64(d: &[u8]) -> Result<f64, ScalarError>
     ensures { result ≡ f64_read d.now }
 {
-    if d.len() == 0 {
-        return F64Read::AllDigits;
+    match d {
+        [b'-', ..] => f64_digits(d, 1, true),
+        [b'+', ..] => f64_digits(d, 1, false),
+        [b'0'..=b'9' | b'.', ..] => f64_digits(d, 0, false),
+        _ => Err(ScalarError::AllDigits),
     }
-    let b = d[0];
-    if b == b'-' {
-        return f64_digits(d, 1, true);
-    }
-    if b == b'+' {
-        return f64_digits(d, 1, false);
-    }
-    if begins(b) {
-        f64_digits(d, 0, false)
-    } else {
-        F64Read::AllDigits
-    }
-}
-
-// Whether a byte begins a number that has no sign.
-fn begins(b: u8) -> bool
-    ensures { result ≡ begins-number b }
-{
-    if is_digit(b) { true } else { b == b'.' }
 }
 
 // Reads what stands after a sign of `sign` bytes.
-fn f64_digits(d: &[u8], sign: usize, negative: bool) -> F64Read
+fn f64_digits(d: &[u8], sign: usize, negative: bool) -> Result<f64, ScalarError>
     ensures { result ≡ f64_digits negative (drop sign d.now) }
 {
     let whole = gather(d, sign, 0);
@@ -78,7 +55,7 @@ fn f64_digits(d: &[u8], sign: usize, negative: bool) -> F64Read
     match tail_at(d, at) {
         Tail::End => unpointed(d, sign, negative, whole),
         Tail::Point => pointed(d, sign, negative, whole),
-        Tail::Other => F64Read::AllDigits,
+        Tail::Other => Err(ScalarError::AllDigits),
     }
 }
 
@@ -105,37 +82,35 @@ pub(crate) fn tail_at(d: &[u8], at: usize) -> Tail
 }
 
 // A number without a point, from its gathered digits.
-fn unpointed(d: &[u8], sign: usize, negative: bool, whole: Gathered) -> F64Read
+fn unpointed(d: &[u8], sign: usize, negative: bool, whole: Gathered) -> Result<f64, ScalarError>
     requires { whole ≡ gathered d.now sign 0 }
     ensures { result ≡ unpointed-of negative (value 0 (digit_run (drop sign d.now))) }
 {
     if exceeds(d, sign) {
-        return F64Read::Overflow;
+        return Err(ScalarError::Overflow);
     }
     let total = whole.total;
     if total > SAFE_INTEGER {
         return lossy(negative, total);
     }
-    F64Read::Is(std::num::nearest_i64_to_f64(under_sign(negative, total)))
+    Ok(std::num::nearest_i64_to_f64(under_sign(negative, total)))
 }
 
 // A number above SAFE_INTEGER. A negative one goes by way of an i64, which may not hold it.
-fn lossy(negative: bool, total: u64) -> F64Read
+fn lossy(negative: bool, total: u64) -> Result<f64, ScalarError>
     ensures { result ≡ lossy-of negative total }
 {
-    if negative {
-        if total > MOST_I64 {
-            F64Read::Overflow
-        } else {
-            F64Read::PrecisionLoss(std::num::nearest_i64_to_f64(under_sign(true, total)))
-        }
-    } else {
-        F64Read::PrecisionLoss(std::num::nearest_u64_to_f64(total))
+    if !negative {
+        return Err(ScalarError::PrecisionLoss(std::num::nearest_u64_to_f64(total)));
     }
+    if total > MOST_I64 {
+        return Err(ScalarError::Overflow);
+    }
+    Err(ScalarError::PrecisionLoss(std::num::nearest_i64_to_f64(under_sign(true, total))))
 }
 
 // A number with a point, from its gathered whole part on.
-fn pointed(d: &[u8], sign: usize, negative: bool, whole: Gathered) -> F64Read
+fn pointed(d: &[u8], sign: usize, negative: bool, whole: Gathered) -> Result<f64, ScalarError>
     requires { (whole ≡ gathered d.now sign 0) × (whole.at < length d.now) }
     ensures { result ≡ after_point negative whole.total (drop (whole.at + 1) d.now) }
 {
@@ -145,37 +120,32 @@ fn pointed(d: &[u8], sign: usize, negative: bool, whole: Gathered) -> F64Read
     match tail_at(d, end) {
         Tail::End => {
             if carries_past(d, sign, whole) {
-                F64Read::Overflow
+                Err(ScalarError::Overflow)
             } else {
                 quotient(negative, all.total, end - at)
             }
         }
-        Tail::Point => F64Read::AllDigits,
-        Tail::Other => F64Read::AllDigits,
+        Tail::Point | Tail::Other => Err(ScalarError::AllDigits),
     }
 }
 
 // Whether the fraction carries the gathered whole part past what 64 bits hold.
+#[tactic(auto, using(crate::proofs::Floats::short_carried))]
 pub(crate) fn carries_past(d: &[u8], sign: usize, whole: Gathered) -> bool
     requires { (whole ≡ gathered d.now sign 0) × (whole.at < length d.now) }
     ensures { result ≡ nat_lt most_u64 (value whole.total (digit_run (drop (whole.at + 1) d.now))) }
 {
-    if d.len() < OVERFLOW_CUTOFF {
-        false
-    } else {
-        overflows(d, whole.at + 1, whole.total)
-    }
+    d.len() >= OVERFLOW_CUTOFF && overflows(d, whole.at + 1, whole.total)
 }
 
 // A total with `places` fraction digits.
-fn quotient(negative: bool, total: u64, places: usize) -> F64Read
+fn quotient(negative: bool, total: u64, places: usize) -> Result<f64, ScalarError>
     ensures { result ≡ quotient-of negative total places }
 {
     if places > MOST_PLACES {
-        F64Read::Overflow
-    } else {
-        F64Read::Is(divided(negative, total, places))
+        return Err(ScalarError::Overflow);
     }
+    Ok(divided(negative, total, places))
 }
 
 // A total over the power of ten of its places, under its sign. The total is rounded once, the power

@@ -3,19 +3,18 @@
 #![tactic(auto)]
 
 mod digits;
+pub mod errors;
 mod float;
 mod kinds;
-mod numbers;
 mod truth;
 mod whole;
 
 pub use digits::{Digits, digits_at};
-pub use float::{F64Read, pattern, to_f64};
-pub use kinds::{ReadingKind, kind};
-pub use numbers::{
-    ALL_DIGITS, ANSWERED, INVALID_BOOL, KIND_BOOL, KIND_DECIMAL, KIND_NAME, KIND_WHOLE, OVERFLOW,
-    PRECISION_LOSS, bool_refusal, bool_value, f64_refusal, f64_value, i64_refusal, i64_value,
-    kind_number, u64_refusal, u64_value,
+pub use errors::{
+    ALL_DIGITS, ANSWERED, INVALID_BOOL, Numbered, OVERFLOW, PRECISION_LOSS, ScalarError, f64_value,
+    refusal,
 };
-pub use truth::{BoolRead, to_bool};
-pub use whole::{I64Read, U64Read, magnitude, to_i64, to_i64_rest, to_i64_t, to_u64};
+pub use float::{pattern, to_f64};
+pub use kinds::{ReadingKind, kind, kind_number};
+pub use truth::to_bool;
+pub use whole::{magnitude, to_i64, to_i64_rest, to_i64_t, to_u64};

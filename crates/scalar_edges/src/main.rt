@@ -5,7 +5,7 @@
 ghost use Rattle.std.specs.Prelude.{◌≤◌, length};
 
 use input::read_full;
-use scalar::{BoolRead, F64Read, I64Read, U64Read};
+use scalar::{Numbered, ScalarError};
 use std::io;
 
 // How many bytes of the text count.
@@ -58,53 +58,36 @@ fn write_readings(rt: &impl Print, d: &[u8]) -> io::Result<()> {
 }
 
 // A truth is 1 or 0.
-fn write_bool(rt: &impl Print, r: BoolRead) -> io::Result<()> {
-    let refusal = scalar::bool_refusal(r);
-    if refusal != scalar::ANSWERED {
-        return print!(rt; "{refusal}");
-    }
-    if scalar::bool_value(r) {
-        print!(rt; "=1")
-    } else {
-        print!(rt; "=0")
+fn write_bool(rt: &impl Print, r: Result<bool, ScalarError>) -> io::Result<()> {
+    match r {
+        Ok(yes) => print!(rt; "={}", yes as u8),
+        Err(e) => print!(rt; "{}", e.number()),
     }
 }
 
 // A number without a minus, in decimal.
-fn write_u64(rt: &impl Print, r: U64Read) -> io::Result<()> {
-    let refusal = scalar::u64_refusal(r);
-    if refusal != scalar::ANSWERED {
-        return print!(rt; "{refusal}");
+fn write_u64(rt: &impl Print, r: Result<u64, ScalarError>) -> io::Result<()> {
+    match r {
+        Ok(n) => print!(rt; "={n}"),
+        Err(e) => print!(rt; "{}", e.number()),
     }
-    print!(rt; "={}", scalar::u64_value(r))
 }
 
 // A number with a sign, in decimal.
-fn write_i64(rt: &impl Print, r: I64Read) -> io::Result<()> {
-    let refusal = scalar::i64_refusal(r);
-    if refusal != scalar::ANSWERED {
-        return print!(rt; "{refusal}");
+fn write_i64(rt: &impl Print, r: Result<i64, ScalarError>) -> io::Result<()> {
+    match r {
+        Ok(n) => print!(rt; "={n}"),
+        Err(e) => print!(rt; "{}", e.number()),
     }
-    let n = scalar::i64_value(r);
-    if n < 0 {
-        print!(rt; "=-")?;
-    } else {
-        print!(rt; "=")?;
-    }
-    print!(rt; "{}", scalar::magnitude(n))
 }
 
 // An f64 is its bits in hex; a loss of precision is its number and the bits that it carries.
-fn write_f64(rt: &impl Print, r: F64Read) -> io::Result<()> {
-    let refusal = scalar::f64_refusal(r);
-    if refusal == scalar::ANSWERED {
-        print!(rt; "=")?;
-    } else {
-        print!(rt; "{refusal}")?;
-        if refusal != scalar::PRECISION_LOSS {
-            return Ok(());
+fn write_f64(rt: &impl Print, r: Result<f64, ScalarError>) -> io::Result<()> {
+    match r {
+        Ok(x) => print!(rt; "={:016x}", scalar::pattern(x)),
+        Err(ScalarError::PrecisionLoss(x)) => {
+            print!(rt; "{}:{:016x}", scalar::PRECISION_LOSS, scalar::pattern(x))
         }
-        print!(rt; ":")?;
+        Err(e) => print!(rt; "{}", e.number()),
     }
-    print!(rt; "{:016x}", scalar::pattern(scalar::f64_value(r)))
 }

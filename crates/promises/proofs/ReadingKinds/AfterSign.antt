@@ -16,35 +16,36 @@ use Rattle.scalar.specs.Whole.{signed, most_i64, has_tail, i64_digits, i64_part,
 use Rattle.scalar.specs.declared.float.Tail.TheVariants.{End, Point, Other}
 use Rattle.scalar.specs.declared.kinds.ReadingKind.TheVariants as Kind
 use Rattle.scalar.specs.declared.kinds.ReadingKind.{ReadingKind}
-use Rattle.scalar.specs.declared.whole.I64Read.TheVariants as I64
-use Rattle.scalar.specs.declared.whole.I64Read.{I64Read}
+use Rattle.std.specs.Prelude.{ℤ, Result, Ok, Err}
+use Rattle.scalar.specs.declared.errors.ScalarError.TheVariants.{AllDigits, Overflow}
+use Rattle.scalar.specs.declared.errors.ScalarError.{ScalarError}
 use Rattle.scalar.proofs.Floats.{unpointed-past, unpointed-lossy, lossy-plain, lossy-past, quotient-past, quotient_is}
 use Rattle.scalar.proofs.Floats.{pointed-past as f64-past, pointed-is as f64-is}
 use Rattle.scalar.proofs.Floats.{after_point-end, after_point-point, after_point-other, digits_end, digits-point, digits-other}
 use Rattle.scalar.proofs.Forms.{size-whole, size-negative, size-decimal, size-past, digits-none, digits-some, unpointed_tail, unpointed-digits}
 use Rattle.scalar.proofs.Forms.{pointed-none, pointed_long, pointed-past, pointed-is, point-end, point-point, point-other, sign-end, sign-point, sign-other}
-use Rattle.scalar.proofs.Wholes.{i64-past, i64-is, read_tail, read_is, read_past}
+use Rattle.scalar.proofs.Wholes.{i64-past, i64-is, read_tail, read_is, read_refused}
 use Rattle.promises.specs.ReadingKinds.{kind_by_f64, kind_by_i64, has_digit, bare_f}
 use Rattle.promises.proofs.ReadingKinds.Tails.{by_tail, tail_number, untailed_end, tailed, plain, closed, pointed-bare, ended-digit, pointed-digit}
 
 -- ---- the i64 reading, after a sign
 
-abbrev pub i64_after : Bool → List ℕ → I64Read
+abbrev pub i64_after : Bool → List ℕ → Result ℤ ScalarError
 i64_after negative s =
     elim (ltb most_i64 (value 0 (digit_run s))) [
-      | true ↦ I64.Overflow
-      | false ↦ elim (has_tail s) [ true ↦ I64.AllDigits | false ↦ I64.Is (signed negative (value 0 (digit_run s))) ]
+      | true ↦ Err Overflow
+      | false ↦ elim (has_tail s) [ true ↦ Err AllDigits | false ↦ Ok (signed negative (value 0 (digit_run s))) ]
     ]
 
-pub past_is : (negative : Bool) (s : List ℕ) → ltb most_i64 (value 0 (digit_run s)) ≡ true → i64_after negative s ≡ I64.Overflow
+pub past_is : (negative : Bool) (s : List ℕ) → ltb most_i64 (value 0 (digit_run s)) ≡ true → i64_after negative s ≡ Err Overflow
 past_is negative s e = rw (i64_after, e)
 
 pub tail_is : (negative : Bool) (s : List ℕ) → ltb most_i64 (value 0 (digit_run s)) ≡ false → has_tail s ≡ true
-    → i64_after negative s ≡ I64.AllDigits
+    → i64_after negative s ≡ Err AllDigits
 tail_is negative s e f = rw (i64_after, e, f)
 
 number_is : (negative : Bool) (s : List ℕ) → ltb most_i64 (value 0 (digit_run s)) ≡ false → has_tail s ≡ false
-    → i64_after negative s ≡ I64.Is (signed negative (value 0 (digit_run s)))
+    → i64_after negative s ≡ Ok (signed negative (value 0 (digit_run s)))
 number_is negative s e f = rw (i64_after, e, f)
 
 -- the digits of a scalar after a sign of so many bytes decide its i64 reading
@@ -52,7 +53,7 @@ pub i64-is-after : (d s : List ℕ) (negative : Bool) (sign : ℕ) → i64_part 
     → i64_read d ≡ i64_after negative s
 i64-is-after d s negative sign e long =
     by_bool (ltb most_i64 (value 0 (digit_run s)))
-    (λ t. read_past d (e ∙ i64-past negative sign s (ltb-true _ _ t)) ∙ sym (past_is negative s t))
+    (λ t. read_refused d _ (e ∙ i64-past negative sign s (ltb-true _ _ t)) ∙ sym (past_is negative s t))
     (λ f. let part = e ∙ i64-is negative sign s (ltb-false _ _ f) in
     by_bool (has_tail s)
     (λ t. read_tail d _ _ part (omega (arith, long, ltb-true (length (digit_run s)) (length s) t)) ∙ sym (tail_is negative s f t))

@@ -13,18 +13,18 @@ use Rattle.data.specs.Bytes.{plus, minus, point}
 use Rattle.scalar.specs.Digits.{is_digit, digit_run, value}
 use Rattle.scalar.specs.Float.{rest, tail_of, f64_digits, f64_read, begins}
 use Rattle.scalar.specs.Kind.{kind_after_sign, number_or_name}
-use Rattle.scalar.specs.Numbers.{answered, i64_refusal_of}
+use Rattle.scalar.specs.Numbers.{answered, scalar_refusal}
 use Rattle.scalar.specs.Whole.{most_i64, has_tail, i64_read}
-use Rattle.scalar.specs.declared.float.F64Read.TheVariants as F64
+use Rattle.std.specs.Prelude.{ℤ, Result, Err}
+use Rattle.scalar.specs.declared.errors.ScalarError.TheVariants.{AllDigits}
+use Rattle.scalar.specs.declared.errors.ScalarError.{ScalarError}
 use Rattle.scalar.specs.declared.kinds.ReadingKind.TheVariants as Kind
-use Rattle.scalar.specs.declared.whole.I64Read.TheVariants as I64
-use Rattle.scalar.specs.declared.whole.I64Read.{I64Read}
 use Rattle.scalar.proofs.Floats.{f64_none, f64_minus, f64_plus, f64_bare, f64_other}
 use Rattle.scalar.proofs.Forms.{unpointed_tail, sign-end, sign-other, nothing, after_minus, after_plus, unsigned}
 use Rattle.scalar.proofs.Gathers.{tail_here}
 use Rattle.scalar.proofs.Rests.{rest-other}
 use Rattle.scalar.proofs.Runs.{run-other}
-use Rattle.scalar.proofs.Wholes.{i64-none, i64-minus, i64-plus, i64-bare, i64-other, read_none}
+use Rattle.scalar.proofs.Wholes.{i64-none, i64-minus, i64-plus, i64-bare, i64-other, read_refused}
 use Rattle.promises.specs.ReadingKinds.{kind_by_i64, i64_answers, has_digit, bare_f}
 use Rattle.promises.proofs.ReadingKinds.Tails.{by_tail, point-is, passed, bare-past, plain}
 use Rattle.promises.proofs.ReadingKinds.AfterSign.{i64_after, past_is, tail_is, i64-is-after, no_number, unless, unless-both, after_sign}
@@ -43,8 +43,8 @@ pub record Begun (d : List ℕ) : Type 0 where
 
 -- or as none does
 pub record Alien (d : List ℕ) : Type 0 where
-  pub whole : i64_read d ≡ I64.AllDigits
-  pub float : f64_read d ≡ F64.AllDigits
+  pub whole : i64_read d ≡ Err AllDigits
+  pub float : f64_read d ≡ Err AllDigits
   pub form : number_or_name d ≡ Kind.Name
 
 minus-begins : (b : ℕ) (s : List ℕ) → b ≡ minus → Begun (b ∷ s)
@@ -89,7 +89,7 @@ point-begins b s h k e p = record {
   negative = false;
   after = b ∷ s;
   whole =
-      read_none (b ∷ s) (i64-other b s h k e)
+      read_refused (b ∷ s) _ (i64-other b s h k e)
       ∙ sym (tail_is false (b ∷ s) (ap (λ (r : List ℕ). ltb most_i64 (value 0 r)) (run-other b s e)) (tail_here b s e));
   float = f64_bare b s h k (rw (begins, e, eq-eqb b point p));
   form = unsigned b s h k;
@@ -98,12 +98,12 @@ point-begins b s h k e p = record {
 }
 
 none_alien : Alien []
-none_alien = record { whole = read_none [] i64-none; float = f64_none; form = nothing }
+none_alien = record { whole = read_refused [] _ i64-none; float = f64_none; form = nothing }
 
 other_alien : (b : ℕ) (s : List ℕ) → (b ≡ minus → ⊥) → (b ≡ plus → ⊥) → is_digit b ≡ false → (b ≡ point → ⊥) → Alien (b ∷ s)
 unfolding begins
 other_alien b s h k e p = record {
-  whole = read_none (b ∷ s) (i64-other b s h k e);
+  whole = read_refused (b ∷ s) _ (i64-other b s h k e);
   float = f64_other b s h k (rw (begins, e, ne_eqb b point p));
   form =
       unsigned b s h k
@@ -139,12 +139,12 @@ answered-plain d (inl b) e =
     (λ t. absurd (refused t))
     (λ f. b.bare ∙ plain b.after f)
   where
-    told : eqb (i64_refusal_of (i64_after b.negative b.after)) answered ≡ true
-    told = ap (λ (r : I64Read). eqb (i64_refusal_of r) answered) (sym b.whole) ∙ e
+    told : eqb (scalar_refusal (i64_after b.negative b.after)) answered ≡ true
+    told = ap (λ (r : Result ℤ ScalarError). eqb (scalar_refusal r) answered) (sym b.whole) ∙ e
 
     refused : has_tail b.after ≡ true → ⊥
     refused t =
         by_bool (ltb most_i64 (value 0 (digit_run b.after)))
-        (λ u. false≢true (ap (λ (r : I64Read). eqb (i64_refusal_of r) answered) (sym (past_is b.negative b.after u)) ∙ told))
-        (λ v. false≢true (ap (λ (r : I64Read). eqb (i64_refusal_of r) answered) (sym (tail_is b.negative b.after v t)) ∙ told))
-answered-plain d (inr a) e = absurd (false≢true (ap (λ (r : I64Read). eqb (i64_refusal_of r) answered) (sym a.whole) ∙ e))
+        (λ u. false≢true (ap (λ (r : Result ℤ ScalarError). eqb (scalar_refusal r) answered) (sym (past_is b.negative b.after u)) ∙ told))
+        (λ v. false≢true (ap (λ (r : Result ℤ ScalarError). eqb (scalar_refusal r) answered) (sym (tail_is b.negative b.after v t)) ∙ told))
+answered-plain d (inr a) e = absurd (false≢true (ap (λ (r : Result ℤ ScalarError). eqb (scalar_refusal r) answered) (sym a.whole) ∙ e))

@@ -17,12 +17,12 @@ use Rattle.data.specs.Bytes.{plus, minus}
 use Rattle.scalar.specs.Digits.{is_digit, digit_run, value, most_u64}
 use Rattle.scalar.specs.Float.{rest}
 use Rattle.scalar.specs.Whole.{has_tail, u64_digits, u64_read, most_i64, signed, i64_digits, i64_part, number_of, left_of, i64_number, i64_rest, i64_read}
-use Rattle.scalar.specs.declared.whole.I64Part.TheVariants as Part
-use Rattle.scalar.specs.declared.whole.I64Part.{I64Part}
+use Rattle.scalar.specs.declared.errors.ScalarError.TheVariants as Why
+use Rattle.std.specs.declared.result.Result.TheVariants as Read
 use Rattle.scalar.proofs.Gathers.{tail_on, tail_here}
 use Rattle.scalar.proofs.Runs.{digit_bounds, number-below}
 use Rattle.scalar.proofs.Wholes.{u64-plus, u64-none, u64-bare, u64_tail, u64-past, u64-is, i64-none, i64-minus, i64-plus, i64-bare, i64-other, i64-past}
-use Rattle.scalar.proofs.Wholes.{i64-is, read_tail, read_is, read_none, read_past}
+use Rattle.scalar.proofs.Wholes.{i64-is, Part, read_tail, read_is, read_refused}
 use Rattle.rust_scalar.specs.RustReadings.{Outcome, Ok, Err, AllDigits, Overflow, ◌>>=◌, ok_or, from_length, i64_or_panic, i64_try_from}
 use Rattle.rust_scalar.specs.RustReadings.{is_i64, is_empty}
 use Rattle.rust_scalar.specs.RustReadings.{is_ascii_digit, is_sign, digits_in, greatest_power, overflow_cutoff, check_from, u64_start, to_u64}
@@ -142,7 +142,7 @@ answer_of sign n left = do
   Ok (val, left)
 
 -- our part in the Rust's words: its number, and what it leaves of the bytes
-abbrev part_as_rust : List ℕ → I64Part → Outcome (ℤ × List ℕ)
+abbrev part_as_rust : List ℕ → Part → Outcome (ℤ × List ℕ)
 part_as_rust d p = rust_i64_part (number_of p) (left_of d p)
 
 -- after the sign: the check from a length on, the number, and what stands after it
@@ -230,10 +230,12 @@ pub i64-same : (d : List ℕ) → to_i64 d ≡ rust_i64 (i64_read d)
 unfolding to_i64
 i64-same d = rw (part_same d) (go (i64_part d) refl)
   where
-    go : (p : I64Part) → i64_part d ≡ p → (part_as_rust d p >>= λ (result, left). answered result (is_empty left)) ≡ rust_i64 (i64_read d)
-    go (Part.Is i at) e =
+    go : (p : Part) → i64_part d ≡ p → (part_as_rust d p >>= λ (result, left). answered result (is_empty left)) ≡ rust_i64 (i64_read d)
+    go (Read.Ok (i, at)) e =
         by_bool (ltb at (length d))
         (λ t. ap (answered i) (left_over d at (ltb-true at (length d) t)) ∙ ap rust_i64 (sym (read_tail d i at e (ltb-true at (length d) t))))
         (λ f. ap (answered i) (used_up d at (ltb-false at (length d) f)) ∙ ap rust_i64 (sym (read_is d i at e (ltb-false at (length d) f))))
-    go Part.AllDigits e = ap rust_i64 (sym (read_none d e))
-    go Part.Overflow e = ap rust_i64 (sym (read_past d e))
+    go (Read.Err Why.AllDigits) e = ap rust_i64 (sym (read_refused d Why.AllDigits e))
+    go (Read.Err Why.Overflow) e = ap rust_i64 (sym (read_refused d Why.Overflow e))
+    go (Read.Err Why.InvalidBool) e = ap rust_i64 (sym (read_refused d Why.InvalidBool e))
+    go (Read.Err (Why.PrecisionLoss x)) e = ap rust_i64 (sym (read_refused d (Why.PrecisionLoss x) e))

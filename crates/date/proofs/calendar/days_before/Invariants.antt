@@ -1,11 +1,8 @@
--- What each turn keeps, and what gets less.
+-- What each turn keeps.
 use mathlib.Core.Path.{◌≡◌}
-use Prim.Native.Nat.{◌-◌, ◌≤◌}
+use Prim.Native.Nat.{◌≤◌}
 use Rattle.date.specs.Calendar.{days_before}
 use Rattle.date.proofs.calendar.days_before.Given as goal
 
 abbrev pub invariant-loop-m : goal.invariant-loop-m
-invariant-loop-m l = (l.days ≡ days_before l.m) × (1 ≤ l.m) × (l.m ≤ l.month)
-
-abbrev pub decreases-loop-m : goal.decreases-loop-m
-decreases-loop-m l = l.month - l.m
+invariant-loop-m l = (l.days ≡ days_before l.m)

@@ -1,6 +1,6 @@
--- What each turn keeps, and what gets less.
+-- What each turn keeps.
 use mathlib.Core.Path.{◌≡◌}
-use Prim.Native.Nat.{◌+◌, ◌-◌, ◌≤◌, ◌<◌}
+use Prim.Native.Nat.{◌+◌, ◌≤◌, ◌<◌}
 use Rattle.date.specs.Calendar.{months, together, months_past, month_at}
 use Rattle.date.proofs.Months.{from_month}
 use Rattle.date.proofs.calendar.month_of.Given as goal
@@ -9,8 +9,3 @@ abbrev pub invariant-loop-month : goal.invariant-loop-month
 invariant-loop-month l =
     (months_past (from_month l.month) l.left + l.month ≡ month_at l.day)
     × (l.left < together (from_month l.month))
-    × (1 ≤ l.month)
-    × (l.month ≤ months)
-
-abbrev pub decreases-loop-month : goal.decreases-loop-month
-decreases-loop-month l = months - l.month

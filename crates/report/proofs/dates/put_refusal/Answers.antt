@@ -8,4 +8,4 @@ use Rattle.report.proofs.dates.put_refusal.Goals as goal
 pub returns : goal.returns
 returns c =
     chain _ _ _ _ c.put_bytes-word.ensures
-    (same_bytes _ _ _ _ c.put_decimal.ensures (ap decimal c.date_refusal.ensures))
+    (same_bytes _ _ _ _ c.put_decimal.ensures (ap decimal c.number.ensures))

@@ -5,19 +5,14 @@ use Rattle.put.proofs.Append.{chain, same_bytes, put-empty}
 use Rattle.report.specs.Readings.{left_text}
 use Rattle.report.proofs.readings.put_left.Goals as goal
 
-pub returns-in-Is : goal.returns-in-Is
-returns-in-Is c =
+pub returns-in-Ok : goal.returns-in-Ok
+returns-in-Ok c =
     let left = c.args.left in
     same_bytes _ _ _ _
     (chain _ _ _ _ c.put_byte-next.ensures c.put_decimal.ensures)
-    (sym (ap (λ r. left_text r left) c.in-Is.is))
+    (sym (ap (λ r. left_text r left) c.in-Ok.is))
 
-pub returns-in-AllDigits : goal.returns-in-AllDigits
-returns-in-AllDigits c =
+pub returns-in-Err : goal.returns-in-Err
+returns-in-Err c =
     let left = c.args.left in
-    same_bytes _ _ _ _ (put-empty _ _) (sym (ap (λ r. left_text r left) c.in-AllDigits.is))
-
-pub returns-in-Overflow : goal.returns-in-Overflow
-returns-in-Overflow c =
-    let left = c.args.left in
-    same_bytes _ _ _ _ (put-empty _ _) (sym (ap (λ r. left_text r left) c.in-Overflow.is))
+    same_bytes _ _ _ _ (put-empty _ _) (sym (ap (λ r. left_text r left) c.in-Err.is))

@@ -19,8 +19,8 @@ returns-then-exceeds c =
     let past : most_u64 < value 0 (digit_run (drop at d)) = ltb-true _ _ (sym c.exceeds.ensures ∙ c.if-exceeds.true) in
     reads d at _ _ (omega (arith, past)) (place_is d at 0 _ c.gather-run.ensures)
 
-pub returns : goal.returns
-returns c =
+pub returns-else-exceeds : goal.returns-else-exceeds
+returns-else-exceeds c =
     let d = c.args.d.now in
     let at = c.args.at in
     let held : value 0 (digit_run (drop at d)) ≤ most_u64 = ltb-false _ _ (sym c.exceeds.ensures ∙ c.if-exceeds.false) in

@@ -1,5 +1,5 @@
--- What each turn keeps, and what gets less: what is left at i, carried on from the total, gives what was asked for.
-use Rattle.std.proofs.Common.{◌≡◌, ◌+◌, ◌-◌, ◌%◌, ◌^◌, ◌<◌, length, drop}
+-- What each turn keeps: what is left at i, carried on from the total, gives what was asked for.
+use Rattle.std.proofs.Common.{◌≡◌, ◌+◌, ◌%◌, ◌^◌, ◌<◌, length, drop}
 use Rattle.scalar.specs.Digits.{digit_run, value}
 use Rattle.scalar.proofs.digits.gather.Given as goal
 
@@ -8,6 +8,3 @@ invariant-loop-i l =
     (value l.total (digit_run (drop l.i l.d)) % 2 ^ 64 ≡ value l.start (digit_run (drop l.at l.d)) % 2 ^ 64)
     × (l.i + length (digit_run (drop l.i l.d)) ≡ l.at + length (digit_run (drop l.at l.d)))
     × (l.total < 2 ^ 64)
-
-abbrev pub decreases-loop-i : goal.decreases-loop-i
-decreases-loop-i l = length l.d - l.i

@@ -1,6 +1,6 @@
 -- `scalar::float::pointed` meets its contract: what stands after the fraction decides first, then the size.
 -- Assumes nothing.
-use Rattle.std.proofs.Common.{sym, ◌∙◌, arith, ltb-false}
+use Rattle.std.proofs.Common.{inl, inr, sym, ◌∙◌, arith, ltb-false}
 use Rattle.scalar.specs.Float.{quotient}
 use Rattle.scalar.proofs.Floats.{tail_told, pointed-past, pointed-is, after_point-end, after_point-point, after_point-other}
 use Rattle.scalar.proofs.Gathers.{place_is, places_is, total-is}
@@ -29,10 +29,5 @@ returns-else-carries_past c =
 
 pub returns-in-Point : goal.returns-in-Point
 returns-in-Point c =
-    let told = sym c.tail_at.ensures ∙ c.in-Point.is in
-    sym (after_point-point _ _ _ (tail_told _ _ _ _ _ c.gather-all.ensures told))
-
-pub returns-in-Other : goal.returns-in-Other
-returns-in-Other c =
-    let told = sym c.tail_at.ensures ∙ c.in-Other.is in
-    sym (after_point-other _ _ _ (tail_told _ _ _ _ _ c.gather-all.ensures told))
+    let told = tail_told _ _ _ _ _ c.gather-all.ensures (sym c.tail_at.ensures) in
+    elim c.in-Point.is [ inl e ↦ sym (after_point-point _ _ _ (told ∙ e)) | inr e ↦ sym (after_point-other _ _ _ (told ∙ e)) ]

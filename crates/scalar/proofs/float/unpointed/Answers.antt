@@ -6,7 +6,7 @@ use mir.ValLaws.{to_z-of_z}
 use Rattle.scalar.specs.Digits.{digit_run, value, most_u64}
 use Rattle.scalar.specs.Float.{lossy}
 use Rattle.scalar.specs.Whole.{signed}
-use Rattle.scalar.specs.declared.float.F64Read.TheVariants.{Is}
+use Rattle.std.specs.Prelude.{Ok}
 use Rattle.scalar.proofs.Floats.{unpointed-past, unpointed-lossy, unpointed-is}
 use Rattle.scalar.proofs.Gathers.{total-is}
 use Rattle.scalar.proofs.float.unpointed.Goals as goal
@@ -28,5 +28,5 @@ returns c =
     let number = total-is _ _ 0 _ c.requires within in
     let number_is =
     to_z-of_z w64 _ (record { sfits = c.under_sign.type_inv }) ∙ c.under_sign.ensures ∙ ap (signed c.args.negative) number in
-    ap Is (c.nearest_i64_to_f64.ensures ∙ ap (of_int binary64) number_is)
+    ap Ok (c.nearest_i64_to_f64.ensures ∙ ap (of_int binary64) number_is)
     ∙ sym (unpointed-is _ _ (le_trans (le_of_eq (sym number)) c.if-total-gt-SAFE_INTEGER.false))

@@ -1,6 +1,6 @@
 -- `scalar::kinds::after_point` meets its contract: what stands after the fraction says whether it is a number's.
 -- Assumes nothing.
-use Rattle.std.proofs.Common.{sym, ◌∙◌, arith}
+use Rattle.std.proofs.Common.{inl, inr, sym, ◌∙◌, arith}
 use Rattle.scalar.proofs.Floats.{tail_told}
 use Rattle.scalar.proofs.Forms.{point-end, point-point, point-other}
 use Rattle.scalar.proofs.Gathers.{place_is, places_is}
@@ -20,10 +20,5 @@ returns-in-End c =
 
 pub returns-in-Point : goal.returns-in-Point
 returns-in-Point c =
-    let told = sym c.tail_at.ensures ∙ c.in-Point.is in
-    sym (point-point _ _ (tail_told _ _ _ _ _ c.gather-end.ensures told))
-
-pub returns-in-Other : goal.returns-in-Other
-returns-in-Other c =
-    let told = sym c.tail_at.ensures ∙ c.in-Other.is in
-    sym (point-other _ _ (tail_told _ _ _ _ _ c.gather-end.ensures told))
+    let told = tail_told _ _ _ _ _ c.gather-end.ensures (sym c.tail_at.ensures) in
+    elim c.in-Point.is [ inl e ↦ sym (point-point _ _ (told ∙ e)) | inr e ↦ sym (point-other _ _ (told ∙ e)) ]

@@ -4,7 +4,7 @@ use Rattle.std.proofs.Common.{ℕ, ◌<◌, sym, ap, ◌∙◌, le_trans, le_of_
 use mir.ValLaws.{to_z-of_z}
 use Rattle.scalar.specs.Digits.{most_u64}
 use Rattle.scalar.specs.Whole.{signed, most_i64}
-use Rattle.scalar.specs.declared.whole.I64Part.TheVariants.{Is}
+use Rattle.std.specs.Prelude.{Ok}
 use Rattle.scalar.proofs.Gathers.{place_is, total-is}
 use Rattle.scalar.proofs.Wholes.{i64-past, i64-is}
 use Rattle.scalar.proofs.whole.i64_digits.Goals as goal
@@ -28,4 +28,4 @@ returns c =
     let number_is =
     to_z-of_z w64 _ (record { sfits = c.under_sign.type_inv }) ∙ c.under_sign.ensures ∙ ap (signed c.args.negative) number in
     let place = place_is _ _ 0 _ c.gather-run.ensures in
-    (λ j. Is (number_is j) (place j)) ∙ sym (i64-is _ _ _ (le_trans (le_of_eq (sym number)) c.if-total-gt-MOST_I64.false))
+    (λ j. Ok (number_is j, place j)) ∙ sym (i64-is _ _ _ (le_trans (le_of_eq (sym number)) c.if-total-gt-MOST_I64.false))

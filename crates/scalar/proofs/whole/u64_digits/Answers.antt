@@ -1,7 +1,7 @@
 -- `scalar::whole::u64_digits` meets its contract: what is left after the digits decides first, then the size.
 -- Assumes nothing.
 use Rattle.std.proofs.Common.{sym, ap, ◌∙◌, ltb-false}
-use Rattle.scalar.specs.declared.whole.U64Read.TheVariants.{Is}
+use Rattle.std.specs.Prelude.{Ok}
 use Rattle.scalar.proofs.Gathers.{tailed, untailed, total-is}
 use Rattle.scalar.proofs.Wholes.{u64_tail, u64-past, u64-is}
 use Rattle.scalar.proofs.whole.u64_digits.Goals as goal
@@ -20,5 +20,5 @@ returns c =
     let d = c.args.d.now in
     let gathered-is = c.gather-run.ensures in
     let within = sym c.exceeds.ensures ∙ c.if-exceeds.false in
-    ap Is (total-is d _ 0 _ gathered-is (ltb-false _ _ within))
+    ap Ok (total-is d _ 0 _ gathered-is (ltb-false _ _ within))
     ∙ sym (u64-is _ (untailed d _ 0 _ gathered-is c.if-run-d.false) within)
