@@ -8,8 +8,7 @@ use Rattle.date.specs.declared.calendar.Date.{Date}
 use Rattle.date.specs.declared.calendar.DateRead.TheVariants.{Is, NotADate, OutOfRange}
 use Rattle.date.specs.declared.calendar.DateRead.{DateRead}
 use Rattle.report.specs.Digits.{decimal}
-use Rattle.report.specs.Dump.{field}
-use Rattle.report.specs.Words as words
+use Rattle.report.specs.Dump.{field, refusal}
 
 -- year, month and day
 abbrev pub year_month_day : Date → List ℕ
@@ -26,7 +25,7 @@ date_line d = date_text (date_read d) ++ (line_feed ∷ [])
 
 -- the date of a count, or that it is refused
 abbrev pub refusal_text : DateRead → List ℕ
-refusal_text r = words.refused ++ decimal (date_refusal_of r)
+refusal_text r = refusal (date_refusal_of r)
 
 abbrev pub told_text : DateRead → List ℕ
 told_text (Is t) = year_month_day t

@@ -10,7 +10,8 @@ use Rattle.writer.specs.declared.Written.TheVariants.{Text, Refused}
 use Rattle.writer.specs.Refusals.{number}
 use Rattle.writer.specs.Write.{Left, left}
 use Rattle.put.specs.Append.{Wrote, append}
-use Rattle.report.specs.Digits.{decimal, hex}
+use Rattle.report.specs.Digits.{hex}
+use Rattle.report.specs.Dump.{refused_line}
 use Rattle.report.specs.Words as words
 
 -- the verdict on a sheet
@@ -30,12 +31,12 @@ hex_bytes (b ∷ bs) = hex 2 b ++ hex_bytes bs
 -- a token's part of the text, or the refusal
 abbrev pub view_text : List ℕ → Viewed → List ℕ
 view_text text (At offset size) = words.view ++ hex_bytes (take size (drop offset text)) ++ (line_feed ∷ [])
-view_text text NoScalar = words.refused ++ decimal (refusal_of NoScalar) ++ (line_feed ∷ [])
+view_text text NoScalar = refused_line (refusal_of NoScalar)
 
 -- the text that was written, which stands at the front of its buffer, or the refusal
 abbrev pub written_text : Written → List ℕ → List ℕ
 written_text (Text size) buffer = words.text ++ hex_bytes (take size buffer) ++ (line_feed ∷ [])
-written_text (Refused r) buffer = words.refused ++ decimal (number r) ++ (line_feed ∷ [])
+written_text (Refused r) buffer = refused_line (number r)
 
 -- what was put, with the buffer and the scratch as the way back leaves them
 pub data Reported : Type 0 where

@@ -44,10 +44,7 @@ fn put_hex_by(out: &mut [u8], at: usize, n: u64, digits: usize) -> usize
 pub fn put_hex(out: &mut [u8], at: usize, n: u64, digits: usize) -> usize
     ensures { wrote result out.new ≡ append out.old at (hex digits n) }
 {
-    if digits < MOST_HEX {
-        return put_hex_by(out, at, n, digits);
-    }
-    put_hex_by(out, at, n, MOST_HEX)
+    put_hex_by(out, at, n, digits.min(MOST_HEX))
 }
 
 // Puts a number with its sign, where it has a minus.

@@ -15,7 +15,7 @@ pub returns-in-Is : goal.returns-in-Is
 returns-in-Is c =
     same_bytes _ _ _ _
     c.put_value.ensures
-    (ap (λ (n : ℕ). equals ∷ [] ++ decimal n) c.bit.ensures ∙ sym (ap bool_text c.in-Is.is))
+    (ap (λ (n : ℕ). equals ∷ [] ++ decimal n) c.from.ensures ∙ sym (ap bool_text c.in-Is.is))
 
 pub returns-in-InvalidBool : goal.returns-in-InvalidBool
 returns-in-InvalidBool c =
