@@ -118,12 +118,7 @@ fn tokens_answer(out: &mut [u8], at: usize, asked: Record, words: &mut [u32]) ->
     ensures { Whole asked.entry.capacity asked.entry.body.now out.old at result out.new }
 {
     let room = asked.capacity.min(MOST_TOKENS) * WORDS_PER_TOKEN;
-    Some(report::dump::put_dump(
-        out,
-        at,
-        asked.body,
-        &mut words[..room],
-    ))
+    Some(report::dump::put_dump(out, at, asked.body, &mut words[..room]))
 }
 
 // Kind `S`: the readings of a scalar.
@@ -158,11 +153,7 @@ fn day_answer(out: &mut [u8], at: usize, asked: Record) -> Option<usize>
     if asked.body.len() != WORD {
         return None;
     }
-    Some(report::dates::put_date_of(
-        out,
-        at,
-        word_at(asked.body, 0),
-    ))
+    Some(report::dates::put_date_of(out, at, word_at(asked.body, 0)))
 }
 
 // Kind `C`: whether a sheet is sound, which is all of the body.
@@ -190,14 +181,7 @@ fn view_answer(out: &mut [u8], at: usize, asked: Record, words: &mut [u32]) -> O
     let index = word_at(body, 0) as usize;
     let count = word_at(body, WORD) as usize;
     let n = take_words(&body[VIEW_HEAD..text], words);
-    Some(report::sheets::put_view(
-        out,
-        at,
-        &body[text..],
-        &words[..n],
-        count,
-        index,
-    ))
+    Some(report::sheets::put_view(out, at, &body[text..], &words[..n], count, index))
 }
 
 // Kind `W`: the text of a sheet, with room for so many bytes. The scratch's words, the count, how many words, the words, and the text to
@@ -250,12 +234,7 @@ fn sheet_answer(out: &mut [u8], at: usize, asked: Record) -> Option<usize>
 {
     let room = asked.capacity.min(MOST_SCRATCH);
     let mut lent = [0u32; MOST_SCRATCH];
-    Some(file_lines::put_found(
-        out,
-        at,
-        asked.body,
-        &mut lent[..room],
-    ))
+    Some(file_lines::put_found(out, at, asked.body, &mut lent[..room]))
 }
 
 // Answers a record by its kind: it is bad, or all of its answer is put.

@@ -1,4 +1,5 @@
-// Numbers, most significant digit first: the digits of the quotient, and behind them the last one.
+// Numbers, most significant digit first: the digits of the quotient, and behind them the last one. The calls go as deep as there are
+// digits; a loop would find the last digit first, and need room of its own to turn them about.
 ghost use Rattle.std.specs.Prelude.{◌≡◌, ◌<◌, ◌≤◌};
 ghost use Rattle.put.specs.Append.{wrote, append};
 ghost use Rattle.report.specs.Digits.{glyph as glyph_of, decimal, hex_by, most_hex, hex};
