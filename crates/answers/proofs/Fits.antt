@@ -26,8 +26,7 @@ use Rattle.report.proofs.Lengths.{readings-short, leading-short, date-short, day
 use Rattle.file_lines.specs.Lines as lines
 use Rattle.file_lines.proofs.Told.{reads-given}
 use Rattle.file_lines.proofs.Room.{file-short}
-use Rattle.answers.specs.declared.Answer.{Answer}
-use Rattle.answers.specs.declared.Answer.TheVariants.{Put}
+use Rattle.std.specs.Prelude.{Option, Some}
 use Rattle.answers.specs.Whole.{word_bytes, word_in, most_answer, most_words, All, Left, Whole}
 use Rattle.answers.specs.Whole.{Answers, dump, readings, leading, date, day, verdict, view, written, filed, found}
 
@@ -140,9 +139,9 @@ module _ (capacity : ℕ) (body out : List ℕ) (at : ℕ) {r : ℕ} {o : List �
           (omega (arith, held f ws reads)) room
 
 -- where an answer is put, the next place is past it, and no further than its most bytes
-pub next_near : (capacity : ℕ) (body out : List ℕ) (at next : ℕ) (left : List ℕ) (a : Answer) → a ≡ Put next
+pub next_near : (capacity : ℕ) (body out : List ℕ) (at next : ℕ) (left : List ℕ) (a : Option ℕ) → a ≡ Some next
     → Whole capacity body out at a left → next ≤ at + most_answer
 next_near capacity body out at next left a told w =
-    let all : All capacity body out at next left = subst (λ (x : Answer). Left capacity body out at x left) told w.holds in
+    let all : All capacity body out at next left = subst (λ (x : Option ℕ). Left capacity body out at x left) told w.holds in
     let placed : next ≡ at + length all.lines = ap place_of all.put in
     omega (arith, all.short)

@@ -1,5 +1,5 @@
 -- What the answer to a record leaves in the buffer: nothing more than stood there, or all of the answer. None is cut short.
-use Rattle.std.specs.Prelude.{ℕ, ◌+◌, ◌*◌, ◌≤◌, min, Result, Bool, List, ◌≡◌, length, take, drop, Option, None}
+use Rattle.std.specs.Prelude.{ℕ, ◌+◌, ◌*◌, ◌≤◌, min, Result, Bool, List, ◌≡◌, length, take, drop, Option, None, Some}
 use Rattle.writer.specs.declared.Refusal.{Refusal}
 use Rattle.file.specs.declared.Refusal as file
 use Rattle.file.specs.declared.Found.{Found}
@@ -14,8 +14,6 @@ use Rattle.report.specs.Readings.{readings_of, leading_of}
 use Rattle.report.specs.Room.{most_input, most_tokens, dump_bytes}
 use Rattle.report.specs.Sheets as sheets
 use Rattle.file_lines.specs.Lines.{file_text, sheet_text}
-use Rattle.answers.specs.declared.Answer.{Answer}
-use Rattle.answers.specs.declared.Answer.TheVariants.{Put, Bad}
 
 -- the most bytes of an answer: no other is as long as the longest dump
 abbrev pub most_answer : ℕ
@@ -64,9 +62,9 @@ pub record All (capacity : ℕ) (body out : List ℕ) (at next : ℕ) (left : Li
   pub put : wrote next left ≡ whole out at lines
 
 -- a bad record, which leaves the buffer as it was, or all of the lines
-abbrev pub Left : ℕ → List ℕ → List ℕ → ℕ → Answer → List ℕ → Type 0
-Left capacity body out at Bad left = left ≡ out
-Left capacity body out at (Put next) left = All capacity body out at next left
+abbrev pub Left : ℕ → List ℕ → List ℕ → ℕ → Option ℕ → List ℕ → Type 0
+Left capacity body out at None left = left ≡ out
+Left capacity body out at (Some next) left = All capacity body out at next left
 
-pub record Whole (capacity : ℕ) (body out : List ℕ) (at : ℕ) (a : Answer) (left : List ℕ) : Type 0 where
+pub record Whole (capacity : ℕ) (body out : List ℕ) (at : ℕ) (a : Option ℕ) (left : List ℕ) : Type 0 where
   pub holds : Left capacity body out at a left

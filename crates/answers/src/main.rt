@@ -3,7 +3,7 @@
 // write that fails ends all with its error.
 #![tactic(auto)]
 
-ghost use Rattle.std.specs.Prelude.{◌≡◌, ◌+◌, ◌≤◌, ◌<◌, min, length, IfOk};
+ghost use Rattle.std.specs.Prelude.{◌≡◌, ◌+◌, ◌≤◌, ◌<◌, length, IfOk, IfSome};
 ghost use Rattle.tape.specs.Words.{words_for};
 ghost use Rattle.report.specs.Room.{most_input, most_tokens};
 ghost use Rattle.answers.specs.Whole.{word_in, most_answer, stop_bytes, block_bytes, Whole};
@@ -22,24 +22,17 @@ const HEAD: usize = 5;
 // The bytes of a word in a body.
 const WORD: usize = 4;
 
-// The bytes of a body before its words, where a check or a file is asked for, and where a view is.
+// The bytes of a number that is shorter than a word.
+const PAIR: usize = 2;
+
+// The bytes of a body before its words, where a check or a file is asked for.
 const CHECK_HEAD: usize = 2 * WORD;
 
-const VIEW_HEAD: usize = 2 * WORD + 2;
+// The bytes of a body before its words, where a view is asked for and where a sheet is to be written back. The last two of them say how
+// many words there are.
+const VIEW_HEAD: usize = 2 * WORD + PAIR;
 
-// Where a view's record has the two bytes that say how many words there are.
-const WORDS_HIGH: usize = 2 * WORD;
-
-const WORDS_LOW: usize = 2 * WORD + 1;
-
-// The bytes of a body before its words, where a sheet is to be written back, and where its numbers stand there.
-const WRITE_HEAD: usize = 2 + WORD + 2;
-
-const WRITE_COUNT: usize = 2;
-
-const WRITE_WORDS_HIGH: usize = 2 + WORD;
-
-const WRITE_WORDS_LOW: usize = 2 + WORD + 1;
+const WRITE_HEAD: usize = PAIR + WORD + PAIR;
 
 // The most bytes that are lent to write a sheet back or as a file, and the most words to write one back or to read one: no record needs
 // more, and one that asks for more gets so much.
@@ -53,25 +46,19 @@ const BLOCK: usize = 4 * MOST_INPUT;
 // Bytes for the answers that are not yet written: while no more than half of them are taken, any answer finds room.
 const ANSWER_BYTES: usize = 2 * DUMP_BYTES;
 
-// The answer to a record: the place after its lines, or that the record is bad.
+// A record that is all there. Its answer is the place after the lines that are put, and none where the record is bad.
 #[derive(Clone, Copy)]
-enum Answer {
-    Put(usize),
-    Bad,
-}
-
-// What the answering of a block comes to: the place of a record that is not all there, or that a bad one was met.
-#[derive(Clone, Copy)]
-enum Answered {
-    Until(usize),
-    Stopped,
+struct Record<'a> {
+    kind: u8,
+    capacity: usize,
+    body: &'a [u8],
 }
 
 // A number of two bytes.
 fn pair(high: u8, low: u8) -> usize
     ensures { result < 65536 }
 {
-    (high as usize) * 256 + (low as usize)
+    usize::from(u16::from_be_bytes([high, low]))
 }
 
 // The number of four bytes at a place.
@@ -85,144 +72,133 @@ fn word_at(bytes: &[u8], at: usize) -> u32
 fn take_words(bytes: &[u8], words: &mut [u32]) -> usize
     ensures { result ≤ length words.new }
 {
-    let mut n = 0;
-    while n < words.len() {
-        if bytes.len() / WORD <= n {
-            return n;
-        }
-        words[n] = word_at(bytes, n * WORD);
-        n += 1;
+    let (spelt, _) = bytes.as_chunks::<WORD>();
+    for (slot, &word) in words.iter_mut().zip(spelt) {
+        *slot = u32::from_be_bytes(word);
     }
-    n
+    words.len().min(spelt.len())
 }
 
-// The lesser of two numbers.
-fn least(a: usize, b: usize) -> usize
-    ensures { result ≡ min a b }
+// Where the words of a body end whose head says by its last two bytes how many there are, if they are all there.
+fn words_end(body: &[u8], head: usize) -> Option<usize>
+    ensures { IfSome result (λ end. (head ≤ end) × (end ≤ length body.now)) }
 {
-    if a < b {
-        return a;
+    let (front, _) = body.split_at_checked(head)?;
+    let (_, [high, low]) = front.split_last_chunk::<PAIR>()?;
+    let end = head + pair(*high, *low) * WORD;
+    if body.len() < end { None } else { Some(end) }
+}
+
+// A sheet that stands in a body: the length of its text, how many tokens it counts, and how many words it has.
+#[derive(Clone, Copy)]
+struct Sheet {
+    text_length: usize,
+    count: usize,
+    words: usize,
+}
+
+// The sheet that is all of a body: the text's length, the count, and the words to the body's end, which are put into words.
+fn take_sheet(body: &[u8], words: &mut [u32]) -> Option<Sheet>
+    ensures { IfSome result (λ sheet. sheet.words ≤ length words.new) }
+{
+    let spelt = body.get(CHECK_HEAD..)?;
+    if spelt.len() % WORD != 0 {
+        return None;
     }
-    b
+    Some(Sheet {
+        text_length: word_at(body, 0) as usize,
+        count: word_at(body, WORD) as usize,
+        words: take_words(spelt, words),
+    })
 }
 
 // Kind `T`: the dump of a text, with room for so many tokens, or for a dump's most where the record asks for more.
-fn tokens_answer(
-    out: &mut [u8],
-    at: usize,
-    capacity: usize,
-    text: &[u8],
-    words: &mut [u32],
-) -> Answer
+fn tokens_answer(out: &mut [u8], at: usize, asked: Record, words: &mut [u32]) -> Option<usize>
     requires { (at + most_answer ≤ length out.old) × (words_for most_tokens ≤ length words.old) }
-    ensures { Whole capacity text.now out.old at result out.new }
+    ensures { Whole asked.entry.capacity asked.entry.body.now out.old at result out.new }
 {
-    let room = least(capacity, MOST_TOKENS) * WORDS_PER_TOKEN;
-    Answer::Put(report::dump::put_dump(out, at, text, &mut words[..room]))
+    let room = asked.capacity.min(MOST_TOKENS) * WORDS_PER_TOKEN;
+    Some(report::dump::put_dump(out, at, asked.body, &mut words[..room]))
 }
 
 // Kind `S`: the readings of a scalar.
-fn readings_answer(out: &mut [u8], at: usize, capacity: usize, scalar: &[u8]) -> Answer
+fn readings_answer(out: &mut [u8], at: usize, asked: Record) -> Option<usize>
     requires { at + most_answer ≤ length out.old }
-    ensures { Whole capacity scalar.now out.old at result out.new }
+    ensures { Whole asked.entry.capacity asked.entry.body.now out.old at result out.new }
 {
-    Answer::Put(report::readings::put_readings(out, at, scalar))
+    Some(report::readings::put_readings(out, at, asked.body))
 }
 
 // Kind `N`: the number that a scalar begins with, and how many bytes are left over after it.
-fn leading_answer(out: &mut [u8], at: usize, capacity: usize, scalar: &[u8]) -> Answer
-    requires { (at + most_answer ≤ length out.old) × (length scalar.now ≤ most_input) }
-    ensures { Whole capacity scalar.now out.old at result out.new }
+fn leading_answer(out: &mut [u8], at: usize, asked: Record) -> Option<usize>
+    requires { (at + most_answer ≤ length out.old) × (length asked.body.now ≤ most_input) }
+    ensures { Whole asked.entry.capacity asked.entry.body.now out.old at result out.new }
 {
-    Answer::Put(report::readings::put_leading(out, at, scalar))
+    Some(report::readings::put_leading(out, at, asked.body))
 }
 
 // Kind `D`: the date that a scalar says, with its day count.
-fn date_answer(out: &mut [u8], at: usize, capacity: usize, scalar: &[u8]) -> Answer
+fn date_answer(out: &mut [u8], at: usize, asked: Record) -> Option<usize>
     requires { at + most_answer ≤ length out.old }
-    ensures { Whole capacity scalar.now out.old at result out.new }
+    ensures { Whole asked.entry.capacity asked.entry.body.now out.old at result out.new }
 {
-    Answer::Put(report::dates::put_date(out, at, scalar))
+    Some(report::dates::put_date(out, at, asked.body))
 }
 
 // Kind `Y`: the date of a day count, which is all of the body.
-fn day_answer(out: &mut [u8], at: usize, capacity: usize, body: &[u8]) -> Answer
+fn day_answer(out: &mut [u8], at: usize, asked: Record) -> Option<usize>
     requires { at + most_answer ≤ length out.old }
-    ensures { Whole capacity body.now out.old at result out.new }
+    ensures { Whole asked.entry.capacity asked.entry.body.now out.old at result out.new }
 {
-    if body.len() != WORD {
-        return Answer::Bad;
+    if asked.body.len() != WORD {
+        return None;
     }
-    Answer::Put(report::dates::put_date_of(out, at, word_at(body, 0)))
+    Some(report::dates::put_date_of(out, at, word_at(asked.body, 0)))
 }
 
-// Kind `C`: whether a sheet is sound. The text's length, the count, and the words to the body's end.
-fn check_answer(
-    out: &mut [u8],
-    at: usize,
-    capacity: usize,
-    body: &[u8],
-    words: &mut [u32],
-) -> Answer
+// Kind `C`: whether a sheet is sound, which is all of the body.
+fn check_answer(out: &mut [u8], at: usize, asked: Record, words: &mut [u32]) -> Option<usize>
     requires { at + most_answer ≤ length out.old }
-    ensures { Whole capacity body.now out.old at result out.new }
+    ensures { Whole asked.entry.capacity asked.entry.body.now out.old at result out.new }
 {
-    if body.len() < CHECK_HEAD {
-        return Answer::Bad;
-    }
-    if body.len() % WORD != 0 {
-        return Answer::Bad;
-    }
-    let text_length = word_at(body, 0) as usize;
-    let count = word_at(body, WORD) as usize;
-    let n = take_words(&body[CHECK_HEAD..], words);
-    Answer::Put(report::sheets::put_check(out, at, text_length, &words[..n], count))
+    let sheet = take_sheet(asked.body, words)?;
+    Some(report::sheets::put_check(
+        out,
+        at,
+        sheet.text_length,
+        &words[..sheet.words],
+        sheet.count,
+    ))
 }
 
 // Kind `V`: a token's view. The index, the count, how many words, the words, and the text to the body's end.
-fn view_answer(out: &mut [u8], at: usize, capacity: usize, body: &[u8], words: &mut [u32]) -> Answer
-    requires { (at + most_answer ≤ length out.old) × (length body.now ≤ most_input) }
-    ensures { Whole capacity body.now out.old at result out.new }
+fn view_answer(out: &mut [u8], at: usize, asked: Record, words: &mut [u32]) -> Option<usize>
+    requires { (at + most_answer ≤ length out.old) × (length asked.body.now ≤ most_input) }
+    ensures { Whole asked.entry.capacity asked.entry.body.now out.old at result out.new }
 {
-    if body.len() < VIEW_HEAD {
-        return Answer::Bad;
-    }
+    let body = asked.body;
+    let text = words_end(body, VIEW_HEAD)?;
     let index = word_at(body, 0) as usize;
     let count = word_at(body, WORD) as usize;
-    let text = VIEW_HEAD + pair(body[WORDS_HIGH], body[WORDS_LOW]) * WORD;
-    if body.len() < text {
-        return Answer::Bad;
-    }
     let n = take_words(&body[VIEW_HEAD..text], words);
-    Answer::Put(report::sheets::put_view(out, at, &body[text..], &words[..n], count, index))
+    Some(report::sheets::put_view(out, at, &body[text..], &words[..n], count, index))
 }
 
 // Kind `W`: the text of a sheet, with room for so many bytes. The scratch's words, the count, how many words, the words, and the text to
 // the body's end.
-fn write_answer(
-    out: &mut [u8],
-    at: usize,
-    capacity: usize,
-    body: &[u8],
-    words: &mut [u32],
-) -> Answer
+fn write_answer(out: &mut [u8], at: usize, asked: Record, words: &mut [u32]) -> Option<usize>
     requires { at + most_answer ≤ length out.old }
-    ensures { Whole capacity body.now out.old at result out.new }
+    ensures { Whole asked.entry.capacity asked.entry.body.now out.old at result out.new }
 {
-    if body.len() < WRITE_HEAD {
-        return Answer::Bad;
-    }
-    let lent = least(pair(body[0], body[1]), MOST_SCRATCH);
-    let count = word_at(body, WRITE_COUNT) as usize;
-    let text = WRITE_HEAD + pair(body[WRITE_WORDS_HIGH], body[WRITE_WORDS_LOW]) * WORD;
-    if body.len() < text {
-        return Answer::Bad;
-    }
+    let body = asked.body;
+    let text = words_end(body, WRITE_HEAD)?;
+    let lent = pair(body[0], body[1]).min(MOST_SCRATCH);
+    let count = word_at(body, PAIR) as usize;
     let n = take_words(&body[WRITE_HEAD..text], words);
-    let room = least(capacity, MOST_BUFFER);
+    let room = asked.capacity.min(MOST_BUFFER);
     let mut buffer = [0u8; MOST_BUFFER];
     let mut scratch = [0u32; MOST_SCRATCH];
-    Answer::Put(report::sheets::put_written(
+    Some(report::sheets::put_written(
         out,
         at,
         &body[text..],
@@ -233,66 +209,51 @@ fn write_answer(
     ))
 }
 
-// Kind `F`: the file of a sheet, with room for so many bytes. The text's length, the count, and the words to the body's end.
-fn file_answer(out: &mut [u8], at: usize, capacity: usize, body: &[u8], words: &mut [u32]) -> Answer
+// Kind `F`: the file of a sheet, which is all of the body, with room for so many bytes.
+fn file_answer(out: &mut [u8], at: usize, asked: Record, words: &mut [u32]) -> Option<usize>
     requires { at + most_answer ≤ length out.old }
-    ensures { Whole capacity body.now out.old at result out.new }
+    ensures { Whole asked.entry.capacity asked.entry.body.now out.old at result out.new }
 {
-    if body.len() < CHECK_HEAD {
-        return Answer::Bad;
-    }
-    if body.len() % WORD != 0 {
-        return Answer::Bad;
-    }
-    let text_length = word_at(body, 0) as usize;
-    let count = word_at(body, WORD) as usize;
-    let n = take_words(&body[CHECK_HEAD..], words);
-    let room = least(capacity, MOST_BUFFER);
+    let sheet = take_sheet(asked.body, words)?;
+    let room = asked.capacity.min(MOST_BUFFER);
     let mut buffer = [0u8; MOST_BUFFER];
-    Answer::Put(file_lines::put_filed(
+    Some(file_lines::put_filed(
         out,
         at,
-        text_length,
-        &words[..n],
-        count,
+        sheet.text_length,
+        &words[..sheet.words],
+        sheet.count,
         &mut buffer[..room],
     ))
 }
 
 // Kind `R`: the sheet that the body is a file of, with room for so many words.
-fn sheet_answer(out: &mut [u8], at: usize, capacity: usize, body: &[u8]) -> Answer
-    requires { (at + most_answer ≤ length out.old) × (length body.now ≤ most_input) }
-    ensures { Whole capacity body.now out.old at result out.new }
+fn sheet_answer(out: &mut [u8], at: usize, asked: Record) -> Option<usize>
+    requires { (at + most_answer ≤ length out.old) × (length asked.body.now ≤ most_input) }
+    ensures { Whole asked.entry.capacity asked.entry.body.now out.old at result out.new }
 {
-    let room = least(capacity, MOST_SCRATCH);
+    let room = asked.capacity.min(MOST_SCRATCH);
     let mut lent = [0u32; MOST_SCRATCH];
-    Answer::Put(file_lines::put_found(out, at, body, &mut lent[..room]))
+    Some(file_lines::put_found(out, at, asked.body, &mut lent[..room]))
 }
 
 // Answers a record by its kind: it is bad, or all of its answer is put.
-fn answer_record(
-    out: &mut [u8],
-    at: usize,
-    kind: u8,
-    capacity: usize,
-    body: &[u8],
-    words: &mut [u32],
-) -> Answer
-    requires { (at + most_answer ≤ length out.old) × (words_for most_tokens ≤ length words.old) × (length body.now ≤ most_input) }
-    ensures { Whole capacity body.now out.old at result out.new }
+fn answer_record(out: &mut [u8], at: usize, asked: Record, words: &mut [u32]) -> Option<usize>
+    requires { (at + most_answer ≤ length out.old) × (words_for most_tokens ≤ length words.old) × (length asked.body.now ≤ most_input) }
+    ensures { Whole asked.entry.capacity asked.entry.body.now out.old at result out.new }
 {
-    match kind {
-        b'T' => tokens_answer(out, at, capacity, body, words),
-        b'S' => readings_answer(out, at, capacity, body),
-        b'N' => leading_answer(out, at, capacity, body),
-        b'D' => date_answer(out, at, capacity, body),
-        b'Y' => day_answer(out, at, capacity, body),
-        b'C' => check_answer(out, at, capacity, body, words),
-        b'V' => view_answer(out, at, capacity, body, words),
-        b'W' => write_answer(out, at, capacity, body, words),
-        b'F' => file_answer(out, at, capacity, body, words),
-        b'R' => sheet_answer(out, at, capacity, body),
-        _ => Answer::Bad,
+    match asked.kind {
+        b'T' => tokens_answer(out, at, asked, words),
+        b'S' => readings_answer(out, at, asked),
+        b'N' => leading_answer(out, at, asked),
+        b'D' => date_answer(out, at, asked),
+        b'Y' => day_answer(out, at, asked),
+        b'C' => check_answer(out, at, asked, words),
+        b'V' => view_answer(out, at, asked, words),
+        b'W' => write_answer(out, at, asked, words),
+        b'F' => file_answer(out, at, asked, words),
+        b'R' => sheet_answer(out, at, asked),
+        _ => None,
     }
 }
 
@@ -317,63 +278,47 @@ fn place_for_next(rt: &impl Print, out: &[u8], to: usize) -> io::Result<usize>
     Ok(to)
 }
 
-// Answers the records that are all there.
+// Answers the records that are all there, and says how many bytes are left of one that is not, or none where a bad one was met.
 fn answer_block(
     rt: &impl Print,
     input: &[u8],
     words: &mut [u32],
     out: &mut [u8],
-) -> io::Result<Answered>
+) -> io::Result<Option<usize>>
     requires { (block_bytes ≤ length out.old) × (words_for most_tokens ≤ length words.old) }
+    ensures { IfOk result (λ answered. IfSome answered (λ left. left ≤ length input.now)) }
 {
     let mut to = 0;
-    let mut at = 0;
-    while at + HEAD <= input.len() {
-        let size = pair(input[at + 3], input[at + 4]);
+    let mut left = input;
+    while let Some((&[kind, more, less, long, short], behind)) = left.split_first_chunk::<HEAD>() {
+        let size = pair(long, short);
         if MOST_INPUT < size {
             stop(rt, out, to)?;
-            return Ok(Answered::Stopped);
+            return Ok(None);
         }
-        let start = at + HEAD;
-        if input.len() - start < size {
-            rt.write_all(front(out, to))?;
-            return Ok(Answered::Until(at));
-        }
-        let end = start + size;
-        let capacity = pair(input[at + 1], input[at + 2]);
+        let Some((body, next)) = behind.split_at_checked(size) else {
+            break;
+        };
+        let capacity = pair(more, less);
+        let record = Record {
+            kind,
+            capacity,
+            body,
+        };
         let place = place_for_next(rt, out, to)?;
-        match answer_record(out, place, input[at], capacity, &input[start..end], words) {
-            Answer::Put(next) => to = next,
-            Answer::Bad => {
-                stop(rt, out, place)?;
-                return Ok(Answered::Stopped);
-            }
-        }
-        at = end;
+        let Some(end) = answer_record(out, place, record, words) else {
+            stop(rt, out, place)?;
+            return Ok(None);
+        };
+        to = end;
+        left = next;
     }
     rt.write_all(front(out, to))?;
-    Ok(Answered::Until(at))
+    Ok(Some(left.len()))
 }
 
-// Moves the bytes from a place to n to the front, and answers how many they are.
-fn to_front(input: &mut [u8], from: usize, n: usize) -> usize
-    requires { n ≤ length input.old }
-    ensures { result ≤ length input.new }
-{
-    if n < from {
-        return 0;
-    }
-    let rest = n - from;
-    let mut i = 0;
-    while i < rest {
-        input[i] = input[from + i];
-        i += 1;
-    }
-    rest
-}
-
-// Block by block, until the input ends or a record is bad. A record that a block cuts waits at the front for the rest of it. The count of
-// turns is there so that the loop is seen to end, and no input is that long.
+// Block by block, until the input ends or a record is bad. A record that a block cuts waits at the front for the rest of it. The turns are
+// counted so that the loop is seen to end, and no input is that long.
 fn run(
     rt: &impl Print,
     from: &mut impl Read,
@@ -384,23 +329,19 @@ fn run(
     requires { (block_bytes ≤ length out.old) × (words_for most_tokens ≤ length words.old) }
 {
     let mut kept = 0;
-    let mut turns = u64::MAX;
-    while 0 < turns {
-        if input.len() < kept {
-            return Ok(());
-        }
+    for _ in 0..u64::MAX {
         let n = kept + read_full(from, &mut input[kept..])?;
-        let Answered::Until(at) = answer_block(rt, &input[..n], words, out)? else {
+        let Some(left) = answer_block(rt, &input[..n], words, out)? else {
             return Ok(());
         };
         if n < input.len() {
-            if at < n {
+            if 0 < left {
                 stop(rt, out, 0)?;
             }
             return Ok(());
         }
-        kept = to_front(input, at, n);
-        turns -= 1;
+        input.copy_within(n - left..n, 0);
+        kept = left;
     }
     Ok(())
 }

@@ -21,13 +21,6 @@ const ROOM: usize = 64;
 // The length of the longest texts that are made.
 const LONGEST: usize = 40;
 
-// A number that was read, and the place after it.
-#[derive(Clone, Copy)]
-struct Spelt {
-    value: usize,
-    next: usize,
-}
-
 // What a hexadecimal digit is worth; 0 for any other byte.
 fn digit(b: u8) -> u8
     ensures { result ≤ 15 }
@@ -39,19 +32,13 @@ fn digit(b: u8) -> u8
     }
 }
 
-// The number whose digits start at a place and end at a space. Digits that a word has no room for are lost.
-fn number(line: &[u8], at: usize) -> Spelt {
+// The number that digits spell. Those that a word has no room for are lost.
+fn number(digits: &[u8]) -> usize {
     let mut value: usize = 0;
-    let mut i = at;
-    while i < line.len() {
-        let b = line[i];
-        if b == b' ' {
-            return Spelt { value, next: i };
-        }
-        value = (value << 4) | (digit(b) as usize);
-        i += 1;
+    for &b in digits {
+        value = (value << 4) | usize::from(digit(b));
     }
-    Spelt { value, next: i }
+    value
 }
 
 // The byte that two hexadecimal digits spell.
@@ -63,15 +50,11 @@ fn byte(high: u8, low: u8) -> u8 {
 fn bytes(hex: &[u8], text: &mut [u8]) -> usize
     ensures { result ≤ length text.new }
 {
-    let mut n = 0;
-    while n < text.len() {
-        if hex.len() / 2 <= n {
-            return n;
-        }
-        text[n] = byte(hex[n * 2], hex[n * 2 + 1]);
-        n += 1;
+    let (pairs, _) = hex.as_chunks::<2>();
+    for (slot, &[high, low]) in text.iter_mut().zip(pairs) {
+        *slot = byte(high, low);
     }
-    n
+    text.len().min(pairs.len())
 }
 
 // All that is written goes through here, but for the digits of a number.
@@ -174,21 +157,16 @@ fn closes(run: Option<QuotedRun>, wanted: usize, with_escape: bool) -> bool {
 fn lay(room: &mut [u8], at: usize, part: &[u8])
     ensures { length room.new ≡ length room.old }
 {
-    let mut i = 0;
-    let mut place = at;
-    while i < part.len() {
-        if room.len() <= place {
-            return;
+    if let Some(slots) = room.get_mut(at..) {
+        for (slot, &b) in slots.iter_mut().zip(part) {
+            *slot = b;
         }
-        room[place] = part[i];
-        place += 1;
-        i += 1;
     }
 }
 
 // The place of the last of so many bytes. Of none it is past the room, so that nothing is laid there.
 fn last_place(n: usize) -> usize {
-    if n == 0 { ROOM } else { n - 1 }
+    n.checked_sub(1).unwrap_or(ROOM)
 }
 
 // Whether a quoted run is what the scalar of a text is, with the opening quote before it.
@@ -225,72 +203,35 @@ fn say_both_quoted(rt: &impl Print, text: &[u8]) -> io::Result<()> {
     }
 }
 
-// The answers that a letter asks for.
-fn say_both(
-    rt: &impl Print,
-    name: u8,
-    text: &[u8],
-    classes: &[u8; data::BYTE_COUNT],
-) -> io::Result<()> {
-    if name == b'U' {
-        say_both_runs(rt, text, classes)
-    } else {
-        say_both_quoted(rt, text)
-    }
+// A text of so many bytes: full of the shape's first byte, ended by its second, with its others laid at a place. Past the end they are
+// laid too, where no cut may see them.
+fn shaped(shape: &[u8], n: usize, at: usize) -> Option<[u8; ROOM]> {
+    let [filler, last, laid @ ..] = shape else {
+        return None;
+    };
+    let mut room = [*filler; ROOM];
+    lay(&mut room, last_place(n), &[*last]);
+    lay(&mut room, at, laid);
+    Some(room)
 }
 
-// The text of so many bytes with the shape's own laid at a place. Past the end they are laid too, where no cut may see them.
-fn one_place(
+// The texts of every length, with a line for each: of each length a text for each place, and the end for the text without.
+fn sweep<F: Fn(&[u8]) -> io::Result<()>>(
     rt: &impl Print,
-    name: u8,
     shape: &[u8],
-    n: usize,
-    at: usize,
-    classes: &[u8; data::BYTE_COUNT],
+    say_both: F,
 ) -> io::Result<()>
-    requires { n ≤ 40 }
+    requires { F.IsAlwaysCallable say_both }
 {
-    if shape.len() < 2 {
-        return Ok(());
-    }
-    let mut room = [shape[0]; ROOM];
-    lay(&mut room, last_place(n), &shape[1..2]);
-    lay(&mut room, at, &shape[2..]);
-    say_both(rt, name, &room[..n], classes)
-}
-
-// The texts of so many bytes: a place for each byte, and the end for the text without.
-fn places(
-    rt: &impl Print,
-    name: u8,
-    shape: &[u8],
-    n: usize,
-    classes: &[u8; data::BYTE_COUNT],
-) -> io::Result<()>
-    requires { n ≤ 40 }
-{
-    let mut at = 0;
-    while at <= n {
-        one_place(rt, name, shape, n, at, classes)?;
-        at += 1;
-    }
-    Ok(())
-}
-
-// The texts of every length, with a line for each.
-fn sweep(
-    rt: &impl Print,
-    name: u8,
-    shape: &[u8],
-    classes: &[u8; data::BYTE_COUNT],
-) -> io::Result<()> {
-    let mut n = 0;
-    while n <= LONGEST {
+    for n in 0..=LONGEST {
         say(rt, b"\nof")?;
         say_number(rt, n)?;
         say(rt, b":")?;
-        places(rt, name, shape, n, classes)?;
-        n += 1;
+        for at in 0..=n {
+            if let Some(room) = shaped(shape, n, at) {
+                say_both(&room[..n])?;
+            }
+        }
     }
     Ok(())
 }
@@ -312,50 +253,31 @@ fn answer(
         b'q' => say_quoted(rt, cut::parse_quote_scalar(text)),
         b'Q' => say_quoted(rt, cut::strides::parse_quote_scalar(text)),
         b'v' => say_number(rt, cut::parse_variable(text)),
-        b'U' | b'D' => sweep(rt, name, text, classes),
+        b'U' => sweep(rt, text, |part| say_both_runs(rt, part, classes)),
+        b'D' => sweep(rt, text, |part| say_both_quoted(rt, part)),
         _ => say(rt, b" no such cut"),
     }
 }
 
 // A line: the letter, a space, the place, a space, the text.
 fn line_answer(rt: &impl Print, line: &[u8], classes: &[u8; data::BYTE_COUNT]) -> io::Result<()> {
-    if line.len() == 0 {
+    let [name, _, fields @ ..] = line else {
         return Ok(());
-    }
-    let place = number(line, 2);
+    };
+    let Some(space) = fields.iter().position(|&b| b == b' ') else {
+        return Ok(());
+    };
     let mut room = [0u8; ROOM];
-    let next = place.next;
-    if next < line.len() {
-        let n = bytes(&line[next + 1..], &mut room);
-        say(rt, line)?;
-        answer(rt, line[0], place.value, &room[..n], classes)?;
-        say(rt, b"\n")?;
-    }
-    Ok(())
+    let n = bytes(&fields[space + 1..], &mut room);
+    say(rt, line)?;
+    answer(rt, *name, number(&fields[..space]), &room[..n], classes)?;
+    say(rt, b"\n")
 }
 
-// The place of the LF that ends the line from a place on, or the end.
-fn line_end(input: &[u8], at: usize) -> usize
-    requires { at ≤ length input.now }
-    ensures { (at ≤ result) × (result ≤ length input.now) }
-{
-    let mut i = at;
-    while i < input.len() {
-        if input[i] == b'\n' {
-            return i;
-        }
-        i += 1;
-    }
-    i
-}
-
-// Each line of the input in turn.
+// Each line of the input in turn, whose last may have no LF.
 fn lines(rt: &impl Print, input: &[u8], classes: &[u8; data::BYTE_COUNT]) -> io::Result<()> {
-    let mut i = 0;
-    while i < input.len() {
-        let end = line_end(input, i);
-        line_answer(rt, &input[i..end], classes)?;
-        i = end + 1;
+    for line in input.split_inclusive(|&b| b == b'\n') {
+        line_answer(rt, line.strip_suffix(b"\n").unwrap_or(line), classes)?;
     }
     Ok(())
 }

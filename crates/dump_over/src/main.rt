@@ -1,4 +1,4 @@
-// The program `dump` again, run on one byte more than it reads.
+// The program `dump` again, run on one byte more than it reads: a program is tried on one input, so that this is one of its own.
 #![tactic(auto)]
 
 use input::read_full;

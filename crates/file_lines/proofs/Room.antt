@@ -25,12 +25,13 @@ use Rattle.file.specs.Open.{tokens_of, open_file}
 use Rattle.file.specs.Files.{Left, left, found_of, refuse_read, read_of, ReadOpened, ReadsAs, Reads}
 use Rattle.file.proofs.Reading.{reads-told}
 use Rattle.file.specs.Refusals.{number}
+use Rattle.report.specs.Dump.{refused_line}
 use Rattle.report.specs.Room.{longest_other, dump_bytes}
 use Rattle.put.specs.Append.{Wrote}
 use Rattle.put.proofs.Append.{append-fits}
 use Rattle.report.proofs.Room.{Fit, word-short, tokens-short, lines-short}
 use Rattle.report.proofs.Lengths.{two_short, hex_bytes-short}
-use Rattle.file_lines.specs.Lines.{refused_line, file_text, sheet_line, sheet_text, most_held, Reported, reported, report_sheet, report_whole, Held}
+use Rattle.file_lines.specs.Lines.{file_text, sheet_line, sheet_text, most_held, Reported, reported, report_sheet, report_whole, Held}
 use Rattle.file_lines.proofs.Told.{reads-given}
 
 -- ---- a refusal has a number of two digits
@@ -43,7 +44,6 @@ refusal_two TooLarge = omega arith
 refusal_two OtherCount = omega arith
 
 refused-short : (r : Refusal) → length (refused_line (number r)) ≤ 11
-unfolding refused_line
 refused-short r = simp length-append (omega (arith, two_short (number r) (refusal_two r)))
 
 -- a file that was written stands in its buffer

@@ -9,15 +9,10 @@ use Rattle.file.specs.Files.{Left, left, Reads}
 use Rattle.file.specs.Refusals.{number}
 use Rattle.put.specs.Append.{Wrote, append, whole}
 use Rattle.report.specs.Digits.{decimal}
-use Rattle.report.specs.Dump.{field, lines_from}
+use Rattle.report.specs.Dump.{field, lines_from, refused_line}
 use Rattle.report.specs.Room.{dump_bytes}
 use Rattle.report.specs.Sheets.{hex_bytes}
-use Rattle.report.specs.Words.{refused}
 use Rattle.file_lines.specs.Words as words
-
--- `refused NUMBER`
-unfoldable pub refused_line : ℕ → List ℕ
-refused_line n = refused ++ decimal n ++ (line_feed ∷ [])
 
 -- `file HEX`, of the file at the front of its buffer, or the refusal
 abbrev pub file_text : Result ℕ Refusal → List ℕ → List ℕ

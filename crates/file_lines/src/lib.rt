@@ -10,22 +10,14 @@ ghost use Rattle.file.specs.declared.layout.Version.TheVariants.{V1};
 ghost use Rattle.file.specs.Files.{write_of, ReadsAs};
 ghost use Rattle.put.specs.Append.{wrote, append};
 ghost use Rattle.report.specs.Room.{most_tokens};
-ghost use Rattle.file_lines.specs.Lines.{refused_line, sheet_line, reported, report_file, report_sheet, report_whole, Held};
+ghost use Rattle.file_lines.specs.Lines.{sheet_line, reported, report_file, report_sheet, report_whole, Held};
 
 use put::{front, put_byte, put_bytes};
 use report::limits::{DUMP_BYTES, TAPE_WORDS};
 use report::numbers::put_decimal;
+use report::refusals::put_refused_line;
 use report::sheets::put_hex_bytes;
 use report::tokens::{put_field, put_tokens};
-
-// Puts the line of a refusal: its number.
-fn put_refusal(out: &mut [u8], at: usize, number: u32) -> usize
-    ensures { wrote result out.new ≡ append out.old at (refused_line number) }
-{
-    let word = put_bytes(out, at, b"refused ");
-    let digits = put_decimal(out, word, number as u64);
-    put_byte(out, digits, b'\n')
-}
 
 // Writes a sheet for a text of a length as a file into a lent buffer, and puts the file or the refusal's number.
 pub fn put_filed(
@@ -47,7 +39,7 @@ pub fn put_filed(
             let bytes = put_hex_bytes(out, word, front(buffer, size));
             put_byte(out, bytes, b'\n')
         }
-        Err(refusal) => put_refusal(out, at, refusal.number()),
+        Err(refusal) => put_refused_line(out, at, refusal.number() as u64),
     }
 }
 
@@ -73,7 +65,7 @@ pub fn put_found(out: &mut [u8], at: usize, bytes: &[u8], words: &mut [u32]) -> 
             let next = put_sheet_line(out, at, found.text_length, found.count);
             put_tokens(out, next, words, found.count)
         }
-        Err(refusal) => put_refusal(out, at, refusal.number()),
+        Err(refusal) => put_refused_line(out, at, refusal.number() as u64),
     }
 }
 

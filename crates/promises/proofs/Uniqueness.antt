@@ -150,6 +150,7 @@ use Rattle.report.proofs.tokens.put_token.Reads as put_token
 use Rattle.report.proofs.tokens.put_tokens.Reads as put_tokens
 use Rattle.report.proofs.tokens.put_header.Reads as put_header
 use Rattle.report.proofs.tokens.put_refused.Reads as put_refused
+use Rattle.report.proofs.refusals.put_refused_line.Reads as put_refused_line
 use Rattle.report.proofs.dump.put_dump.Reads as put-dump
 use Rattle.report.proofs.dump.put_save.Reads as put-save
 use Rattle.report.proofs.dump.save_lines.Reads as save-lines
@@ -627,6 +628,7 @@ pub record Report : Type 0 where
   pub put_tokens : OneLine put_tokens.Post (λ κs xs. xs.0.now)
   pub put_header : OneLine put_header.Post (λ κs xs. xs.0.now)
   pub put_refused : OneLine put_refused.Post (λ κs xs. xs.0.now)
+  pub put_refused_line : OneLine put_refused_line.Post (λ κs xs. xs.0.now)
   pub put_bool : OneLine put_bool.Post (λ κs xs. xs.0.now)
   pub put_u64 : OneLine put_u64.Post (λ κs xs. xs.0.now)
   pub put_i64 : OneLine put_i64.Post (λ κs xs. xs.0.now)
@@ -660,6 +662,7 @@ report_calls =
       put_tokens = by_bytes _ _;
       put_header = by_bytes _ _;
       put_refused = by_bytes _ _;
+      put_refused_line = by_bytes _ _;
       put_bool = by_bytes _ _;
       put_u64 = by_bytes _ _;
       put_i64 = by_bytes _ _;

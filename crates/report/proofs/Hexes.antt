@@ -20,6 +20,7 @@ use Rattle.writer.specs.declared.Refusal.{Refusal}
 use Rattle.writer.specs.Write.{Left, left}
 use Rattle.report.specs.Sheets.{verdict, Judged, hex_bytes, view_text, written_text, reported, report_written}
 use Rattle.report.specs.Words as words
+use Rattle.sheet.specs.declared.views.Viewed.{Viewed}
 
 -- the digits of the byte at an index stand before those of the bytes after it
 pub hex-on : (bytes : List ℕ) (i : ℕ) → i < length bytes → hex_bytes (drop i bytes) ≡ hex 2 (get_or bytes i 0) ++ hex_bytes (drop (i + 1) bytes)

@@ -8,8 +8,7 @@ use Rattle.std.specs.Result.{result_unwrap_or}
 use Rattle.date.specs.declared.calendar.Date.{Date}
 use Rattle.date.specs.declared.refusals.DateError.{DateError}
 use Rattle.report.specs.Digits.{decimal}
-use Rattle.report.specs.Dump.{field}
-use Rattle.report.specs.Words as words
+use Rattle.report.specs.Dump.{field, refusal}
 
 -- year, month and day
 abbrev pub year_month_day : Date → List ℕ
@@ -25,7 +24,7 @@ date_line d = date_text (date_read d) ++ (line_feed ∷ [])
 
 -- the date of a count, or that it is refused
 abbrev pub refusal_text : DateError → List ℕ
-refusal_text e = words.refused ++ decimal (error_number_of e)
+refusal_text e = refusal (error_number_of e)
 
 abbrev pub told_text : Result Date DateError → List ℕ
 told_text (Ok t) = year_month_day t

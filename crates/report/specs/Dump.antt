@@ -58,9 +58,15 @@ lines_from i (t ∷ ts) = line_of i t ++ lines_from (i + 1) ts
 unfoldable pub header_of : ℕ → ℕ → List ℕ
 header_of count bom = words.tokens ++ decimal count ++ words.bom ++ decimal bom ++ (line_feed ∷ [])
 
--- `refused NUMBER PLACE`
+-- `refused NUMBER`, also as a line, and `refused NUMBER PLACE`
+abbrev pub refusal : ℕ → List ℕ
+refusal number = words.refused ++ decimal number
+
+abbrev pub refused_line : ℕ → List ℕ
+refused_line number = refusal number ++ (line_feed ∷ [])
+
 unfoldable pub refused_of : ℕ → ℕ → List ℕ
-refused_of number place = words.refused ++ decimal number ++ field place ++ (line_feed ∷ [])
+refused_of number place = refusal number ++ field place ++ (line_feed ∷ [])
 
 -- what a parse tells, by document 01's numbers: a refusal prints its line, and success a header and the tokens
 unfoldable pub lines_of : ParseTold → List ℕ

@@ -7,8 +7,10 @@ use Rattle.writer.specs.declared.Refusal.{Refusal}
 use Rattle.writer.specs.Refusals.{number}
 use Rattle.writer.specs.Write.{Left, left}
 use Rattle.put.specs.Append.{Wrote, append}
-use Rattle.report.specs.Digits.{decimal, hex}
+use Rattle.report.specs.Digits.{hex}
+use Rattle.report.specs.Dump.{refused_line}
 use Rattle.report.specs.Words as words
+use Rattle.sheet.specs.declared.views.Viewed.{Viewed}
 
 -- the verdict on a sheet
 abbrev pub verdict : Bool → List ℕ
@@ -25,14 +27,14 @@ hex_bytes [] = []
 hex_bytes (b ∷ bs) = hex 2 b ++ hex_bytes bs
 
 -- a token's part of the text, or the refusal
-abbrev pub view_text : List ℕ → Option View → List ℕ
+abbrev pub view_text : List ℕ → Option Viewed → List ℕ
 view_text text (Some v) = words.view ++ hex_bytes (take v.length (drop v.offset text)) ++ (line_feed ∷ [])
-view_text text None = words.refused ++ decimal (refusal_of None) ++ (line_feed ∷ [])
+view_text text None = refused_line (refusal_of None)
 
 -- the text that was written, which stands at the front of its buffer, or the refusal
 abbrev pub written_text : Result ℕ Refusal → List ℕ → List ℕ
 written_text (Ok size) buffer = words.text ++ hex_bytes (take size buffer) ++ (line_feed ∷ [])
-written_text (Err r) buffer = words.refused ++ decimal (number r) ++ (line_feed ∷ [])
+written_text (Err r) buffer = refused_line (number r)
 
 -- what was put, with the buffer and the scratch as the way back leaves them
 pub data Reported : Type 0 where

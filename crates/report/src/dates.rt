@@ -5,9 +5,10 @@ ghost use Rattle.report.specs.Dates.{year_month_day, date_text, date_line, refus
 
 use crate::numbers::put_decimal;
 use crate::readings::put_value;
+use crate::refusals;
 use crate::tokens::put_field;
 use date::{Date, DateError};
-use put::{put_byte, put_bytes};
+use put::put_byte;
 use scalar::Numbered;
 
 // Puts an `=`, and year, month and day.
@@ -45,8 +46,7 @@ pub fn put_date(out: &mut [u8], at: usize, d: &[u8]) -> usize
 fn put_refusal(out: &mut [u8], at: usize, e: DateError) -> usize
     ensures { wrote result out.new ≡ append out.old at (refusal_text e) }
 {
-    let word = put_bytes(out, at, b"refused ");
-    put_decimal(out, word, e.number() as u64)
+    refusals::put_refusal(out, at, e.number() as u64)
 }
 
 // Puts a date, or that it is refused.

@@ -12,6 +12,8 @@ pub mod limits;
 pub mod numbers;
 // The readings of a scalar.
 pub mod readings;
+// A refusal's number.
+pub mod refusals;
 // What is said of a sheet.
 pub mod sheets;
 // A dump's lines.

@@ -1,4 +1,5 @@
-// Numbers, most significant digit first: the digits of the quotient, and behind them the last one.
+// Numbers, most significant digit first: the digits of the quotient, and behind them the last one. The calls go as deep as there are
+// digits; a loop would find the last digit first, and need room of its own to turn them about.
 ghost use Rattle.std.specs.Prelude.{◌≡◌, ◌<◌, ◌≤◌};
 ghost use Rattle.put.specs.Append.{wrote, append};
 ghost use Rattle.report.specs.Digits.{glyph as glyph_of, decimal, hex_by, most_hex, hex};
@@ -44,10 +45,7 @@ fn put_hex_by(out: &mut [u8], at: usize, n: u64, digits: usize) -> usize
 pub fn put_hex(out: &mut [u8], at: usize, n: u64, digits: usize) -> usize
     ensures { wrote result out.new ≡ append out.old at (hex digits n) }
 {
-    if digits < MOST_HEX {
-        return put_hex_by(out, at, n, digits);
-    }
-    put_hex_by(out, at, n, MOST_HEX)
+    put_hex_by(out, at, n, digits.min(MOST_HEX))
 }
 
 // Puts a number with its sign, where it has a minus.

@@ -7,7 +7,6 @@ ghost use Rattle.report.specs.Digits.{decimal};
 ghost use Rattle.report.specs.Readings.{bool_text, u64_text, i64_text, carried_text, f64_text, exact_of, readings_of, left_text, leading_of};
 
 use crate::numbers::{put_decimal, put_hex, put_integer};
-use crate::tokens::bit;
 use put::put_byte;
 use scalar::{Numbered, ScalarError};
 
@@ -24,7 +23,7 @@ pub fn put_bool(out: &mut [u8], at: usize, r: Result<bool, ScalarError>) -> usiz
     ensures { wrote result out.new ≡ append out.old at (bool_text r) }
 {
     match r {
-        Ok(b) => put_value(out, at, bit(b)),
+        Ok(b) => put_value(out, at, u64::from(b)),
         Err(e) => put_decimal(out, at, e.number() as u64),
     }
 }

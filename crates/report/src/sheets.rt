@@ -8,7 +8,8 @@ ghost use Rattle.tape.specs.Words.{tokens_in};
 ghost use Rattle.writer.specs.Write.{write_of};
 ghost use Rattle.report.specs.Sheets.{Judged, hex_bytes, view_text, reported, report_written};
 
-use crate::numbers::{put_decimal, put_hex};
+use crate::numbers::put_hex;
+use crate::refusals::put_refused_line;
 use put::{front, put_byte, put_bytes};
 
 // Puts whether the first count tokens of the words are a sound sheet for a text of a length.
@@ -32,10 +33,8 @@ pub fn put_hex_bytes(out: &mut [u8], at: usize, bytes: &[u8]) -> usize
     ensures { wrote result out.new ≡ append out.old at (hex_bytes bytes.now) }
 {
     let mut next = at;
-    let mut i = 0;
-    while i < bytes.len() {
-        next = put_hex(out, next, bytes[i] as u64, 2);
-        i += 1;
+    for &byte in bytes {
+        next = put_hex(out, next, byte as u64, 2);
     }
     next
 }
@@ -59,11 +58,7 @@ pub fn put_view(
             let bytes = put_hex_bytes(out, word, sheet::views::view(text, words, count, index));
             put_byte(out, bytes, b'\n')
         }
-        None => {
-            let word = put_bytes(out, at, b"refused ");
-            let number = put_decimal(out, word, sheet::views::refusal(found) as u64);
-            put_byte(out, number, b'\n')
-        }
+        None => put_refused_line(out, at, sheet::views::refusal(found) as u64),
     }
 }
 
@@ -88,11 +83,6 @@ pub fn put_written(
             let bytes = put_hex_bytes(out, word, front(buffer, size));
             put_byte(out, bytes, b'\n')
         }
-        Err(refusal) => {
-            let number = refusal.number() as u64;
-            let word = put_bytes(out, at, b"refused ");
-            let digits = put_decimal(out, word, number);
-            put_byte(out, digits, b'\n')
-        }
+        Err(refusal) => put_refused_line(out, at, refusal.number() as u64),
     }
 }

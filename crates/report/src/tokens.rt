@@ -7,6 +7,7 @@ ghost use Rattle.parse.specs.Told.{bit};
 ghost use Rattle.report.specs.Dump.{name_of, field, line_of, lines_from, header_of, refused_of};
 
 use crate::numbers::put_decimal;
+use crate::refusals::put_refusal;
 use put::{put_byte, put_bytes};
 use tape::token::{ContainerKind, ScalarKind, Token};
 use tape::{codes, token, words};
@@ -83,19 +84,10 @@ pub fn put_tokens(out: &mut [u8], at: usize, tape: &[u32], count: u32) -> usize
 {
     let all = standing(tape, count);
     let mut next = at;
-    let mut i: u32 = 0;
-    while i < all {
+    for i in 0..all {
         next = put_token(out, next, i, words::token(tape, count, i));
-        i += 1;
     }
     next
-}
-
-// 1 or 0.
-pub(crate) fn bit(b: bool) -> u64
-    ensures { result ≡ bit b }
-{
-    if b { 1 } else { 0 }
 }
 
 // Puts the header of a dump.
@@ -105,7 +97,7 @@ pub fn put_header(out: &mut [u8], at: usize, count: u32, bom: bool) -> usize
     let tokens = put_bytes(out, at, b"tokens ");
     let counted = put_decimal(out, tokens, count as u64);
     let mark = put_bytes(out, counted, b" bom ");
-    let told = put_decimal(out, mark, bit(bom));
+    let told = put_decimal(out, mark, u64::from(bom));
     put_byte(out, told, b'\n')
 }
 
@@ -113,8 +105,7 @@ pub fn put_header(out: &mut [u8], at: usize, count: u32, bom: bool) -> usize
 pub fn put_refused(out: &mut [u8], at: usize, number: u64, place: u64) -> usize
     ensures { wrote result out.new ≡ append out.old at (refused_of number place) }
 {
-    let word = put_bytes(out, at, b"refused ");
-    let first = put_decimal(out, word, number);
+    let first = put_refusal(out, at, number);
     let second = put_field(out, first, place);
     put_byte(out, second, b'\n')
 }

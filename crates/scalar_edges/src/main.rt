@@ -2,8 +2,6 @@
 // readings make of it: `=` and the value, or the refusal's number; then the number of its kind.
 #![tactic(auto)]
 
-ghost use Rattle.std.specs.Prelude.{◌≤◌, length};
-
 use input::read_full;
 use scalar::{Numbered, ScalarError};
 use std::io;
@@ -18,30 +16,12 @@ fn main(rt: HostRuntime) -> io::Result<()> {
     write_lines(&rt, &text[..n])
 }
 
-// A line for each line of the text.
+// A line for each line of the text, whose last may have no LF.
 fn write_lines(rt: &impl Print, text: &[u8]) -> io::Result<()> {
-    let mut start = 0;
-    while start < text.len() {
-        let end = line_end(text, start);
-        write_readings(rt, &text[start..end])?;
-        start = end + 1;
+    for line in text.split_inclusive(|&byte| byte == b'\n') {
+        write_readings(rt, line.strip_suffix(b"\n").unwrap_or(line))?;
     }
     Ok(())
-}
-
-// The place of the next LF, or of the text's end.
-fn line_end(text: &[u8], start: usize) -> usize
-    requires { start ≤ length text.now }
-    ensures { (start ≤ result) × (result ≤ length text.now) }
-{
-    let mut i = start;
-    while i < text.len() {
-        if text[i] == b'\n' {
-            return i;
-        }
-        i += 1;
-    }
-    i
 }
 
 // The five readings of a scalar.

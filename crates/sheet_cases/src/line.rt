@@ -3,113 +3,104 @@
 // A line has at most so many numbers; what comes after them is left out.
 pub const MOST: usize = 256;
 
-// What a line has given so far: its first byte, the number that is being read, and how many numbers have been put away.
+// What a line's first byte says that it is.
 #[derive(Clone, Copy)]
-pub struct Line {
-    pub kind: u8,
-    pub inside: bool,
-    pub value: u64,
-    pub count: usize,
+pub enum Kind {
+    Check,
+    View,
+    Token,
+    Remark,
 }
 
-// A line of which nothing has been read.
-pub(crate) fn new() -> Line {
-    Line {
-        kind: 0,
-        inside: false,
-        value: 0,
-        count: 0,
+// What a line has given so far: its kind, the number that is being read, and the numbers that have been put away, of which the first
+// `count` are its own and those behind them are left from the lines before.
+#[derive(Drop)]
+pub struct Line {
+    pub kind: Option<Kind>,
+    reading: Option<u64>,
+    pub numbers: [u64; MOST],
+    count: usize,
+}
+
+// The kind of the lines that a byte begins. A NUL begins none.
+fn kind_of(byte: u8) -> Option<Kind> {
+    match byte {
+        0 => None,
+        b'c' => Some(Kind::Check),
+        b'v' => Some(Kind::View),
+        b't' => Some(Kind::Token),
+        _ => Some(Kind::Remark),
     }
 }
 
 // A number with one digit more, or as it is where it would no longer fit.
 fn longer(value: u64, digit: u8) -> u64 {
-    let d = digit as u64;
-    if value <= (u64::MAX - d) / 10 {
-        value * 10 + d
-    } else {
-        value
-    }
+    let tens = value.checked_mul(10);
+    tens.and_then(|t| t.checked_add(u64::from(digit)))
+        .unwrap_or(value)
 }
-
-// The line once the number that is being read, if any, has been put away.
-pub(crate) fn put_away(line: Line, numbers: &mut [u64; MOST]) -> Line {
-    let count = line.count;
-    if line.inside {
-        if count < MOST {
-            numbers[count] = line.value;
-            return Line {
-                kind: line.kind,
-                inside: false,
-                value: 0,
-                count: count + 1,
-            };
-        }
-    }
-    Line {
-        kind: line.kind,
-        inside: false,
-        value: 0,
-        count,
-    }
-}
-
-// The line after one byte more.
-pub(crate) fn read(line: Line, byte: u8, numbers: &mut [u64; MOST]) -> Line {
-    if line.kind == 0 {
-        return Line {
-            kind: byte,
-            inside: false,
-            value: 0,
-            count: 0,
-        };
-    }
-    if byte < b'0' {
-        return put_away(line, numbers);
-    }
-    if b'9' < byte {
-        return put_away(line, numbers);
-    }
-    Line {
-        kind: line.kind,
-        inside: true,
-        value: longer(line.value, byte - b'0'),
-        count: line.count,
-    }
-}
-
-// The largest number of a word.
-const GREATEST_WORD: u64 = 4294967295;
 
 // A number as a word, the largest where it does not fit.
 fn word(value: u64) -> u32 {
-    if value <= GREATEST_WORD {
-        value as u32
-    } else {
-        u32::MAX
-    }
+    u32::try_from(value).unwrap_or(u32::MAX)
 }
 
-// Lays the numbers from a place on down as words.
-pub(crate) fn fill(numbers: &[u64; MOST], from: usize, words: &mut [u32; MOST]) {
-    let mut i = 0;
-    let mut at = from;
-    while at < MOST {
-        words[i] = word(numbers[at]);
-        i += 1;
-        at += 1;
-    }
-}
-
-// The words of a line when its first numbers are something else.
-pub(crate) fn words<'a>(line: Line, first: usize, all: &'a [u32; MOST]) -> &'a [u32] {
-    let s: &[u32] = all;
-    let count = line.count;
-    if first <= count {
-        let n = count - first;
-        if n <= s.len() {
-            return &s[..n];
+impl Line {
+    // A line of which nothing has been read, and before which none was.
+    pub(crate) fn new() -> Line {
+        Line {
+            kind: None,
+            reading: None,
+            numbers: [0; MOST],
+            count: 0,
         }
     }
-    &s[..0]
+
+    // The next line begins.
+    pub(crate) fn restart(&mut self) {
+        self.kind = None;
+        self.reading = None;
+        self.count = 0;
+    }
+
+    // Whether the line is a case, and no remark.
+    pub(crate) fn is_case(&self) -> bool {
+        match self.kind {
+            Some(Kind::Check | Kind::View | Kind::Token) => true,
+            Some(Kind::Remark) | None => false,
+        }
+    }
+
+    // Puts the number that is being read away, if any.
+    pub(crate) fn put_away(&mut self) {
+        let Some(value) = self.reading.take() else {
+            return;
+        };
+        if let Some(slot) = self.numbers.get_mut(self.count) {
+            *slot = value;
+            self.count += 1;
+        }
+    }
+
+    // Takes one byte more.
+    pub(crate) fn read(&mut self, byte: u8) {
+        if self.kind.is_none() {
+            self.kind = kind_of(byte);
+            return;
+        }
+        match byte {
+            b'0'..=b'9' => self.reading = Some(longer(self.reading.unwrap_or(0), byte - b'0')),
+            _ => self.put_away(),
+        }
+    }
+
+    // The words of the line when its first numbers are something else, laid down in the room.
+    pub(crate) fn words<'a>(&self, first: usize, room: &'a mut [u32; MOST]) -> &'a [u32] {
+        let numbers = self.numbers.get(first..self.count).unwrap_or(&[]);
+        for (slot, &number) in room.iter_mut().zip(numbers) {
+            *slot = word(number);
+        }
+        let words: &[u32] = room;
+        words.get(..numbers.len()).unwrap_or(words)
+    }
 }

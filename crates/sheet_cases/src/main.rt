@@ -13,7 +13,7 @@ use std::io;
 // The numbers of a line.
 mod line;
 
-use crate::line::Line;
+use crate::line::{Kind, Line};
 
 // How many bytes of the input count.
 const MOST_BYTES: usize = 65536;
@@ -24,40 +24,30 @@ fn print_number(rt: &impl Print, n: usize) -> io::Result<()> {
 }
 
 // check LENGTH COUNT WORD ..
-fn run_check(rt: &impl Print, line: Line, numbers: &[u64; line::MOST]) -> io::Result<()> {
-    let mut words = [0u32; line::MOST];
-    line::fill(numbers, 2, &mut words);
-    if sheet::check(
-        numbers[0] as usize,
-        line::words(line, 2, &words),
-        numbers[1] as usize,
-    ) {
+fn run_check(rt: &impl Print, line: &Line) -> io::Result<()> {
+    let mut room = [0u32; line::MOST];
+    let text_length = line.numbers[0] as usize;
+    let count = line.numbers[1] as usize;
+    if sheet::check(text_length, line.words(2, &mut room), count) {
         println!(rt; "sound")
     } else {
         println!(rt; "unsound")
     }
 }
 
-// The first bytes of a text, or all of it.
-fn first(text: &[u8], length: usize) -> &[u8] {
-    if length <= text.len() {
-        &text[..length]
-    } else {
-        text
-    }
+// The first bytes of the alphabet, or all of it.
+fn letters(length: usize) -> &'static [u8] {
+    let alphabet: &[u8] = b"abcdefghijklmnopqrstuvwxyz";
+    alphabet.get(..length).unwrap_or(alphabet)
 }
 
 // view LENGTH COUNT INDEX WORD ..
-fn run_view(rt: &impl Print, line: Line, numbers: &[u64; line::MOST]) -> io::Result<()> {
-    let mut words = [0u32; line::MOST];
-    line::fill(numbers, 3, &mut words);
-    print_view(
-        rt,
-        first(b"abcdefghijklmnopqrstuvwxyz", numbers[0] as usize),
-        line::words(line, 3, &words),
-        numbers[1] as usize,
-        numbers[2] as usize,
-    )
+fn run_view(rt: &impl Print, line: &Line) -> io::Result<()> {
+    let mut room = [0u32; line::MOST];
+    let text = letters(line.numbers[0] as usize);
+    let count = line.numbers[1] as usize;
+    let index = line.numbers[2] as usize;
+    print_view(rt, text, line.words(3, &mut room), count, index)
 }
 
 // Writes what the two calls for a view answer.
@@ -85,12 +75,11 @@ fn print_view(
 }
 
 // token COUNT INDEX WORD ..
-fn run_token(rt: &impl Print, line: Line, numbers: &[u64; line::MOST]) -> io::Result<()> {
-    let mut words = [0u32; line::MOST];
-    line::fill(numbers, 2, &mut words);
-    let count = numbers[0] as usize;
-    let index = numbers[1] as usize;
-    print_token(rt, line::words(line, 2, &words), count, index)
+fn run_token(rt: &impl Print, line: &Line) -> io::Result<()> {
+    let mut room = [0u32; line::MOST];
+    let count = line.numbers[0] as usize;
+    let index = line.numbers[1] as usize;
+    print_token(rt, line.words(2, &mut room), count, index)
 }
 
 // Writes what the two calls for a token answer.
@@ -101,57 +90,35 @@ fn print_token(rt: &impl Print, words: &[u32], count: usize, index: usize) -> io
 }
 
 // Runs a line that is whole.
-fn run(rt: &impl Print, line: Line, numbers: &[u64; line::MOST]) -> io::Result<()> {
-    let kind = line.kind;
-    if kind == b'c' {
-        run_check(rt, line, numbers)
-    } else if kind == b'v' {
-        run_view(rt, line, numbers)
-    } else if kind == b't' {
-        run_token(rt, line, numbers)
-    } else {
-        println!(rt)
+fn run(rt: &impl Print, line: &Line) -> io::Result<()> {
+    match line.kind {
+        Some(Kind::Check) => run_check(rt, line),
+        Some(Kind::View) => run_view(rt, line),
+        Some(Kind::Token) => run_token(rt, line),
+        Some(Kind::Remark) | None => println!(rt),
     }
-}
-
-// Whether a line is a case.
-fn is_case(kind: u8) -> bool {
-    if kind == b'c' {
-        return true;
-    }
-    if kind == b'v' {
-        return true;
-    }
-    kind == b't'
 }
 
 // One byte of the input: the end of a line runs it, a byte of a remark is written.
-fn step(
-    rt: &impl Print,
-    before: Line,
-    byte: u8,
-    numbers: &mut [u64; line::MOST],
-) -> io::Result<Line> {
+fn step(rt: &impl Print, line: &mut Line, byte: u8) -> io::Result<()> {
     if byte == b'\n' {
-        let line = line::put_away(before, numbers);
-        run(rt, line, numbers)?;
-        return Ok(line::new());
+        line.put_away();
+        run(rt, line)?;
+        line.restart();
+        return Ok(());
     }
-    let line = line::read(before, byte, numbers);
-    if !is_case(line.kind) {
+    line.read(byte);
+    if !line.is_case() {
         rt.write_all(&[byte])?;
     }
-    Ok(line)
+    Ok(())
 }
 
-// Runs every line.
+// Runs every line that ends. One that the input cuts off is not run.
 fn run_all(rt: &impl Print, input: &[u8]) -> io::Result<()> {
-    let mut numbers = [0u64; line::MOST];
-    let mut line = line::new();
-    let mut i = 0;
-    while i < input.len() {
-        line = step(rt, line, input[i], &mut numbers)?;
-        i += 1;
+    let mut line = Line::new();
+    for &byte in input {
+        step(rt, &mut line, byte)?;
     }
     Ok(())
 }

@@ -5,11 +5,9 @@ use borrow.Author.Rules.{rules}
 use Rattle.answers.proofs.Fits.{next_near}
 use Rattle.answers.proofs.answer_block.Goals as goal
 
-pub loop-at-preserved : goal.loop-at-preserved
-loop-at-preserved g c = (
+pub loop-kind-preserved : goal.loop-kind-preserved
+loop-kind-preserved g c = (
   search rules,
-  search rules,
-  search rules,
-  (let near = next_near _ _ _ _ _ _ _ c.in-Put.is c.answer_record.ensures in
+  (let near = next_near _ _ _ _ _ _ _ c.in-Some-answer_record.is c.answer_record.ensures in
       search rules),
 )

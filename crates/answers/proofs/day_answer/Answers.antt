@@ -6,4 +6,4 @@ use Rattle.answers.proofs.day_answer.Goals as goal
 
 pub returns : goal.returns
 returns c =
-    record { holds = day-all _ _ _ _ _ c.word_at.ensures c.if-body-ne-WORD.false c.put_date_of.ensures (search rules) }
+    record { holds = day-all _ _ _ _ _ c.word_at.ensures c.if-asked-ne-WORD.false c.put_date_of.ensures (search rules) }

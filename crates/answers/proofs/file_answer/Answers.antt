@@ -9,4 +9,4 @@ use Rattle.answers.proofs.file_answer.Goals as goal
 pub returns : goal.returns
 returns c =
     let kept = c.put_filed.auto.buffer in
-    record { holds = filed-all _ _ _ _ _ c.put_filed.ensures (omega (arith, kept, length-take {A = ℕ}, c.least-room.ensures)) c.requires }
+    record { holds = filed-all _ _ _ _ _ c.put_filed.ensures (omega (arith, kept, length-take {A = ℕ}, c.min-room.ensures)) c.requires }

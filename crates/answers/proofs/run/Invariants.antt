@@ -1,11 +1,7 @@
--- `answers::run` is safe and ends: the count of turns falls.
-use mathlib.Core.Path.{◌≡◌}
+-- `answers::run` is safe: what is kept stands within the input.
+use Prim.Native.Nat.{◌≤◌}
 use lib.ListN.{length}
 use Rattle.answers.proofs.run.Given as goal
 
-abbrev pub invariant-loop-turns : goal.invariant-loop-turns
-invariant-loop-turns g l =
-    (length l.input ≡ length l.initial.input) × (length l.words ≡ length l.initial.words) × (length l.out ≡ length l.initial.out)
-
-abbrev pub decreases-loop-turns : goal.decreases-loop-turns
-decreases-loop-turns g l = l.turns
+abbrev pub invariant-loop : goal.invariant-loop
+invariant-loop g l = l.kept ≤ length l.input

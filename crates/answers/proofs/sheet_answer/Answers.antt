@@ -9,5 +9,5 @@ use Rattle.answers.proofs.sheet_answer.Goals as goal
 pub returns : goal.returns
 returns c =
     let put = c.put_found.ensures in
-    let lent = length-take-le _ _ (omega (arith, c.least-room.ensures)) ∙ c.least-room.ensures in
+    let lent = length-take-le _ _ (omega (arith, c.min-room.ensures)) ∙ c.min-room.ensures in
     record { holds = found_all _ _ _ _ _ c.put_found.new.words put.lines put.held lent c.requires.1 c.requires.0 }

@@ -12,5 +12,5 @@ pub returns : goal.returns
 returns c =
     let put = c.put_dump.ensures in
     record {
-      holds = dump-all _ _ _ _ _ put.lines put.held (length-take-le _ _ (omega arith) ∙ ap words_for c.least-room.ensures) (search rules);
+      holds = dump-all _ _ _ _ _ put.lines put.held (length-take-le _ _ (omega arith) ∙ ap words_for c.min-room.ensures) (search rules);
     }

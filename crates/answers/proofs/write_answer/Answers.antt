@@ -9,4 +9,4 @@ use Rattle.answers.proofs.write_answer.Goals as goal
 pub returns : goal.returns
 returns c =
     let kept = c.put_written.auto.buffer in
-    record { holds = written_all _ _ _ _ _ c.put_written.ensures (omega (arith, kept, length-take {A = ℕ}, c.least-room.ensures)) c.requires }
+    record { holds = written_all _ _ _ _ _ c.put_written.ensures (omega (arith, kept, length-take {A = ℕ}, c.min-room.ensures)) c.requires }

@@ -6,7 +6,7 @@ use Prim.Native.Nat.{ℕ}
 use Rattle.data.specs.Bytes.{line_feed}
 use Rattle.put.proofs.Append.{chain}
 use Rattle.report.specs.Sheets.{hex_bytes}
-use Rattle.file_lines.specs.Lines.{refused_line}
+use Rattle.report.specs.Dump.{refused_line}
 use Rattle.file_lines.specs.Words as words
 use Rattle.file_lines.proofs.Told.{filed_as}
 use Rattle.file_lines.proofs.put_filed.Goals as goal
@@ -19,5 +19,5 @@ returns-in-Ok c =
 
 pub returns-in-Err : goal.returns-in-Err
 returns-in-Err c =
-    filed_as _ _ _ c.write.ensures c.in-Err.is c.put_refusal.ensures
+    filed_as _ _ _ c.write.ensures c.in-Err.is c.put_refused_line.ensures
     (ap refused_line c.number.ensures)

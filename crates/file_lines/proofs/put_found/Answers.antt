@@ -2,7 +2,7 @@
 -- Assumes nothing.
 use mathlib.Core.Path.{refl, ap}
 use Rattle.put.proofs.Append.{chain}
-use Rattle.file_lines.specs.Lines.{refused_line}
+use Rattle.report.specs.Dump.{refused_line}
 use Rattle.file_lines.proofs.Told.{found_as}
 use Rattle.file_lines.proofs.Room.{sheet-held, refusal-held}
 use borrow.Author.Rules.{rules}
@@ -25,7 +25,7 @@ pub returns-in-Err : goal.returns-in-Err
 returns-in-Err c =
     let words = c.read.new.words in
     record {
-      lines = found_as _ _ _ _ words c.read.ensures c.in-Err.is c.put_refusal.ensures
+      lines = found_as _ _ _ _ words c.read.ensures c.in-Err.is c.put_refused_line.ensures
           (ap refused_line c.number.ensures);
       held = refusal-held _ _ words c.read.ensures c.in-Err.is;
     }

@@ -1,12 +1,10 @@
 -- `file_lines::put_sheet_line` meets its contract: its parts one behind the other.
 -- Assumes nothing.
+use borrow.Author.Rules.{rules}
 use Rattle.put.proofs.Append.{chain}
 use Rattle.file_lines.specs.Lines.{sheet_line}
 use Rattle.file_lines.proofs.put_sheet_line.Goals as goal
 
 pub returns : goal.returns
 unfolding sheet_line
-returns c =
-    chain _ _ _ _
-    (chain _ _ _ _ (chain _ _ _ _ c.put_bytes-word.ensures c.put_decimal-size.ensures) c.put_field-counted.ensures)
-    c.put_byte.ensures
+returns c = search (rules, chain)

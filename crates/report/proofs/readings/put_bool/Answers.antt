@@ -13,7 +13,7 @@ pub returns-in-Ok : goal.returns-in-Ok
 returns-in-Ok c =
     same_bytes _ _ _ _
     c.put_value.ensures
-    (ap (λ (n : ℕ). equals ∷ [] ++ decimal n) c.bit.ensures ∙ sym (ap bool_text c.in-Ok.is))
+    (ap (λ (n : ℕ). equals ∷ [] ++ decimal n) c.from.ensures ∙ sym (ap bool_text c.in-Ok.is))
 
 pub returns-in-Err : goal.returns-in-Err
 returns-in-Err c = same_bytes _ _ _ _ c.put_decimal.ensures (ap decimal c.number.ensures ∙ sym (ap bool_text c.in-Err.is))

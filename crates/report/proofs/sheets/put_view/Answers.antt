@@ -14,8 +14,5 @@ returns-in-At c =
 
 pub returns-in-NoScalar : goal.returns-in-NoScalar
 returns-in-NoScalar c =
-    same_bytes _ _ _ _
-    (chain _ _ _ _
-    (chain _ _ _ _ c.put_bytes-word-in-NoScalar.ensures c.put_decimal-number.ensures)
-    c.put_byte-in-NoScalar.ensures)
+    same_bytes _ _ _ _ c.put_refused_line.ensures
     (view-refused _ _ _ _ c.view_of-found.ensures c.in-NoScalar.is c.refusal.ensures)

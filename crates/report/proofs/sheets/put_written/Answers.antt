@@ -5,7 +5,7 @@ use mathlib.Core.List.{List, [], ◌∷◌, ◌++◌}
 use Prim.Native.Nat.{ℕ}
 use Rattle.data.specs.Bytes.{line_feed}
 use Rattle.put.proofs.Append.{chain}
-use Rattle.report.specs.Digits.{decimal}
+use Rattle.report.specs.Dump.{refused_line}
 use Rattle.report.specs.Sheets.{hex_bytes}
 use Rattle.report.specs.Words as words
 use Rattle.report.proofs.Hexes.{written_as}
@@ -20,5 +20,4 @@ returns-in-Ok c =
 pub returns-in-Err : goal.returns-in-Err
 returns-in-Err c =
     written_as _ _ _ c.write.ensures c.in-Err.is
-    (chain _ _ _ _ (chain _ _ _ _ c.put_bytes-word-in-Err.ensures c.put_decimal-digits.ensures) c.put_byte-in-Err.ensures)
-    (ap (λ (n : ℕ). words.refused ++ decimal n ++ (line_feed ∷ [])) c.number-number.ensures)
+    c.put_refused_line.ensures (ap refused_line c.number.ensures)

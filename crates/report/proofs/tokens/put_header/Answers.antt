@@ -14,5 +14,5 @@ returns c =
     (chain _ _ _ _
     (chain _ _ _ _ c.put_bytes-tokens.ensures c.put_decimal-counted.ensures)
     c.put_bytes-mark.ensures)
-    (same_bytes _ _ _ _ c.put_decimal-told.ensures (ap decimal c.bit.ensures)))
+    (same_bytes _ _ _ _ c.put_decimal-told.ensures (ap decimal c.from.ensures)))
     c.put_byte.ensures
