@@ -43,6 +43,8 @@ use Rattle.promises.specs.Mixed.{Mixes}
 use Rattle.promises.specs.Room.{tape_of, name_ended, parameter_lays, key_lays, is_cut, open_lays, is_scalar, value_lays, state_lays, turn_lays, and_one}
 use Rattle.promises.specs.Room.{laid_by}
 use Rattle.promises.proofs.Alike.{spare, spare-few, Going, Alike, Paid, laying-alike, laying-free, added_sized, mixed-sized}
+use Rattle.tape.proofs.Makers.{by_opened}
+use Rattle.tape.specs.Token.{opened}
 
 -- which token the state lays down first
 module _ (text : List ℕ) (t : Tape) (m : Machine) where
@@ -128,10 +130,12 @@ and_one-few c false = omega arith
 -- ---- what each move pays
 -- a parent that is taken up
 resumed-mixes : (up : Option Container) → Mixes (state_in up) (mixed_in up)
-resumed-mixes (Container.Opened Array link mixed) = tt
-resumed-mixes (Container.Opened Object link true) = tt
-resumed-mixes (Container.Opened Object link false) = refl
-resumed-mixes None = refl
+resumed-mixes up = by_opened (λ c. Mixes (state_in c) (mixed_in c)) go refl up
+  where
+    go : (kind : ContainerKind) (link : ℕ) (mixed : Bool) → Mixes (state_in (opened kind link mixed)) mixed
+    go Array link mixed = tt
+    go Object link true = tt
+    go Object link false = refl
 
 settles-mixes : {kind : ContainerKind} {state : State} → Settles kind state → Mixes state false
 settles-mixes with_key = refl

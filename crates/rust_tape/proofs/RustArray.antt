@@ -14,7 +14,7 @@ use Rattle.data.proofs.Cases.{by_bool}
 use Rattle.data.specs.Bytes.{exclamation, less_than, equals, greater_than, brace_open, brace_close}
 use Rattle.data.specs.Classes.{among}
 use Rattle.operator.specs.declared.Operator as Ours
-use Rattle.std.specs.Prelude.{Some, None}
+use Rattle.std.specs.Prelude.{Some, None, Option}
 use Rattle.operator.specs.Operators.{number_of, sighted}
 use Rattle.tape.specs.declared.token.Token.{Token}
 use Rattle.tape.specs.declared.token.ContainerKind.TheVariants.{Array}
@@ -120,7 +120,7 @@ module _ (cut : List ℕ → ℕ) (text : List ℕ) (ts : List Token) (m : Machi
   array_close-same : Kept ts m.parent → Same text m.count (Rust.array_close (source cut text) parser) (array_close tape m)
   unfolding Rust.array_close array_close close close_at lay add replace token_at
   array_close-same s =
-      let parent : Containers.Container = container_of (nth ts m.parent) in
+      let parent : Option Containers.Container = container_of (nth ts m.parent) in
       by_bool (nothing_open m.parent (parent_of parent))
       (λ e. rw (Rust.array_close, open_test ts m.parent e, place, array_close, e) (refl, refl, long))
       (λ e.

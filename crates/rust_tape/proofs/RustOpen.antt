@@ -1,6 +1,6 @@
 -- The Rust's turn in ParseOpen is ours.
 -- Assumes nothing.
-use Rattle.std.specs.Prelude.{None}
+use Rattle.std.specs.Prelude.{None, Option}
 use Prim.Native.Nat.{ℕ, ◌+◌, ◌-◌, ◌≤◌, ◌<◌}
 use mathlib.Core.Path.{◌≡◌, refl, sym, ◌∙◌, ap}
 use mathlib.Core.Bool.{Bool, true, false}
@@ -44,12 +44,14 @@ use Rattle.rust_tape.proofs.RustReads.{rust_tape, tape-length, laid-scalar, laid
 use Rattle.rust_tape.proofs.RustReads.{container-read, mode_same, state-same}
 use Rattle.rust_tape.proofs.RustTurns.{parser_of, Same}
 use Rattle.rust_tape.proofs.RustParameter.{located, parameter-same}
+use Rattle.tape.proofs.Makers.{by_opened}
 
-by-opened : {P : Type 0} (c : Containers.Container) → ((link : ℕ) (flag : Bool) → c ≡ opened Array link flag → P)
+by-opened : {P : Type 0} (c : Option Containers.Container) → ((link : ℕ) (flag : Bool) → c ≡ opened Array link flag → P)
     → ((link : ℕ) (flag : Bool) → c ≡ opened Object link flag → P) → (c ≡ None → P) → P
-by-opened (Containers.TheVariants.Opened Array link flag) f g h = f link flag refl
-by-opened (Containers.TheVariants.Opened Object link flag) f g h = g link flag refl
-by-opened None f g h = h refl
+by-opened {P} c f g h =
+    by_opened (λ x. c ≡ x → P)
+    (elim [ Array ↦ λ link flag e. f link flag e | Object ↦ λ link flag e. g link flag e ])
+    h c refl
 
 -- ---- the flag of the parent: our tokens behind it are the Rust's, as many as before
 pub record Flagged (text : List ℕ) (state : ParseState) (ts : List Token) (m : Machine) : Type 0 where
@@ -166,7 +168,7 @@ module _ (cut : List ℕ → ℕ) (text : List ℕ) (ts : List Token) (m : Machi
   unfolding Rust.open_close open_empty close_at lay add replace token_at
   open_empty-same =
       let last : m.count - 1 + 1 ≡ m.count = omega arith in
-      let around : Containers.Container = container_of (nth ts m.parent) in
+      let around : Option Containers.Container = container_of (nth ts m.parent) in
       rw (
         Rust.open_close,
         long,

@@ -43,6 +43,7 @@ use Rattle.promises.proofs.Links.Nest.{by-below, opener-below}
 use Rattle.promises.proofs.Links.Rows.{not_scalar}
 use Rattle.promises.proofs.Links.Kept.{link_at, Kept, link-container}
 use Rattle.promises.proofs.Links.Closing.{reads-opener, in_container}
+use Rattle.tape.proofs.Makers.{by_opened}
 
 -- ---- a token as the Rust has it; what is no token is read as one that opens nothing and is no scalar
 unfoldable pub read : Token → TextToken
@@ -247,9 +248,12 @@ by_number n f g =
     g (rw (operator_as_rust, e1, e2, e3, e4, e5, e6, e7, e8))))))))))
 
 -- a container, by the Rust's match and by ours
-abbrev pub as_container : Containers.Container → Rust.Container
-as_container (Containers.TheVariants.Opened Array link mixed) = Rust.AnArray link mixed
-as_container (Containers.TheVariants.Opened Object link mixed) = Rust.AnObject link mixed
+abbrev pub container_as : ContainerKind → ℕ → Bool → Rust.Container
+container_as Array link mixed = Rust.AnArray link mixed
+container_as Object link mixed = Rust.AnObject link mixed
+
+abbrev pub as_container : Option Containers.Container → Rust.Container
+as_container (Some c) = container_as c.kind c.link c.mixed
 as_container None = Rust.Neither
 
 token_container : (t : Token) → Rust.container (some (read t)) ≡ as_container (container_of t)
@@ -265,27 +269,28 @@ pub container-read : (ts : List Token) (i : ℕ) → Rust.container (Rust.get (r
 container-read ts i = get-read Rust.container refl ts i ∙ token_container (nth ts i)
 
 -- what a container is read for
-pub ends_same : (c : Containers.Container) → Rust.its_end (as_container c) ≡ parent_of c
-ends_same (Containers.TheVariants.Opened Array end mixed) = refl
-ends_same (Containers.TheVariants.Opened Object end mixed) = refl
-ends_same None = refl
+pub ends_same : (c : Option Containers.Container) → Rust.its_end (as_container c) ≡ parent_of c
+ends_same c =
+    by_opened (λ c. Rust.its_end (as_container c) ≡ parent_of c) (elim [ Array ↦ λ link mixed. refl | Object ↦ λ link mixed. refl ]) refl c
 
-pub mode_same : (c : Containers.Container) → Rust.mode_in (as_container c) ≡ mixed_in c
-mode_same (Containers.TheVariants.Opened Array end mixed) = refl
-mode_same (Containers.TheVariants.Opened Object end mixed) = refl
-mode_same None = refl
+pub mode_same : (c : Option Containers.Container) → Rust.mode_in (as_container c) ≡ mixed_in c
+mode_same c =
+    by_opened (λ c. Rust.mode_in (as_container c) ≡ mixed_in c) (elim [ Array ↦ λ link mixed. refl | Object ↦ λ link mixed. refl ]) refl c
 
-pub state-same : (c : Containers.Container) → Rust.state_in (as_container c) ≡ as_state (state_in c)
-state-same (Containers.TheVariants.Opened Array end mixed) = refl
-state-same (Containers.TheVariants.Opened Object end true) = refl
-state-same (Containers.TheVariants.Opened Object end false) = refl
-state-same None = refl
+pub state-same : (c : Option Containers.Container) → Rust.state_in (as_container c) ≡ as_state (state_in c)
+state-same c = by_opened (λ c. Rust.state_in (as_container c) ≡ as_state (state_in c)) go refl c
+  where
+    go : (kind : ContainerKind) (link : ℕ) (mixed : Bool)
+        → Rust.state_in (as_container (opened kind link mixed)) ≡ as_state (state_in (opened kind link mixed))
+    go Array link mixed = refl
+    go Object link true = refl
+    go Object link false = refl
 
-pub kind-same : (c : Containers.Container) (end : ℕ) (mixed : Bool)
+pub kind-same : (c : Option Containers.Container) (end : ℕ) (mixed : Bool)
     → Rust.closed_as (Rust.is_array (as_container c)) end mixed ≡ opener_as (own_kind c) end mixed
-kind-same (Containers.TheVariants.Opened Array link flag) end mixed = refl
-kind-same (Containers.TheVariants.Opened Object link flag) end mixed = refl
-kind-same None end mixed = refl
+kind-same c end mixed =
+    by_opened (λ c. Rust.closed_as (Rust.is_array (as_container c)) end mixed ≡ opener_as (own_kind c) end mixed)
+    (elim [ Array ↦ λ link flag. refl | Object ↦ λ link flag. refl ]) refl c
 
 -- ---- what stands last: an Unquoted, another scalar, an End, or none of these
 -- what stands is told by its code alone

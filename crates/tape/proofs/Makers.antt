@@ -1,7 +1,7 @@
 -- What each maker makes is read back as what it was made of: its code, as a container, as what stands before another token; and
 -- a token that was changed.
 -- Assumes nothing.
-use Rattle.std.specs.Prelude.{Some, None}
+use Rattle.std.specs.Prelude.{Option, Some, None}
 use mathlib.Core.Path.{◌≡◌, refl, sym, ◌∙◌, ap}
 use mathlib.Core.Bool.{Bool, true, false, false≢true}
 use Prim.Native.Nat.{ℕ}
@@ -18,6 +18,7 @@ use Rattle.tape.specs.Token.{array_code, object_code, unquoted_code, end_code, h
 use Rattle.tape.specs.Token.{scalar_code, scalar_named, names_scalar, is_scalar_code, is_header, may_be_empty, quoted_kind}
 use Rattle.tape.specs.Token.{relinked, reflagged, rekinded}
 use Rattle.tape.specs.Token.{opener_of, end_of, scalar_of, operator_of, mixed_container_token, no_token, container_of, standing_of}
+use Rattle.tape.specs.declared.token.Container.{Container}
 
 -- ---- the codes of scalars
 -- a kind's code names it
@@ -80,6 +81,12 @@ pub header_coded : (kind : ScalarKind) → scalar_code kind ≡ header_code → 
 header_coded kind e = eq-eqb (scalar_code kind) header_code e
 
 -- ---- as a container
+-- what holds of an opener of each kind, link and flag, and of none, holds of whatever a token is as a container
+pub by_opened {ℓ} : (P : Option Container → Type ℓ) → ((kind : ContainerKind) (link : ℕ) (mixed : Bool) → P (opened kind link mixed)) → P None
+    → (c : Option Container) → P c
+by_opened P f g (Some c) = f c.kind c.link c.mixed
+by_opened P f g None = g
+
 pub opener-container : (kind : ContainerKind) (link : ℕ) (mixed : Bool) → container_of (opener_of kind link mixed) ≡ opened kind link mixed
 unfolding container_of
 opener-container Array link true = refl

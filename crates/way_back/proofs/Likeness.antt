@@ -85,7 +85,7 @@ module _ (text other : List ℕ) where
   scalar_piece_of kind a n = rw (piece_of, scalar-container kind a n, scalar-shape kind a n)
 
   -- a token that is no scalar, by its shape
-  agree_shape : (x : Token) → scalar_named x.code ≡ None → (s : Shape.Shape) → shape_of x ≡ s
+  agree_shape : (x : Token) → scalar_named x.code ≡ None → (s : Option Shape.Shape) → shape_of x ≡ s
       → Agrees text other (bare_piece s) (bare_piece s)
   agree_shape x n (Some (Shape.TheVariants.Scalar kind a size)) e =
       let m : x ≡ scalar_of kind a size = shape-made x e in

@@ -94,7 +94,7 @@ token-short text first x (Some (ToOpener opener)) = omega arith
 token-short text first x None = piece-short text first (piece_of x)
 
 -- the bytes that a token views, by its shape
-abbrev view_size : Shape.Shape → ℕ
+abbrev view_size : Option Shape.Shape → ℕ
 view_size (Some (Shape.TheVariants.Scalar kind offset size)) = size
 view_size (Some (Shape.TheVariants.Opener end)) = 0
 view_size (Some Shape.TheVariants.MixedContainer) = 0
@@ -102,7 +102,7 @@ view_size (Some (Shape.TheVariants.Operator number)) = 0
 view_size (Some (Shape.TheVariants.End opener)) = 0
 view_size None = 0
 
-bare-views : (s : Shape.Shape) → viewed_by (bare_piece s) ≤ view_size s
+bare-views : (s : Option Shape.Shape) → viewed_by (bare_piece s) ≤ view_size s
 bare-views (Some (Shape.TheVariants.Scalar Unquoted offset size)) = omega arith
 bare-views (Some (Shape.TheVariants.Scalar Quoted offset size)) = omega arith
 bare-views (Some (Shape.TheVariants.Scalar Parameter offset size)) = omega arith
@@ -125,7 +125,7 @@ piece-views x = go (container_of x) refl
 
 -- ---- the views, in order
 -- a token that is no scalar views nothing
-no-view : (s : Shape.Shape) → NotScalar s → view_size s ≡ 0
+no-view : (s : Option Shape.Shape) → NotScalar s → view_size s ≡ 0
 no-view (Some (Shape.TheVariants.Scalar kind offset size)) n = absurd n
 no-view (Some (Shape.TheVariants.Opener end)) n = refl
 no-view (Some Shape.TheVariants.MixedContainer) n = refl

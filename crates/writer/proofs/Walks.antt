@@ -1,6 +1,6 @@
 -- A body taken a direct token at a time: what stands at i, and the rest behind it.
 -- Assumes nothing.
-use Rattle.std.specs.Prelude.{Some, None}
+use Rattle.std.specs.Prelude.{Some, None, Option}
 use mathlib.Core.Path.{◌≡◌, refl, sym, ◌∙◌, ap, subst}
 use mathlib.Core.Bool.{Bool, true, false, ◌&&◌}
 use mathlib.Core.List.{List, [], ◌++◌, append_assoc, append-nil}
@@ -51,7 +51,7 @@ scalar-bare Header offset size = heading offset size
 scalar-bare Parameter offset size = other
 scalar-bare UndefinedParameter offset size = other
 
-shape-bare : (s : Shape.Shape) → Bare (bare_piece s)
+shape-bare : (s : Option Shape.Shape) → Bare (bare_piece s)
 shape-bare (Some (Shape.TheVariants.Scalar kind offset size)) = scalar-bare kind offset size
 shape-bare (Some (Shape.TheVariants.Operator number)) = sign number
 shape-bare (Some Shape.TheVariants.MixedContainer) = mixed

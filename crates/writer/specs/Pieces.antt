@@ -23,7 +23,7 @@ scalar_piece Parameter offset size = Other
 scalar_piece UndefinedParameter offset size = Other
 
 -- a token that opens nothing, by its shape; Ends and words that no token has are no part of the form either
-abbrev pub bare_piece : Shape.Shape → Piece
+abbrev pub bare_piece : Option Shape.Shape → Piece
 bare_piece (Some (Shape.TheVariants.Scalar kind offset size)) = scalar_piece kind offset size
 bare_piece (Some (Shape.TheVariants.Operator number)) = Sign number
 bare_piece (Some Shape.TheVariants.MixedContainer) = Mixed

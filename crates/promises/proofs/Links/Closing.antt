@@ -1,6 +1,6 @@
 -- Leaving a container, and the text's end inside one, keep the tokens in order.
 -- Assumes nothing.
-use Rattle.std.specs.Prelude.{Some, None, Result}
+use Rattle.std.specs.Prelude.{Some, None, Result, Option}
 use mathlib.Core.Path.{◌≡◌, refl, sym, ◌∙◌, ap}
 use mathlib.Core.Bool.{Bool, true, false}
 use mathlib.Core.List.{List, [], ◌∷◌, ◌++◌}
@@ -29,6 +29,7 @@ use Rattle.promises.proofs.Links.Rows.{add-length, add-last, not_scalar, Apart, 
 use Rattle.promises.proofs.Links.Flags.{codes-differ}
 use Rattle.promises.proofs.Links.Kept.{link_at, Kept, Resting, container-link, link-container, kept-close, tied}
 use Rattle.promises.proofs.Links.Held.{Signed, Shaped, Held, Finished, RestingAt, Ready}
+use Rattle.tape.proofs.Makers.{by_opened}
 
 -- what is read as an opener is one
 pub reads-opener : (ts : List Token) {p : ℕ} → Kept ts p → (i : ℕ) {kind : ContainerKind} {link : ℕ} {mixed : Bool}
@@ -69,9 +70,9 @@ in_container t p s e = inside t p (λ z. let n = none z in let y : ◌≡◌ {A 
         (λ c. rw (c, z))
 
 -- a parent taken up behind an End
-pub resumes : (c : Containers.Container) (ts : List Token) (p opener : ℕ) → Resting (ts ++ (end_of opener ∷ [])) p
+pub resumes : (c : Option Containers.Container) (ts : List Token) (p opener : ℕ) → Resting (ts ++ (end_of opener ∷ [])) p
     → Shaped (state_in c) (mixed_in c) p (ts ++ (end_of opener ∷ []))
-resumes c ts p opener r = go c
+resumes c ts p opener r = by_opened (λ c. Shaped (state_in c) (mixed_in c) p (ts ++ (end_of opener ∷ []))) go r c
   where
     some : 1 ≤ length (ts ++ (end_of opener ∷ []))
     some = omega (arith, add-length ts (end_of opener))
@@ -82,11 +83,10 @@ resumes c ts p opener r = go c
     signed : (mixed : Bool) → Signed mixed (ts ++ (end_of opener ∷ []))
     signed mixed e = codes-differ (λ z. omega arith) (rw (add-last ts (end_of opener)) at e)
 
-    go : (c : Containers.Container) → Shaped (state_in c) (mixed_in c) p (ts ++ (end_of opener ∷ []))
-    go (Containers.TheVariants.Opened Array link mixed) = (r, some, signed mixed, λ e. apart)
-    go (Containers.TheVariants.Opened Object link true) = (r, some, signed true, λ e. apart)
-    go (Containers.TheVariants.Opened Object link false) = r
-    go None = r
+    go : (kind : ContainerKind) (link : ℕ) (mixed : Bool) → Shaped (state_in (opened kind link mixed)) mixed p (ts ++ (end_of opener ∷ []))
+    go Array link mixed = (r, some, signed mixed, λ e. apart)
+    go Object link true = (r, some, signed true, λ e. apart)
+    go Object link false = r
 
 pub closed-length : (ts : List Token) (p : ℕ) (x y : Token) → length (set ts p x ++ (y ∷ [])) ≡ length ts + 1
 closed-length ts p x y = add-length (set ts p x) y ∙ ap (λ (k : ℕ). k + 1) (length-set ts p x)

@@ -39,6 +39,7 @@ use Rattle.promises.proofs.Rising.Spans.{span_of, spans, Upto, opener-bare, oper
 use Rattle.promises.proofs.Rising.Links.{Stands, link, opener-link, stands-unlinked, stands_up, stands_set, nth-add, nth_last, nth-set}
 use Rattle.promises.proofs.Rising.Laid.{Base, operator-link, opened-bare, headed-span, headed-link, base-later, base_in, base-bare, base-scalar}
 use Rattle.promises.proofs.Rising.Laid.{base-run, base-set, base-mixed, base-close, stands-closed, open_bare}
+use Rattle.tape.proofs.Makers.{by_opened}
 
 -- in ParseOpen the last token is no scalar
 abbrev pub Topped : State → ℕ → List Token → Type 0
@@ -61,10 +62,12 @@ pub record RisenWhole (text_length : ℕ) (count : ℕ) (ts : List Token) : Type
 -- ---- states in which no token has to stand last
 -- taking up a parent never leads to ParseOpen
 resumed-topped : (c : Option Container) (count : ℕ) (ts : List Token) → Topped (state_in c) count ts
-resumed-topped (Opened Array l f) count ts = tt
-resumed-topped (Opened Object l true) count ts = tt
-resumed-topped (Opened Object l false) count ts = tt
-resumed-topped None count ts = tt
+resumed-topped c count ts = by_opened (λ c. Topped (state_in c) count ts) go tt c
+  where
+    go : (kind : ContainerKind) (link : ℕ) (mixed : Bool) → Topped (state_in (opened kind link mixed)) count ts
+    go Array link mixed = tt
+    go Object link true = tt
+    go Object link false = tt
 
 taken-topped : {s state : State} → Takes s state → (count : ℕ) (ts : List Token) → Topped state count ts
 taken-topped (key e) count ts = tt
