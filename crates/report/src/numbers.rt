@@ -8,6 +8,7 @@ ghost use Rattle.report.specs.Readings.{integer};
 use put::put_byte;
 
 // The digit for a number below sixteen: `0` to `9`, then `a` to `f`.
+#[tactic(auto, unfolding(crate::specs::Digits::glyph))]
 fn glyph(d: u8) -> u8
     requires { d < 16 }
     ensures { result ≡ glyph_of d }
