@@ -1,6 +1,6 @@
 -- Bytes in hexadecimal, one at a time, the line of a check, the lines of a text that was written, and those of a view.
 -- Assumes nothing.
-use Rattle.std.specs.Prelude.{Option, None, Result}
+use Rattle.std.specs.Prelude.{Option, Some, None, Result}
 use mathlib.Core.Path.{◌≡◌, sym, ap, subst, ◌∙◌}
 use mathlib.Core.Bool.{Bool, true}
 use mathlib.Core.Logic.{◌↔◌}
@@ -10,12 +10,11 @@ use native.Mathlib.Numerals.{add-one}
 use lib.ListN.{length, get_or, drop, drop_of_length-le}
 use lib.Seq.{drop-cons}
 use Rattle.data.specs.Bytes.{line_feed}
-use Rattle.sheet.specs.Views.{refusal_of, part_of, seen}
+use Rattle.sheet.specs.Views.{refusal_of, part_of}
 use Rattle.report.specs.Digits.{decimal, hex}
 use Rattle.put.specs.Append.{Wrote, append}
 use Rattle.sheet.specs.Decided.{Decided}
 use Rattle.sheet.proofs.Decisions.{decided_as}
-use Rattle.std.specs.Prelude.{Result}
 use Rattle.writer.specs.declared.Refusal.{Refusal}
 use Rattle.writer.specs.Write.{Left, left}
 use Rattle.report.specs.Sheets.{verdict, Judged, hex_bytes, view_text, written_text, reported, report_written}
@@ -48,9 +47,9 @@ written_as answer out at {buffer = buffer} {scratch = scratch} d told e line =
     (ap (λ (p : Wrote). reported p buffer scratch) (e ∙ ap (append out at) (line ∙ ap (λ (x : Result ℕ Refusal). written_text x buffer) (sym told))))
 
 -- the line of a view that lies in the text, and of one that is refused
-pub view-shown : (text part : List ℕ) (found v : Option Viewed) (offset size : ℕ) → found ≡ v → found ≡ seen offset size → part ≡ part_of text v
+pub view-shown : (text part : List ℕ) (found v : Option Viewed) (view : Viewed) → found ≡ v → found ≡ Some view → part ≡ part_of text v
     → words.view ++ hex_bytes part ++ (line_feed ∷ []) ≡ view_text text v
-view-shown text part found v offset size e told p =
+view-shown text part found v view e told p =
     let is = sym e ∙ told in
     ap (λ (l : List ℕ). words.view ++ hex_bytes l ++ (line_feed ∷ [])) (p ∙ ap (part_of text) is) ∙ sym (ap (view_text text) is)
 

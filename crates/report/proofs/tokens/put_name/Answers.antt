@@ -13,13 +13,13 @@ use Rattle.report.specs.Dump.{name_of, named}
 use Rattle.put.proofs.Append.{put-empty}
 use Rattle.report.proofs.tokens.put_name.Goals as goal
 
-pub returns-then-code-eq-ARRAY : goal.returns-then-code-eq-ARRAY
+pub returns-then-code : goal.returns-then-code
 unfolding name_of named
-returns-then-code-eq-ARRAY c = rw c.if-code-eq-ARRAY.true c.put_bytes.ensures
+returns-then-code c = rw c.if-code.true c.put_bytes.ensures
 
-pub returns-then-code-eq-OBJECT : goal.returns-then-code-eq-OBJECT
+pub returns-then-code-2 : goal.returns-then-code-2
 unfolding name_of named
-returns-then-code-eq-OBJECT c = rw c.if-code-eq-OBJECT.true c.put_bytes-then-code-eq-OBJECT.ensures
+returns-then-code-2 c = rw c.if-code-2.true c.put_bytes-then-code-2.ensures
 
 pub returns-then-code-eq-MIXED_CONTAINER : goal.returns-then-code-eq-MIXED_CONTAINER
 unfolding name_of named
@@ -33,20 +33,20 @@ pub returns-then-code-eq-END : goal.returns-then-code-eq-END
 unfolding name_of named
 returns-then-code-eq-END c = rw c.if-code-eq-END.true c.put_bytes-then-code-eq-END.ensures
 
-pub returns-in-Kind : goal.returns-in-Kind
-returns-in-Kind c =
-    rw (named-code _ _ (sym c.scalar_named.ensures ∙ c.in-Kind.is)) c.put_scalar_name.ensures
+pub returns-in-Some : goal.returns-in-Some
+returns-in-Some c =
+    rw (named-code _ _ (sym c.scalar_named.ensures ∙ c.in-Some.is)) c.put_scalar_name.ensures
 
-pub returns-in-Nothing : goal.returns-in-Nothing
+pub returns-in-None : goal.returns-in-None
 unfolding name_of named
-returns-in-Nothing c =
+returns-in-None c =
     let none : (kind : ScalarKind) → eqb _ (scalar_code kind) ≡ false =
-    λ kind. unnamed _ kind (sym c.scalar_named.ensures ∙ c.in-Nothing.is) in
+    λ kind. unnamed _ kind (sym c.scalar_named.ensures ∙ c.in-None.is) in
     rw (
       name_of,
       named,
-      ne_eqb _ _ c.if-code-eq-ARRAY.false,
-      ne_eqb _ _ c.if-code-eq-OBJECT.false,
+      ne_eqb _ _ c.if-code.false,
+      ne_eqb _ _ c.if-code-2.false,
       ne_eqb _ _ c.if-code-eq-MIXED_CONTAINER.false,
       none Unquoted,
       none Quoted,
