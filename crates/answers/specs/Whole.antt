@@ -52,7 +52,8 @@ pub data Answers (capacity : ℕ) (body : List ℕ) : List ℕ → Type 0 where
   view : (from size : ℕ) (v : Option View) → Answers capacity body (sheets.view_text (take size (drop from body)) v)
   written : (w : Result ℕ Refusal) (buffer : List ℕ) → length buffer ≤ most_input → Answers capacity body (sheets.written_text w buffer)
   filed : (w : Result ℕ file.Refusal) (buffer : List ℕ) → length buffer ≤ most_input → Answers capacity body (file_text w buffer)
-  found : (f : Result Found file.Refusal) (words : List ℕ) → files.Reads body (min capacity most_words) (files.left f words) → Answers capacity body (sheet_text f words)
+  found : (f : Result Found file.Refusal) (words : List ℕ) → files.Reads body (min capacity most_words) (files.left f words)
+      → Answers capacity body (sheet_text f words)
 
 -- all of such lines from the place on, and the place after the last
 pub record All (capacity : ℕ) (body out : List ℕ) (at next : ℕ) (left : List ℕ) : Type 0 where

@@ -48,4 +48,6 @@ most_held bytes room = min (length bytes / bytes_per_token) (capacity room)
 
 -- whatever the bytes are read as on so many words, a buffer that holds the dump of as many tokens holds its lines
 abbrev pub Held : List ℕ → ℕ → Type 0
-Held bytes room = (f : Result Found Refusal) (ws : List ℕ) → Reads bytes room (left f ws) → length (sheet_text f ws) ≤ dump_bytes (most_held bytes room)
+Held bytes room =
+    (f : Result Found Refusal) (ws : List ℕ) → Reads bytes room (left f ws)
+    → length (sheet_text f ws) ≤ dump_bytes (most_held bytes room)

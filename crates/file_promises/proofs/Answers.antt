@@ -83,8 +83,7 @@ took_tokens text_length ts room sound length' count words e =
     (λ f. absurd (sheet_not room NoRoom (e ∙ rw (read_of, first_of, t, f))))
     (λ f.
     let given : left (Ok (found_of length' count)) words ≡ accept_read room text_length ts = e ∙ rw (read_of, first_of, t, f) in
-    let same : found_of length' count ≡ found_of text_length (length ts) = cc in
-    (
+    let same : found_of length' count ≡ found_of text_length (length ts) = cc in (
       not-false sound t,
       ltb-false room (words_for (length ts)) f,
       ap (λ (a : Found). a.text_length) same,

@@ -25,7 +25,7 @@ use Rattle.file.specs.declared.layout.Head.{Head}
 use Rattle.file.specs.declared.Found.{Found}
 use Rattle.file.specs.Layout.{file_of}
 use Rattle.file.specs.Open.{tokens_of, says, open_file}
-use Rattle.file.specs.Files.{Left, left, zeros, found_of, accept_write, write_of, accept_read, read_of, ReadOpened, Reads}
+use Rattle.file.specs.Files.{Left, left, zeros, accept_write, write_of, accept_read, read_of, ReadOpened, Reads}
 use Rattle.file_promises.specs.Calls.{Words}
 use Rattle.file_promises.specs.Kept.{ReadSound, WriteRead, ReadWrite, OneFile}
 use Rattle.file_promises.proofs.Answers.{Wrote, wrote-file, writes-file, Took, took_sheet, takes-tokens, opened_fields}

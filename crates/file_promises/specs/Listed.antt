@@ -55,10 +55,12 @@ ReadListed = (r : ReadCall) → ReadsSo r → Listed r.bytes r.room (refusal_of 
 -- a file that was read is refused by 31 where it is cut short, wherever that is, and where anything is added to it
 abbrev pub CutRefused : Type 0
 CutRefused =
-    (r s : ReadCall) → ReadsSo r → ReadsSo s → (text_length count : ℕ) (words : List ℕ) → r.found ≡ left (Ok (found_of text_length count)) words
+    (r s : ReadCall) → ReadsSo r → ReadsSo s → (text_length count : ℕ) (words : List ℕ)
+    → r.found ≡ left (Ok (found_of text_length count)) words
     → (n : ℕ) → n < length r.bytes → s.bytes ≡ take n r.bytes → refusal_of s.found ≡ 31
 
 abbrev pub LongerRefused : Type 0
 LongerRefused =
-    (r s : ReadCall) → ReadsSo r → ReadsSo s → (text_length count : ℕ) (words : List ℕ) → r.found ≡ left (Ok (found_of text_length count)) words
+    (r s : ReadCall) → ReadsSo r → ReadsSo s → (text_length count : ℕ) (words : List ℕ)
+    → r.found ≡ left (Ok (found_of text_length count)) words
     → (more : List ℕ) → 0 < length more → s.bytes ≡ r.bytes ++ more → refusal_of s.found ≡ 31
