@@ -23,7 +23,7 @@ pub data ViewTold : Type 0 where
   view_told : (refusal offset size : ℕ) → ViewTold
 
 -- a refused view is empty, at the text's start
-abbrev pub tell_view : Option View → ViewTold
+abbrev pub tell_view : Option Viewed → ViewTold
 tell_view (Some v) = view_told (refusal_of (seen v.offset v.length)) v.offset v.length
 tell_view None = view_told (refusal_of None) 0 0
 
