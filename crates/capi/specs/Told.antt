@@ -8,7 +8,8 @@ use Rattle.scalar.specs.declared.errors.ScalarError.{ScalarError}
 use Rattle.date.specs.Refusals.{date_refusal, no_date}
 use Rattle.date.specs.declared.calendar.Date.{Date}
 use Rattle.date.specs.declared.refusals.DateError.{DateError}
-use Rattle.sheet.specs.Views.{refusal_of, seen}
+use Rattle.sheet.specs.declared.views.Viewed.{Viewed}
+use Rattle.sheet.specs.Views.{refusal_of}
 use Rattle.file.specs.declared.Refusal.{Refusal}
 use Rattle.file.specs.declared.Found.{Found}
 use Rattle.file.specs.Refusals.{write_refusal, size_of, read_refusal, text_length_of, count_of}
@@ -24,7 +25,7 @@ pub data ViewTold : Type 0 where
 
 -- a refused view is empty, at the text's start
 abbrev pub tell_view : Option Viewed → ViewTold
-tell_view (Some v) = view_told (refusal_of (seen v.offset v.length)) v.offset v.length
+tell_view (Some v) = view_told (refusal_of (Some v)) v.offset v.length
 tell_view None = view_told (refusal_of None) 0 0
 
 -- the way back: its refusal, the length of the text, and the buffer and the scratch as it leaves them
