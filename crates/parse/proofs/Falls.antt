@@ -15,7 +15,7 @@ use Rattle.machine.specs.declared.Machine.{Machine}
 use Rattle.machine.specs.Machine.{to}
 use Rattle.machine.specs.Parents.{state_in}
 use Rattle.parse.specs.Parse.{turn}
-use Rattle.parse.proofs.Moves.{Result, container_in, above, Asked, Valued, Came, passes, separates, takes, separates_by, operates, mixes, mixes_by}
+use Rattle.parse.proofs.Moves.{Moved, container_in, above, Asked, Valued, Came, passes, separates, takes, separates_by, operates, mixes, mixes_by}
 use Rattle.parse.proofs.Moves.{opens, heads, closes, empties, settles, begins, values, objects, refuses, Over, done_bare, done_closed, too_early}
 use Rattle.parse.proofs.Moves.{taken-moves, name-run, value-run, value-rest}
 use Rattle.parse.proofs.Walk.{All, Meets, turn_keeps}
@@ -65,7 +65,7 @@ module _ (text : List ℕ) (m : Machine) (here : m.at < length text) (bound : �
   leaves : (at : ℕ) (state : State) → rank m.state ≡ 1 → rank state ≡ 0 → m.at ≤ at → left text at state < bound
   leaves at state e f h = omega arith
 
-  move_falls : {ts : List Token} {n : ℕ} {x : Result} → Came text m ts n x → Meets (Fewer text bound) Any x
+  move_falls : {ts : List Token} {n : ℕ} {x : Moved} → Came text m ts n x → Meets (Fewer text bound) Any x
   move_falls (passes at {state} e h) = past at state h
   move_falls (separates at e h) = leaves at ObjectValue (ap rank e) refl h
   move_falls (takes {rest = rest} {state = state} s taken) = past rest state (taken-moves taken)
@@ -92,7 +92,7 @@ turn_falls text t m =
       finishes = λ by. end-stops by;
     }
   where
-    end-stops : {n : ℕ} {x : Result} → Over m t.tokens n x → Meets (Fewer text (left text m.at m.state)) Any x
+    end-stops : {n : ℕ} {x : Moved} → Over m t.tokens n x → Meets (Fewer text (left text m.at m.state)) Any x
     end-stops (done_bare e f) = tt
     end-stops (done_closed e f g) = tt
     end-stops too_early = tt

@@ -47,10 +47,10 @@ use Rattle.machine.specs.Bytes.{key_byte, open_byte, value_byte}
 use Rattle.parse.specs.ParseOpen.{flag_parent}
 
 -- where a turn goes on, with which tokens; with how many and which it is done; or its refusal
-pub data Result : Type 0 where
-  goes : Machine → List Token → Result
-  ends : ℕ → List Token → Result
-  stops : Refusal → Result
+pub data Moved : Type 0 where
+  goes : Machine → List Token → Moved
+  ends : ℕ → List Token → Moved
+  stops : Refusal → Moved
 
 -- the tokens on a tape of some room
 abbrev pub on_tape : Room → List Token → Tape
@@ -186,7 +186,7 @@ pub data Refuses (text : List ℕ) (m : Machine) (ts : List Token) : ℕ → Ref
   no_parameter : {n : ℕ} {r : Refusal} → Bracketed text m → Unasked text m.at n r → Refuses text m ts n r
 
 -- ---- the moves of a machine that stands on a byte, and how many tokens each lays down
-pub data Came (text : List ℕ) (m : Machine) (ts : List Token) : ℕ → Result → Type 0 where
+pub data Came (text : List ℕ) (m : Machine) (ts : List Token) : ℕ → Moved → Type 0 where
   -- bytes are passed in the same state
   passes : (at : ℕ) {state : State} → m.state ≡ state → m.at < at → Came text m ts 0 (goes (to m at state m.count) ts)
   -- a separator that is no token, or a `{` that is left to ObjectValue
@@ -244,16 +244,16 @@ pub data Came (text : List ℕ) (m : Machine) (ts : List Token) : ℕ → Result
   refuses : {n : ℕ} {r : Refusal} → Refuses text m ts n r → number r < 11 → Came text m ts n (stops r)
 
 -- ---- the text's end: done in Key with nothing open or with one container at top level, which is closed; else Eof
-pub data Over (m : Machine) (ts : List Token) : ℕ → Result → Type 0 where
+pub data Over (m : Machine) (ts : List Token) : ℕ → Moved → Type 0 where
   done_bare : m.state ≡ Key → m.parent ≡ 0 → Over m ts 0 (ends m.count ts)
   done_closed : m.state ≡ Key → (m.parent ≡ 0 → ⊥) → above ts m.parent ≡ 0
       → Over m ts 1 (ends (m.count + 1) (closed_as ts m.parent (opener_of Object m.count false)))
   too_early : Over m ts 0 (stops Eof)
 
 -- ---- a turn: blanks, and then a byte or the text's end
-pub data Turned (text : List ℕ) (m : Machine) (ts : List Token) : ℕ → Result → Type 0 where
-  on_byte : {p n : ℕ} {x : Result} → skip_ws text m.at ≡ Some p → Came text (to m p m.state m.count) ts n x → Turned text m ts n x
-  at_end : {n : ℕ} {x : Result} → skip_ws text m.at ≡ None → Over m ts n x → Turned text m ts n x
+pub data Turned (text : List ℕ) (m : Machine) (ts : List Token) : ℕ → Moved → Type 0 where
+  on_byte : {p n : ℕ} {x : Moved} → skip_ws text m.at ≡ Some p → Came text (to m p m.state m.count) ts n x → Turned text m ts n x
+  at_end : {n : ℕ} {x : Moved} → skip_ws text m.at ≡ None → Over m ts n x → Turned text m ts n x
 
 -- ---- where what is cut stands, and where the text goes on
 pub taken-moves : {text : List ℕ} {at : ℕ} {x : Token} {rest : ℕ} → Taken text at x rest → at < rest

@@ -19,7 +19,7 @@ use Rattle.machine.specs.declared.Refusal.TheVariants.{Full}
 use Rattle.parse.specs.After.{After, next, done, refused}
 use Rattle.parse.specs.Parse.{run, answer}
 use Rattle.parse.proofs.Runs.{run-done, run-refused, run-turn}
-use Rattle.parse.proofs.Moves.{Result, goes, ends, stops, on_tape, Unasked, Refuses, Came, Over, Turned, on_byte, at_end}
+use Rattle.parse.proofs.Moves.{Moved, goes, ends, stops, on_tape, Unasked, Refuses, Came, Over, Turned, on_byte, at_end}
 use Rattle.parse.proofs.Moves as M
 use Rattle.parse.proofs.Walk.{told, if_room, laying, turn_comes}
 
@@ -28,12 +28,12 @@ abbrev pub most_a_turn : ℕ
 most_a_turn = 3
 
 -- and a machine that goes on has counted no more
-abbrev pub Counted : ℕ → Result → Type 0
+abbrev pub Counted : ℕ → Moved → Type 0
 Counted most (goes m ts) = m.count ≤ most
 Counted most (ends n ts) = Unit {0}
 Counted most (stops r) = Unit {0}
 
-pub record Few (count laid : ℕ) (x : Result) : Type 0 where
+pub record Few (count laid : ℕ) (x : Moved) : Type 0 where
   pub laid_few : laid ≤ most_a_turn
   pub counted : Counted (count + most_a_turn) x
 
@@ -60,7 +60,7 @@ refused-few (M.marked_unknown e f g h) = omega arith
 refused-few (M.nothing_precedes e f g h) = omega arith
 refused-few (M.no_parameter e f) = unasked_few f
 
-came_few : {text : List ℕ} {m : Machine} {ts : List Token} {n : ℕ} {x : Result} → Came text m ts n x → Few m.count n x
+came_few : {text : List ℕ} {m : Machine} {ts : List Token} {n : ℕ} {x : Moved} → Came text m ts n x → Few m.count n x
 came_few (M.passes at e h) = record { laid_few = omega arith; counted = omega arith }
 came_few (M.separates at e h) = record { laid_few = omega arith; counted = omega arith }
 came_few (M.takes s t) = record { laid_few = omega arith; counted = omega arith }
@@ -78,12 +78,12 @@ came_few (M.values a b c) = record { laid_few = omega arith; counted = omega ari
 came_few (M.objects a b c) = record { laid_few = omega arith; counted = omega arith }
 came_few (M.refuses r f) = record { laid_few = refused-few r; counted = tt }
 
-over-few : {m : Machine} {ts : List Token} {n : ℕ} {x : Result} → Over m ts n x → Few m.count n x
+over-few : {m : Machine} {ts : List Token} {n : ℕ} {x : Moved} → Over m ts n x → Few m.count n x
 over-few (M.done_bare e f) = record { laid_few = omega arith; counted = tt }
 over-few (M.done_closed e f g) = record { laid_few = omega arith; counted = tt }
 over-few M.too_early = record { laid_few = omega arith; counted = tt }
 
-pub turned_few : {text : List ℕ} {m : Machine} {ts : List Token} {n : ℕ} {x : Result} → Turned text m ts n x → Few m.count n x
+pub turned_few : {text : List ℕ} {m : Machine} {ts : List Token} {n : ℕ} {x : Moved} → Turned text m ts n x → Few m.count n x
 turned_few (on_byte e by) = came_few by
 turned_few (at_end e by) = over-few by
 
@@ -104,13 +104,13 @@ module _ (text : List ℕ) (room other : Room) (bound : ℕ) (alike : (n : ℕ) 
   ended-refused : (n : ℕ) (r : Refusal) → moved (run text n (refused r)) ≡ run text n (refused r)
   ended-refused n r = rw (run-refused text n r)
 
-  told-alike : (n : ℕ) → Runs n → (x : Result) (most : ℕ) → Counted most x → most + most_a_turn * n ≤ bound
+  told-alike : (n : ℕ) → Runs n → (x : Moved) (most : ℕ) → Counted most x → most + most_a_turn * n ≤ bound
       → moved (run text n (told room x)) ≡ run text n (told other x)
   told-alike n runs (goes m ts) most h few = runs m ts (omega arith)
   told-alike n runs (ends k ts) most h few = rw (run-done text n k (on_tape room ts), run-done text n k (on_tape other ts))
   told-alike n runs (stops r) most h few = ended-refused n r
 
-  laid-alike : (n : ℕ) → Runs n → (x : Result) (most : ℕ) → Counted most x → most + most_a_turn * n ≤ bound → (l c : ℕ) → c + l ≤ most
+  laid-alike : (n : ℕ) → Runs n → (x : Moved) (most : ℕ) → Counted most x → most + most_a_turn * n ≤ bound → (l c : ℕ) → c + l ≤ most
       → moved (run text n (laying room c l x)) ≡ run text n (laying other c l x)
   laid-alike n runs x most h few zero c fits = told-alike n runs x most h few
   laid-alike n runs x most h few (suc l) c fits =

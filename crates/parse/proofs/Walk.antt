@@ -54,14 +54,14 @@ use Rattle.machine.specs.Finish.{Outcome, outcome}
 use Rattle.parse.specs.Parse.{state_turn, turn, run, enough, text_limit, answer, parse_of}
 use Rattle.parse.proofs.Splits.{by_skipped, by-cut, by-sighted, by-container, by-standing, by_state, by-key_byte, by-open_byte, by-value_byte}
 use Rattle.parse.proofs.States as States
-use Rattle.parse.proofs.Moves.{Result, goes, ends, stops, on_tape, token_in, container_in, above, unsettled, closed_as, flagged, Taken}
+use Rattle.parse.proofs.Moves.{Moved, goes, ends, stops, on_tape, token_in, container_in, above, unsettled, closed_as, flagged, Taken}
 use Rattle.parse.proofs.Moves.{unquoted, quoted}
 use Rattle.parse.proofs.Moves.{Named, defined, undefined, Asked, Valued, run_token, Takes, Opens, Closes, Asks, Bracketed, lone}
 use Rattle.parse.proofs.Moves.{nameless, open_name, valueless, ScalarStands, Refuses, Came, Over, Turned, on_byte, at_end}
 use Rattle.parse.proofs.Moves as M
 
 -- ---- what a result is on a tape of some room
-abbrev pub told : Room → Result → After
+abbrev pub told : Room → Moved → After
 told room (goes m ts) = next m (on_tape room ts)
 told room (ends n ts) = done n (on_tape room ts)
 told room (stops r) = refused r
@@ -71,26 +71,26 @@ abbrev pub if_room : Room → ℕ → After → After
 if_room room c x = elim (has_room room c) [ true ↦ x | false ↦ refused Full ]
 
 -- a result for which so many tokens are laid down after c others
-abbrev pub laying : Room → ℕ → ℕ → Result → After
+abbrev pub laying : Room → ℕ → ℕ → Moved → After
 laying room c zero x = told room x
 laying room c (suc n) x = if_room room c (laying room (c + 1) n x)
 
 -- something that on a tape of any room comes to one result, after c tokens
-pub record Comes (By : ℕ → Result → Type 0) (c : ℕ) (go : Room → After) : Type 0 where
+pub record Comes (By : ℕ → Moved → Type 0) (c : ℕ) (go : Room → After) : Type 0 where
   pub laid : ℕ
-  pub result : Result
+  pub result : Moved
   pub by : By laid result
   pub on : (room : Room) → go room ≡ laying room c laid result
 
 -- it is made out by its equation, by that of another, or behind one token more
-comes : (By : ℕ → Result → Type 0) {c n : ℕ} {x : Result} {go : Room → After} → By n x
+comes : (By : ℕ → Moved → Type 0) {c n : ℕ} {x : Moved} {go : Room → After} → By n x
     → ((room : Room) → go room ≡ laying room c n x) → Comes By c go
 comes By {n = n} {x = x} by on = record { laid = n; result = x; by = by; on = on }
 
-via : {By : ℕ → Result → Type 0} {c : ℕ} {go same : Room → After} → Comes By c same → ((room : Room) → go room ≡ same room) → Comes By c go
+via : {By : ℕ → Moved → Type 0} {c : ℕ} {go same : Room → After} → Comes By c same → ((room : Room) → go room ≡ same room) → Comes By c go
 via x e = record { laid = x.laid; result = x.result; by = x.by; on = λ room. e room ∙ x.on room }
 
-behind : {By : ℕ → Result → Type 0} {c : ℕ} {go rest : Room → After} → Comes (λ n x. By (suc n) x) (c + 1) rest
+behind : {By : ℕ → Moved → Type 0} {c : ℕ} {go rest : Room → After} → Comes (λ n x. By (suc n) x) (c + 1) rest
     → ((room : Room) → go room ≡ if_room room c (rest room)) → Comes By c go
 behind {c = c} x e = record { laid = suc x.laid; result = x.result; by = x.by; on = λ room. e room ∙ ap (if_room room c) (x.on room) }
 
@@ -154,13 +154,13 @@ module _ (text : List ℕ) (m : Machine) (ts : List Token) where
   Part go = Comes (Came text m ts) m.count go
 
   -- a move that is made out; one that is made out behind its first token; and a refusal
-  moved : {n : ℕ} {x : Result} {go : Room → After} → Came text m ts n x → ((room : Room) → go room ≡ laying room m.count n x) → Part go
+  moved : {n : ℕ} {x : Moved} {go : Room → After} → Came text m ts n x → ((room : Room) → go room ≡ laying room m.count n x) → Part go
   moved by on = comes (Came text m ts) by on
 
   abbrev Tail : (Room → After) → Type 0
   Tail go = Comes (λ n x. Came text m ts (suc n) x) (m.count + 1) go
 
-  moved_on : {n : ℕ} {x : Result} {go : Room → After} → Came text m ts (suc n) x
+  moved_on : {n : ℕ} {x : Moved} {go : Room → After} → Came text m ts (suc n) x
       → ((room : Room) → go room ≡ laying room (m.count + 1) n x) → Tail go
   moved_on by on = comes (λ n x. Came text m ts (suc n) x) by on
 
@@ -467,18 +467,18 @@ All P Q (done n t) = Q n t.tokens
 All P Q (refused r) = Unit {0}
 
 -- the same of a result
-abbrev pub Meets : (Machine → List Token → Type 0) → (ℕ → List Token → Type 0) → Result → Type 0
+abbrev pub Meets : (Machine → List Token → Type 0) → (ℕ → List Token → Type 0) → Moved → Type 0
 Meets P Q (goes m ts) = P m ts
 Meets P Q (ends n ts) = Q n ts
 Meets P Q (stops r) = Unit {0}
 
 module _ (P : Machine → List Token → Type 0) (Q : ℕ → List Token → Type 0) where
-  met_told : (room : Room) (x : Result) → Meets P Q x → All P Q (told room x)
+  met_told : (room : Room) (x : Moved) → Meets P Q x → All P Q (told room x)
   met_told room (goes m ts) h = h
   met_told room (ends n ts) h = h
   met_told room (stops r) h = tt
 
-  met_laying : (room : Room) (c n : ℕ) (x : Result) → Meets P Q x → All P Q (laying room c n x)
+  met_laying : (room : Room) (c n : ℕ) (x : Moved) → Meets P Q x → All P Q (laying room c n x)
   met_laying room c zero x h = met_told room x h
   met_laying room c (suc n) x h =
       by_bool (has_room room c)
@@ -488,8 +488,8 @@ module _ (P : Machine → List Token → Type 0) (Q : ℕ → List Token → Typ
   module _ (text : List ℕ) where
     -- what each move and the text's end must come to
     pub record Keeps (m : Machine) (ts : List Token) : Type 0 where
-      pub moves : {p n : ℕ} {x : Result} → Landed text m.at p → Came text (to m p m.state m.count) ts n x → Meets P Q x
-      pub finishes : {n : ℕ} {x : Result} → Over m ts n x → Meets P Q x
+      pub moves : {p n : ℕ} {x : Moved} → Landed text m.at p → Came text (to m p m.state m.count) ts n x → Meets P Q x
+      pub finishes : {n : ℕ} {x : Moved} → Over m ts n x → Meets P Q x
 
     -- then a turn comes to it
     pub turn_keeps : (m : Machine) (t : Tape) → Keeps m t.tokens → All P Q (turn text t m)
@@ -497,7 +497,7 @@ module _ (P : Machine → List Token → Type 0) (Q : ℕ → List Token → Typ
         let x = turn_comes text m t.tokens in
         rw (x.on t.room) (met_laying t.room m.count x.laid x.result (met x.by))
       where
-        met : {n : ℕ} {x : Result} → Turned text m t.tokens n x → Meets P Q x
+        met : {n : ℕ} {x : Moved} → Turned text m t.tokens n x → Meets P Q x
         met (on_byte {p} e by) = k.moves (skip_lands text m.at p e) by
         met (at_end e by) = k.finishes by
 

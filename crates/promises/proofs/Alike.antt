@@ -16,7 +16,7 @@ use Rattle.machine.specs.declared.Machine.{Machine}
 use Rattle.machine.specs.declared.Refusal.TheVariants.{Full}
 use Rattle.machine.specs.Refusals.{number}
 use Rattle.parse.specs.After.{After, next, done, refused}
-use Rattle.parse.proofs.Moves.{Result, goes, ends, stops}
+use Rattle.parse.proofs.Moves.{Moved, goes, ends, stops}
 use Rattle.parse.proofs.Walk.{told, if_room, laying}
 use Rattle.promises.specs.Mixed.{Mixes}
 use Rattle.promises.specs.Room.{tape_of, laid_by}
@@ -66,7 +66,7 @@ pub record Alike (text : List ℕ) (budget k c w : ℕ) (bounded free : After) :
 
 -- ---- a result that is told in as much room as there is
 -- what is known of a result by which so many tokens have been laid down
-abbrev pub Paid : List ℕ → ℕ → ℕ → Result → Type 0
+abbrev pub Paid : List ℕ → ℕ → ℕ → Moved → Type 0
 Paid text budget w (goes m ts) =
     (m.count ≡ w) × (length ts ≡ m.count) × Mixes m.state m.mixed × (m.count + spare m.state + 2 * (length text - m.at) ≤ budget)
 Paid text budget w (ends n ts) = (n ≡ w) × (length ts ≡ n) × (n ≤ budget + 1)
@@ -98,7 +98,7 @@ module _ (text : List ℕ) (budget k : ℕ) where
         known = a.known;
       }
 
-  told-alike : (c : ℕ) (x : Result) → Paid text budget c x → Alike text budget k c c (told (holds k) x) (told unbounded x)
+  told-alike : (c : ℕ) (x : Moved) → Paid text budget c x → Alike text budget k c c (told (holds k) x) (told unbounded x)
   told-alike c (goes m ts) h =
       let known : Going text budget m (tape_of unbounded ts) = record { free = refl; sized = h.1; mixes = h.2; paid = h.3 } in
       record { grows = omega arith; most = omega (arith, h.0, h.3); fits = λ f. refl; full = λ f g. absurd (omega arith); told = h.0; known = known }
@@ -108,7 +108,7 @@ module _ (text : List ℕ) (budget k : ℕ) where
       record { grows = omega arith; most = omega (arith, h.1); fits = λ f. refl; full = λ f g. absurd (omega arith); told = refl; known = h.0 }
 
   -- so many tokens laid down after c others, and then the result
-  pub laying-alike : (c n w : ℕ) (x : Result) → c + n ≡ w → Paid text budget w x
+  pub laying-alike : (c n w : ℕ) (x : Moved) → c + n ≡ w → Paid text budget w x
       → Alike text budget k c w (laying (holds k) c n x) (laying unbounded c n x)
   laying-alike c zero w x e h = let z : c ≡ w = omega arith in rw (← z) (told-alike c x (rw z h))
   laying-alike c (suc n) w x e h =
@@ -118,7 +118,7 @@ module _ (text : List ℕ) (budget k : ℕ) where
       (λ f. rw (laying, if_room, f))
 
 -- with no bound all are laid down
-pub laying-free : (c n : ℕ) (x : Result) → laying unbounded c n x ≡ told unbounded x
+pub laying-free : (c n : ℕ) (x : Moved) → laying unbounded c n x ≡ told unbounded x
 laying-free c zero x = refl
 laying-free c (suc n) x = laying-free (c + 1) n x
 

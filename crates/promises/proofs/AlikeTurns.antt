@@ -2,7 +2,7 @@
 -- Assumes nothing.
 use Rattle.std.specs.Prelude.{Option, None, Result}
 use mathlib.Core.Path.{◌≡◌, refl, sym, ◌∙◌, ap, subst}
-use mathlib.Core.Bool.{true, false}
+use mathlib.Core.Bool.{Bool, true, false}
 use mathlib.Core.List.{List, [], ◌∷◌, ◌++◌}
 use Prim.Native.Nat.{ℕ, ◌+◌, ◌-◌, ◌*◌, ◌≤◌, ◌<◌}
 use native.Mathlib.Omega.{arith}
@@ -29,7 +29,7 @@ use Rattle.machine.specs.Parents.{state_in, mixed_in}
 use Rattle.parse.specs.ParseOpen.{flag_parent}
 use Rattle.parse.specs.Parse.{turn}
 use Rattle.parse.proofs.Splits.{by-container}
-use Rattle.parse.proofs.Moves.{Result, goes, ends, stops, token_in, container_in, unsettled, run_token, above, closed_as, flagged, Taken, unquoted, quoted}
+use Rattle.parse.proofs.Moves.{Moved, goes, ends, stops, token_in, container_in, unsettled, run_token, above, closed_as, flagged, Taken, unquoted, quoted}
 use Rattle.parse.proofs.Moves.{Named, defined, undefined, Takes, key, value, entry, Settles, with_key, with_entry, Asks, asks_key, asks_open}
 use Rattle.parse.proofs.Moves.{key_bracket, open_bracket, Unasked, lone, nameless, open_name, valueless, ScalarStands, Refuses, brace_ends}
 use Rattle.parse.proofs.Moves.{no_header, key_ends, value_ends, entry_ends, first_uncut, no_value, mixed_parameter, inner_ends, first_ends, stack_empty}
@@ -175,7 +175,7 @@ module _ (text : List ℕ) (budget : ℕ) (m : Machine) (ts : List Token) (sized
   spared : m.state ≡ KeyValueSeparator → spare m.state ≡ 1
   spared e = ap spare e
 
-  move_pays : {n : ℕ} {x : Result} → Came text m ts n x → Paid text budget (m.count + n) x
+  move_pays : {n : ℕ} {x : Moved} → Came text m ts n x → Paid text budget (m.count + n) x
   move_pays (passes at {state} e h) = (omega arith, sized, rw e at mixing, omega (arith, spare-few state))
   move_pays (separates at e h) = (omega arith, sized, off_in_separator e, omega (arith, spared e))
   move_pays (takes {x} {rest} {state} s taken) = (refl, added_sized ts m.count x sized, takes-mixes s, omega (arith, taken-moves taken, spare-few state))
@@ -224,7 +224,7 @@ module _ (text : List ℕ) (budget : ℕ) (m : Machine) (ts : List Token) (sized
 
 -- the text's end lays down at most the End of a container that is open
 end_pays : (text : List ℕ) (budget : ℕ) (m : Machine) (ts : List Token) → length ts ≡ m.count → m.count ≤ budget
-    → {n : ℕ} {x : Result} → Over m ts n x
+    → {n : ℕ} {x : Moved} → Over m ts n x
     → Paid text budget (m.count + n) x
 end_pays text budget m ts sized small (done_bare e f) = (omega arith, sized, omega arith)
 end_pays text budget m ts sized small (done_closed e f g) = (refl, closed-sized m.parent _ ts m.count sized, omega arith)
@@ -232,14 +232,14 @@ end_pays text budget m ts sized small too_early = (omega arith, omega arith)
 
 -- ---- a turn
 module _ (text : List ℕ) (budget : ℕ) (m : Machine) (ts : List Token) (g : Going text budget m (tape_of unbounded ts)) where
-  turn_pays : {n : ℕ} {x : Result} → Turned text m ts n x → Paid text budget (m.count + n) x
+  turn_pays : {n : ℕ} {x : Moved} → Turned text m ts n x → Paid text budget (m.count + n) x
   turn_pays (on_byte {p} e by) =
       let a = skip_lands text m.at p e in
       move_pays text budget (to m p m.state m.count) ts g.sized a.within (omega (arith, g.paid, a.from)) g.mixes by
   turn_pays (at_end e by) = end_pays text budget m ts g.sized (omega (arith, g.paid)) by
 
   -- where it refuses, that many tokens are told
-  turn-told : {n : ℕ} {x : Result} → Turned text m ts n x
+  turn-told : {n : ℕ} {x : Moved} → Turned text m ts n x
       → laid_by (and_one m.count (turn_lays text (tape_of unbounded ts) m)) (told unbounded x) ≡ m.count + n
   unfolding turn_lays
   turn-told {x = goes m' us} by = (turn_pays by).0

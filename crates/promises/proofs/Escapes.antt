@@ -27,7 +27,7 @@ use Rattle.parse.specs.ParseOpen.{flag_parent}
 use Rattle.parse.specs.Parse.{parse_of}
 use Rattle.parse.specs.Told.{tell_parse}
 use Rattle.parse.proofs.Splits.{by-container}
-use Rattle.parse.proofs.Moves.{Result, goes, ends, stops, container_in, unsettled, closed_as, flagged, Taken, unquoted, quoted, Named, defined}
+use Rattle.parse.proofs.Moves.{Moved, goes, ends, stops, container_in, unsettled, closed_as, flagged, Taken, unquoted, quoted, Named, defined}
 use Rattle.parse.proofs.Moves.{undefined, Asks}
 use Rattle.parse.proofs.Moves.{asks_key, asks_open, Came, passes, separates, takes, separates_by, operates, mixes, mixes_by, opens, heads, closes, empties}
 use Rattle.parse.proofs.Moves.{settles, begins, values, objects, refuses, Over, done_bare, done_closed, too_early}
@@ -128,7 +128,7 @@ module _ (text : List ℕ) where
   opened_says : (ts : List Token) → Saying ts → Saying (ts ++ (unsettled ∷ []))
   opened_says ts h = add_says ts unsettled (opener_says Array 0 false) h
 
-  move_says : (m : Machine) (ts : List Token) → Saying ts → {n : ℕ} {x : Result} → Came text m ts n x → Meets Going Ended x
+  move_says : (m : Machine) (ts : List Token) → Saying ts → {n : ℕ} {x : Moved} → Came text m ts n x → Meets Going Ended x
   move_says m ts h (passes at e f) = h
   move_says m ts h (separates at e f) = h
   move_says m ts h (takes {x} s taken) = add_says ts x (taken_says taken) h
@@ -151,7 +151,7 @@ module _ (text : List ℕ) where
       add_says _ _ (run_says _ _) (add_says _ _ (opener_says Object parent false) (add_says us _ (name_says asked.named _ _) (asks_says asks h)))
   move_says m ts h (refuses r few) = tt
 
-  end_says : (m : Machine) (ts : List Token) → Saying ts → {n : ℕ} {x : Result} → Over m ts n x → Meets Going Ended x
+  end_says : (m : Machine) (ts : List Token) → Saying ts → {n : ℕ} {x : Moved} → Over m ts n x → Meets Going Ended x
   end_says m ts h (done_bare e f) = h
   end_says m ts h (done_closed e f g) = closed_says ts m.parent Object m.count false h
   end_says m ts h too_early = tt
@@ -163,7 +163,7 @@ module _ (text : List ℕ) where
   abbrev Walked : ℕ → List Token → Type 0
   Walked n ts = RisenWhole (length text) n ts × Saying ts
 
-  both : (x : Result) → Meets (Risen (length text)) (RisenWhole (length text)) x → Meets Going Ended x → Meets Walks Walked x
+  both : (x : Moved) → Meets (Risen (length text)) (RisenWhole (length text)) x → Meets Going Ended x → Meets Walks Walked x
   both (goes m ts) a b = (a, b)
   both (ends n ts) a b = (a, b)
   both (stops r) a b = tt

@@ -116,7 +116,7 @@ use Rattle.packed.proofs.source.holds.Reads as source_holds
 use Rattle.sheet.proofs.check.Reads as check
 use Rattle.sheet.proofs.check_packed.Reads as check_packed
 use Rattle.sheet.proofs.check_onto.Reads as check-onto
-use Rattle.sheet.proofs.views.Viewed.refusal.Reads as viewed_refusal
+use Rattle.sheet.proofs.views.refusal.Reads as viewed_refusal
 use Rattle.sheet.proofs.views.code.Reads as code
 use Rattle.sheet.proofs.views.link.Reads as link
 use Rattle.sheet.proofs.views.view_of.Reads as view_of

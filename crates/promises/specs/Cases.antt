@@ -10,7 +10,7 @@ use Rattle.tape.specs.declared.token.ScalarKind.TheVariants.{Unquoted, Quoted, H
 use Rattle.tape.specs.Token.{opener_of, end_of, scalar_of, operator_of, mixed_container_token}
 use Rattle.tape.specs.Words.{words_for, token_in, tokens_in}
 use Rattle.machine.specs.Refusals.{number, place}
-use Rattle.machine.specs.Finish.{Outcome, outcome, parsed}
+use Rattle.machine.specs.Finish.{Outcome, outcome}
 use Rattle.parse.specs.Parse.{parse_of}
 
 infixl 20 refusal◌at◌

@@ -87,6 +87,14 @@ pub by_opened {ℓ} : (P : Option Container → Type ℓ) → ((kind : Container
 by_opened P f g (Some c) = f c.kind c.link c.mixed
 by_opened P f g None = g
 
+-- openers that are the same as containers are of one kind, link and flag
+pub same_opened : {k k' : ContainerKind} {l l' : ℕ} {f f' : Bool} → opened k l f ≡ opened k' l' f' → (k ≡ k') × (l ≡ l') × (f ≡ f')
+same_opened {k} {k'} {l} {l'} {f} {f'} e = (
+  ap (elim [ Some c ↦ c.kind | None ↦ k ]) e,
+  ap (elim [ Some c ↦ c.link | None ↦ l ]) e,
+  ap (elim [ Some c ↦ c.mixed | None ↦ f ]) e,
+)
+
 pub opener-container : (kind : ContainerKind) (link : ℕ) (mixed : Bool) → container_of (opener_of kind link mixed) ≡ opened kind link mixed
 unfolding container_of
 opener-container Array link true = refl

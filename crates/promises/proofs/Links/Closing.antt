@@ -22,7 +22,7 @@ use Rattle.machine.specs.declared.Machine.{Machine}
 use Rattle.machine.specs.Parents as C
 use Rattle.machine.specs.Parents.{container_at, state_in, mixed_in, resumed, nothing_open}
 use Rattle.parse.proofs.Splits.{by-container}
-use Rattle.parse.proofs.Moves.{Result, on_tape, container_in, above, closed_as, Over, done_bare, done_closed, too_early}
+use Rattle.parse.proofs.Moves.{Moved, on_tape, container_in, above, closed_as, Over, done_bare, done_closed, too_early}
 use Rattle.parse.proofs.Walk.{Meets}
 use Rattle.promises.proofs.Links.Nest.{by-below, Parent}
 use Rattle.promises.proofs.Links.Rows.{add-length, add-last, not_scalar, Apart, apart_unscaled}
@@ -123,7 +123,7 @@ module _ (m : Machine) (ts : List Token) (r : RestingAt m.count m.parent ts) whe
       }
 
 -- the text's end leaves the tokens tied, or is refused
-pub end-held : (m : Machine) (ts : List Token) → Held m ts → {n : ℕ} {x : Result} → Over m ts n x → Meets Held Finished x
+pub end-held : (m : Machine) (ts : List Token) → Held m ts → {n : ℕ} {x : Moved} → Over m ts n x → Meets Held Finished x
 unfolding token_at
 end-held m ts h (done_bare e z) = record { counted = h.counted; tokens = tied ts (rw z at (rw e at h.shaped)) }
 end-held m ts h (done_closed e some top) =

@@ -20,7 +20,7 @@ use Rattle.tape.specs.declared.shape.Link.TheVariants.{ToEnd}
 use Rattle.tape.specs.Token.{no_token, mixed_container_token, opener_of, end_of, headed, container_of, standing_of, opened}
 use Rattle.tape.specs.Shape.{linked, link_of, Opens}
 use Rattle.tape.specs.Tape.{before_last}
-use Rattle.tape.proofs.Makers.{opener-container, scalar-container, opener-standing, mixed_container-standing, operator-standing, end-standing}
+use Rattle.tape.proofs.Makers.{same_opened, opener-container, scalar-container, opener-standing, mixed_container-standing, operator-standing, end-standing}
 use Rattle.tape.proofs.Shapes.{scalar-shape, opens-link, end-link, link-made, unlinked-opens}
 use Rattle.parse.proofs.Moves.{ScalarStands, closed_as}
 use Rattle.sheet.specs.Sound.{nth, Form, container, mixed_container, scalar, operator, closing, Closed, Opened, Nested, Headed}
@@ -75,7 +75,7 @@ pub container-link : {t : Token} {kind : ContainerKind} {link : ℕ} {mixed : Bo
 unfolding container_of
 container-link {t} {kind} {link} {mixed} (container end o) e =
     let r : container_of t ≡ opened o.0 end o.1 = ap container_of o.2 ∙ opener-container o.0 end o.1 in
-    let same : end ≡ link = cc in
+    let same : end ≡ link = (same_opened (sym r ∙ e)).1 in
     rw (← same) (opens-link t o)
 container-link {t} (mixed_container q) e = let z : ◌≡◌ {A = ℕ} 0 1 = cc in absurd (omega arith)
 container-link {t} (scalar offset size v) e =
@@ -97,9 +97,8 @@ container-made : {t : Token} {kind : ContainerKind} {link : ℕ} {mixed : Bool} 
 container-made {t} {kind} {link} {mixed} form e =
     let o = link-made t (container-link form e) in
     let r : container_of t ≡ opened o.0 link o.1 = ap container_of o.2 ∙ opener-container o.0 link o.1 in
-    let same_kind : o.0 ≡ kind = cc in
-    let same_flag : o.1 ≡ mixed = cc in
-    o.2 ∙ ap (λ (k : ContainerKind). opener_of k link o.1) same_kind ∙ ap (λ (b : Bool). opener_of kind link b) same_flag
+    let same = same_opened (sym r ∙ e) in
+    o.2 ∙ ap (λ (k : ContainerKind). opener_of k link o.1) same.0 ∙ ap (λ (b : Bool). opener_of kind link b) same.2
 
 -- a token of a form that is read as a scalar is one
 pub standing-scalar : {t : Token} → Form t → ScalarStands (standing_of t) → Scalar t

@@ -27,7 +27,7 @@ use Rattle.machine.specs.declared.State.TheVariants.{Key, KeyValueSeparator, Obj
 use Rattle.machine.specs.declared.Machine.{Machine}
 use Rattle.machine.specs.Machine.{to, mixed_on}
 use Rattle.parse.specs.Parse.{turn}
-use Rattle.parse.proofs.Moves.{Result, Named, defined, undefined, Asked, run_token, Takes, key, value, entry, Opens, in_value, in_array, Closes}
+use Rattle.parse.proofs.Moves.{Moved, Named, defined, undefined, Asked, run_token, Takes, key, value, entry, Opens, in_value, in_array, Closes}
 use Rattle.parse.proofs.Moves.{as_object, as_own, Asks, asks_key, asks_open, ScalarStands, Came, passes, separates, takes, separates_by, operates, mixes}
 use Rattle.parse.proofs.Moves.{mixes_by, opens, heads, closes, empties, settles, begins, values, objects, refuses}
 use Rattle.parse.proofs.Walk.{Meets, Keeps, turn_keeps}
@@ -166,7 +166,7 @@ module _ (text : List ℕ) (m : Machine) (ts : List Token) (h : Held m ts) where
       in
       opened-held m us at (r.counted ∙ sym l) k (rw l some) header-last
 
-  move_held : {n : ℕ} {x : Result} → Came text m ts n x → Meets Held Finished x
+  move_held : {n : ℕ} {x : Moved} → Came text m ts n x → Meets Held Finished x
   move_held (passes at e past) = record { counted = h.counted; shaped = rw e at h.shaped }
   move_held (separates at e past) =
       let s = separator_shape e in

@@ -2,7 +2,7 @@
 -- Assumes nothing.
 use Rattle.std.specs.Prelude.{Option, None, Result}
 use mathlib.Core.Path.{◌≡◌, refl, sym, ◌∙◌, ap}
-use mathlib.Core.Bool.{true, false, false≢true}
+use mathlib.Core.Bool.{Bool, true, false, false≢true}
 use mathlib.Core.List.{List, [], ◌∷◌, ◌++◌}
 use Prim.Native.Nat.{ℕ, ◌+◌, ◌-◌, ◌≤◌, ◌<◌, min}
 use native.Mathlib.Omega.{arith}
@@ -17,7 +17,7 @@ use Rattle.tape.specs.declared.token.ScalarKind.TheVariants.{Unquoted}
 use Rattle.tape.specs.declared.token.ContainerKind.{ContainerKind}
 use Rattle.tape.specs.declared.token.ContainerKind.TheVariants.{Array, Object}
 use Rattle.tape.specs.declared.token.Container.{Container}
-use Rattle.tape.specs.Token.{opener_of, operator_of, headed, quoted_kind}
+use Rattle.tape.specs.Token.{opener_of, operator_of, headed, quoted_kind, opened}
 use Rattle.tape.proofs.Makers.{quoted-empty}
 use Rattle.tape.specs.Tape.{token_at, replace}
 use Rattle.operator.specs.Operators.{number_of}
@@ -28,7 +28,7 @@ use Rattle.machine.specs.Machine.{to}
 use Rattle.machine.specs.Parents.{parent_of, state_in}
 use Rattle.parse.specs.ParseOpen.{flag_parent}
 use Rattle.parse.proofs.Splits.{by-container}
-use Rattle.parse.proofs.Moves.{Result, container_in, above, unsettled, flagged, Taken, unquoted, quoted, Asked, run_token, Takes}
+use Rattle.parse.proofs.Moves.{Moved, container_in, above, unsettled, flagged, Taken, unquoted, quoted, Asked, run_token, Takes}
 use Rattle.parse.proofs.Moves.{key, value}
 use Rattle.parse.proofs.Moves.{entry, Settles, with_key, with_entry, Asks, asks_key, asks_open, Came, passes, separates, takes, separates_by, operates, mixes}
 use Rattle.parse.proofs.Moves.{mixes_by, opens, heads, closes, empties, settles, begins, values, objects, refuses, Over, done_bare, done_closed, too_early}
@@ -188,7 +188,7 @@ module _ (text : List ℕ) (m : Machine) (ts : List Token) (k : Risen (length te
       settled-base (flag_keeps past (ts ++ (x ∷ [])) c) kind (m.count + 1 - 2) (omega (arith, top.0))
       (flag-views past (ts ++ (x ∷ [])) c (m.count + 1 - 2) ∙ bare)
 
-  move_keeps : {n : ℕ} {x : Result} → Came text m ts n x → Meets (Risen L) (RisenWhole L) x
+  move_keeps : {n : ℕ} {x : Moved} → Came text m ts n x → Meets (Risen L) (RisenWhole L) x
   move_keeps (passes at e h) = record { base = base-later b at (omega arith); topped = rw e at k.topped }
   move_keeps (separates at e h) = record { base = base-later b at h; topped = tt }
   move_keeps (takes s taken) = record { base = taken-base taken b; topped = taken-topped s _ _ }
@@ -239,7 +239,7 @@ module _ (text : List ℕ) (m : Machine) (ts : List Token) (k : Risen (length te
   finished : {n p : ℕ} {us : List Token} → Base L m.at n p us → RisenWhole L n us
   finished {n} {p} {us} c = record { counted = c.linked.counted; rising = upto-later 0 (spans us) (min m.at L) L (omega arith) c.rising }
 
-  end_keeps : {n : ℕ} {x : Result} → Over m ts n x → Meets (Risen L) (RisenWhole L) x
+  end_keeps : {n : ℕ} {x : Moved} → Over m ts n x → Meets (Risen L) (RisenWhole L) x
   end_keeps (done_bare e f) = finished b
   end_keeps (done_closed e f g) = finished (base-close b m.parent (Object, false, refl) (b.linked.inside f).1)
   end_keeps too_early = tt
