@@ -71,14 +71,16 @@ fn all_unmarked(x: u64, y: u64) -> bool
 
 // How many bytes stand before the first mark of a word; all eight where there is none.
 fn word_mark(x: u64) -> usize
-    ensures { result ≡ word_mark x }
+    ensures mark { result ≡ word_mark x }
+    ensures few { result ≤ word_size }
 {
     (u64::trailing_zeros(x & TOPS) >> 3) as usize
 }
 
 // How many bytes stand before the first mark of two words; all sixteen where there is none.
 fn first_mark(x: u64, y: u64) -> usize
-    ensures { result ≡ first_mark x y }
+    ensures mark { result ≡ first_mark x y }
+    ensures few { result ≤ stride }
 {
     let mut word = x;
     let mut skip = 0;
