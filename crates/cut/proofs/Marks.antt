@@ -187,6 +187,22 @@ finds_ends = finds is_boundary may_end ends-marked
 pub finds_closes : Finds turns_quote may_close
 finds_closes = finds turns_quote may_close closes-marked
 
+-- so a stride that the loop of either cut looks at shows this
+module _ {d : List ℕ} {i last w v x y : ℕ} (bytes : Bytes d) (reach : last ≡ length d - stride) (here : i < last)
+    (first : w ≡ word (take word_size (drop i d))) where
+  pub looked_ends : x ≡ over may_end word_size w → v ≡ word (take word_size (drop (i + word_size) d)) → y ≡ over may_end word_size v
+      → Looked is_boundary d i x y
+  looked_ends e second f = looked is_boundary may_end finds_ends d bytes i last reach here w v x y first e second f
+
+  pub looked_closes : x ≡ over may_close word_size w → v ≡ word (take word_size (drop (i + word_size) d)) → y ≡ over may_close word_size v
+      → Looked turns_quote d i x y
+  looked_closes e second f = looked turns_quote may_close finds_closes d bytes i last reach here w v x y first e second f
+
+-- and the word at the head of a part, looked at by itself
+pub peeked_ends : {d : List ℕ} {w x : ℕ} → Bytes d → word_size + stride < length d → w ≡ word (take word_size (drop 0 d))
+    → x ≡ over may_end word_size w → Peeked is_boundary d 0 x
+peeked_ends {d} {w} {x} bytes room first e = peeked is_boundary may_end finds_ends d bytes 0 (omega arith) w x first e
+
 -- a byte that is neither a quote nor a backslash
 pub no-turn : (b : ℕ) → turns_quote b ≡ false → (b ≡ quote → ⊥) × (b ≡ backslash → ⊥)
 unfolding turns_quote

@@ -51,6 +51,7 @@ pub fn skip_ws_t(text: &[u8], at: usize) -> Option<usize>
     ensures { result ≡ skip_ws text.now at }
 {
     let mut i = at;
+    // A `for` is no plainer: the comment's loop goes on with the same index.
     'blanks: while i < text.len() {
         let b = text[i];
         if is_blank(b) {
@@ -94,6 +95,7 @@ pub fn parse_quote_scalar(d: &[u8]) -> Option<QuotedRun>
 {
     let mut i = 0;
     let mut escaped = false;
+    // No `for`: a backslash steps over two bytes.
     while i < d.len() {
         let b = d[i];
         if b == b'"' {
@@ -152,11 +154,7 @@ fn opens_variable(text: &[u8], at: usize) -> bool
         return false;
     }
     let next = at + 1;
-    if next < text.len() {
-        text[next] == b'['
-    } else {
-        false
-    }
+    next < text.len() && text[next] == b'['
 }
 
 // The interpolated variable at a place, or none where the text ends first. Its `]` stays in the view, and any byte may stand before it.

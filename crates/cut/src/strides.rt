@@ -71,14 +71,16 @@ fn all_unmarked(x: u64, y: u64) -> bool
 
 // How many bytes stand before the first mark of a word; all eight where there is none.
 fn word_mark(x: u64) -> usize
-    ensures { result ≡ word_mark x }
+    ensures mark { result ≡ word_mark x }
+    ensures few { result ≤ word_size }
 {
     (u64::trailing_zeros(x & TOPS) >> 3) as usize
 }
 
 // How many bytes stand before the first mark of two words; all sixteen where there is none.
 fn first_mark(x: u64, y: u64) -> usize
-    ensures { result ≡ first_mark x y }
+    ensures mark { result ≡ first_mark x y }
+    ensures few { result ≤ stride }
 {
     let mut word = x;
     let mut skip = 0;
@@ -114,6 +116,7 @@ fn stop_tail(d: &[u8], at: usize) -> usize
 fn stop_far(d: &[u8], at: usize) -> usize
     ensures { result ≡ stop_from is_boundary (drop at d.now) at }
 {
+    // No `for`: a step goes over a stride, or to behind a marked byte.
     let mut i = at;
     let last = strides(d.len());
     while i < last {
@@ -219,6 +222,7 @@ fn quote_tail(d: &[u8], at: usize, before: bool) -> Option<QuotedRun>
 pub(crate) fn quote_unguessed(d: &[u8]) -> Option<QuotedRun>
     ensures { result ≡ quoted_run d.now }
 {
+    // No `for`, as in `stop_far`.
     let mut i = 0;
     let mut escaped = false;
     let last = strides(d.len());
@@ -248,14 +252,10 @@ pub(crate) fn quote_unguessed(d: &[u8]) -> Option<QuotedRun>
 fn closes_soon(d: &[u8]) -> bool
     ensures { result ≡ closes_soon d.now }
 {
-    if d.len() < 2 {
-        return false;
+    match d {
+        &[first, b'"', ..] => (first != b'"') & (first != b'\\'),
+        _ => false,
     }
-    if d[1] != b'"' {
-        return false;
-    }
-    let first = d[0];
-    (first != b'"') & (first != b'\\')
 }
 
 // How long the quoted run after an opening quote is, and whether a backslash takes part in it. Where a stride can be read, a run of one byte

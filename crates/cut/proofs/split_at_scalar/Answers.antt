@@ -26,8 +26,13 @@ loop-i-init c = refl
 pub returns-then-classes-b-ne0 : goal.returns-then-classes-b-ne0
 unfolding run_by
 returns-then-classes-b-ne0 c =
-    let here = stop_here (classed _) _ _ c.loop-i-test.true (classed-yes _ _ c.if-classes-b-ne0.true) in
-    omega (arith, c.max.ensures, c.loop-i-test.true, run-clamped (classed _) _ _ (sym (c.loop-i.invariant ∙ here)))
+    c.max.ensures
+    ∙ omega (
+      arith,
+      c.loop-i-test.true,
+      run-clamped (classed _) _ _
+          (sym (c.loop-i.invariant ∙ stop_here (classed _) _ _ c.loop-i-test.true (classed-yes _ _ c.if-classes-b-ne0.true))),
+    )
 
 pub loop-i-preserved : goal.loop-i-preserved
 loop-i-preserved c = c.loop-i.invariant ∙ stop_later (classed _) _ _ c.loop-i-test.true (classed-no _ _ c.if-classes-b-ne0.false)
@@ -35,5 +40,9 @@ loop-i-preserved c = c.loop-i.invariant ∙ stop_later (classed _) _ _ c.loop-i-
 pub returns : goal.returns
 unfolding run_by
 returns c =
-    let past = stop_past (classed _) _ _ c.loop-i-test.false in
-    omega (arith, c.loop-i.auto.i-end, c.loop-i-test.false, run-clamped (classed _) _ _ (sym (c.loop-i.invariant ∙ past)))
+    omega (
+      arith,
+      c.loop-i.auto.i-end,
+      c.loop-i-test.false,
+      run-clamped (classed _) _ _ (sym (c.loop-i.invariant ∙ stop_past (classed _) _ _ c.loop-i-test.false)),
+    )

@@ -15,11 +15,11 @@ at_once : (b : ℕ) → not (turns_quote b) ≡ (not (eqb b quote) && not (eqb b
 unfolding turns_quote
 at_once b = by_bool (eqb b quote) (λ t. rw (turns_quote, t)) (λ f. rw (turns_quote, f))
 
-pub returns-then-d-lt2 : goal.returns-then-d-lt2
-returns-then-d-lt2 c = sym (soon_short _ c.if-d-lt2.true)
+pub returns-in-34 : goal.returns-in-34
+returns-in-34 c = sym (soon_quote _ c.in-34.len_at_least (omega arith) ∙ at_once _)
 
-pub returns-then-d-ne34 : goal.returns-then-d-ne34
-returns-then-d-ne34 c = sym (soon_other _ c.if-d-ne34.true)
+pub returns-in_default : goal.returns-in_default
+returns-in_default c = sym (soon_short _ c.in_default.len_below)
 
-pub returns : goal.returns
-returns c = sym (soon_quote _ (omega arith) c.if-d-ne34.false ∙ at_once _)
+pub returns-in_default-2 : goal.returns-in_default-2
+returns-in_default-2 c = sym (soon_other _ (λ e. omega arith))

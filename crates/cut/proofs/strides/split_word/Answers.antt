@@ -6,11 +6,10 @@ use mathlib.Core.Path.{◌≡◌, sym, ◌∙◌, ap}
 use Prim.Native.Nat.{ℕ, ◌+◌, ◌<◌}
 use native.Mathlib.Nat.{zero-add}
 use native.Mathlib.Omega.{arith}
-use lib.ListN.{length, get_or, drop}
+use lib.ListN.{get_or, drop}
 use Rattle.data.specs.Classes.{is_boundary}
-use Rattle.cut.specs.Marks.{may_end, Calm}
 use Rattle.cut.specs.Runs.{stop_from, unquoted_run}
-use Rattle.cut.proofs.Marks.{Peeked, peeked, finds_ends}
+use Rattle.cut.proofs.Marks.{peeked_ends}
 use Rattle.cut.proofs.Runs.{run_head, run_stop, run-later}
 use Rattle.cut.proofs.Scans.{run-passes, run-stops, run-goes_on}
 use Rattle.cut.proofs.strides.split_word.Goals as goal
@@ -23,25 +22,11 @@ unfolding unquoted_run
 behind d from at n e h s q =
     q ∙ ap (λ (k : ℕ). stop_from is_boundary (drop k d) k) e ∙ sym (run-later is_boundary d at h s)
 
-pub bounds-d-n : goal.bounds-d-n
-bounds-d-n c =
-    let word_at : Peeked is_boundary c.args.d.now 0 c.may_end-x.result =
-    peeked is_boundary may_end finds_ends _ (λ k. (c.type_inv.d k).fits) 0 (omega (arith, c.requires)) _ _
-    c.eight.ensures c.may_end-x.ensures in
-    let marked : let d = c.args.d.now in
-    Calm is_boundary d 0 c.word_mark-n.result × (0 + c.word_mark-n.result < length d) =
-    word_at.marked c.if-x-ne0.true _ c.word_mark-n.ensures in
-    omega (arith, marked.1)
-
 pub returns-then-n-eq0 : goal.returns-then-n-eq0
 unfolding unquoted_run
 returns-then-n-eq0 c =
-    let word_at : Peeked is_boundary c.args.d.now 0 c.may_end-x.result =
-    peeked is_boundary may_end finds_ends _ (λ k. (c.type_inv.d k).fits) 0 (omega (arith, c.requires)) _ _
-    c.eight.ensures c.may_end-x.ensures in
-    let marked : let d = c.args.d.now in
-    Calm is_boundary d 0 c.word_mark-n.result × (0 + c.word_mark-n.result < length d) =
-    word_at.marked c.if-x-ne0.true _ c.word_mark-n.ensures in
+    let word_at = peeked_ends (λ k. (c.type_inv.d k).fits) c.requires c.eight.ensures c.may_end-x.ensures in
+    let marked = word_at.marked c.if-x-ne0.true _ c.word_mark-n.ensures.mark in
     let d = c.args.d.now in
     sym
     (run_head is_boundary d (omega (arith, marked.1))
@@ -50,36 +35,20 @@ returns-then-n-eq0 c =
 pub returns-else-n-eq0 : goal.returns-else-n-eq0
 unfolding unquoted_run
 returns-else-n-eq0 c =
-    let word_at : Peeked is_boundary c.args.d.now 0 c.may_end-x.result =
-    peeked is_boundary may_end finds_ends _ (λ k. (c.type_inv.d k).fits) 0 (omega (arith, c.requires)) _ _
-    c.eight.ensures c.may_end-x.ensures in
-    let marked : let d = c.args.d.now in
-    Calm is_boundary d 0 c.word_mark-n.result × (0 + c.word_mark-n.result < length d) =
-    word_at.marked c.if-x-ne0.true _ c.word_mark-n.ensures in
+    let word_at = peeked_ends (λ k. (c.type_inv.d k).fits) c.requires c.eight.ensures c.may_end-x.ensures in
+    let marked = word_at.marked c.if-x-ne0.true _ c.word_mark-n.ensures.mark in
     sym
     (run_stop is_boundary _ _
     (run-stops is_boundary _ 0 _ marked.0 marked.1 (rw zero-add (sym c.is_boundary.ensures ∙ c.if-is_boundary.true))
     ∙ zero-add c.word_mark-n.result)
     c.if-n-eq0.false)
 
-pub overflow_add-from : goal.overflow_add-from
-overflow_add-from c =
-    let word_at : Peeked is_boundary c.args.d.now 0 c.may_end-x.result =
-    peeked is_boundary may_end finds_ends _ (λ k. (c.type_inv.d k).fits) 0 (omega (arith, c.requires)) _ _
-    c.eight.ensures c.may_end-x.ensures in
-    let marked : let d = c.args.d.now in
-    Calm is_boundary d 0 c.word_mark-n.result × (0 + c.word_mark-n.result < length d) =
-    word_at.marked c.if-x-ne0.true _ c.word_mark-n.ensures in
-    omega (arith, marked.1)
-
 pub returns : goal.returns
 returns c =
-    let word_at : Peeked is_boundary c.args.d.now 0 c.may_end-x.result =
-    peeked is_boundary may_end finds_ends _ (λ k. (c.type_inv.d k).fits) 0 (omega (arith, c.requires)) _ _
-    c.eight.ensures c.may_end-x.ensures in
+    let word_at = peeked_ends (λ k. (c.type_inv.d k).fits) c.requires c.eight.ensures c.may_end-x.ensures in
     elim c.if-x-ne0.branch [
       | then-x-ne0+else-is_boundary w ↦
-          let seen = word_at.marked w.if-x-ne0.true _ w.word_mark-n.ensures in
+          let seen = word_at.marked w.if-x-ne0.true _ w.word_mark-n.ensures.mark in
           behind _ c.if-x-ne0.from (0 + w.word_mark-n.result + 1) _ (omega (arith, w.from-is)) (omega arith)
           (run-goes_on is_boundary _ 0 _ seen.0 seen.1 (rw zero-add (sym w.is_boundary.ensures ∙ w.if-is_boundary.false)))
           c.stop_far.ensures

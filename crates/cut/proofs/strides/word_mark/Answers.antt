@@ -12,4 +12,4 @@ overflow_cast-result c = omega (arith, trailing_le 64 (bit_and c.args.x tops))
 
 pub returns : goal.returns
 unfolding word_mark
-returns c = refl
+returns c = record { mark = refl; few = omega (arith, trailing_le 64 (bit_and c.args.x tops)) }
