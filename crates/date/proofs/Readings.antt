@@ -15,7 +15,7 @@ use Rattle.date.specs.Reading.{part_at, pointed_part, right_number, shaped, numb
 use Rattle.date.specs.declared.calendar.Date.{Date}
 use Rattle.date.specs.declared.refusals.DateError.TheVariants.{NotADate, OutOfRange}
 use Rattle.date.specs.declared.refusals.DateError.{DateError}
-use Rattle.std.specs.Prelude.{Option, Some, None, Result, Ok, Err}
+use Rattle.std.specs.Prelude.{Some, None, Result, Ok, Err}
 use Rattle.date.proofs.Ranges.{ranged_in, ranged_out, bounded-ranged}
 use Rattle.date.proofs.Shapes.{run, Taken, closed, closed_parts, first, no-first, next, lost, over}
 

@@ -1,6 +1,5 @@
 -- What each turn keeps.
 use mathlib.Core.Path.{◌≡◌}
-use Prim.Native.Nat.{◌≤◌}
 use Rattle.date.specs.Calendar.{days_before}
 use Rattle.date.proofs.calendar.days_before.Given as goal
 

@@ -1,7 +1,7 @@
 -- What each turn keeps.
 use mathlib.Core.Path.{◌≡◌}
-use Prim.Native.Nat.{◌+◌, ◌≤◌, ◌<◌}
-use Rattle.date.specs.Calendar.{months, together, months_past, month_at}
+use Prim.Native.Nat.{◌+◌, ◌<◌}
+use Rattle.date.specs.Calendar.{together, months_past, month_at}
 use Rattle.date.proofs.Months.{from_month}
 use Rattle.date.proofs.calendar.month_of.Given as goal
 

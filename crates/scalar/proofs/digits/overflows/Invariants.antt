@@ -1,5 +1,5 @@
 -- What each turn keeps.
-use Rattle.std.proofs.Common.{◌≡◌, ◌^◌, ◌<◌, length, drop}
+use Rattle.std.proofs.Common.{◌≡◌, ◌^◌, ◌<◌, drop}
 use Rattle.scalar.specs.Digits.{digit_run, value}
 use Rattle.scalar.proofs.digits.overflows.Given as goal
 
