@@ -5,8 +5,8 @@ use Rattle.machine.specs.declared.Refusal.{Refusal}
 use Rattle.machine.specs.declared.Parsed.{Parsed}
 
 -- so many tokens, with a BOM or without
-abbrev pub parsed : ℕ → Bool → Result Parsed Refusal
-parsed count bom = Ok (record { count = count; bom = bom })
+abbrev pub with_tokens : ℕ → Bool → Result Parsed Refusal
+with_tokens count bom = Ok (record { count = count; bom = bom })
 
 -- an answer with the words that it leaves
 pub data Outcome : Type 0 where
@@ -18,5 +18,5 @@ refuse len r = outcome (Err r) (replicate len 0)
 
 -- After success all words past the tokens are 0
 unfoldable pub finish : List ℕ → Result ℕ Refusal → Bool → Outcome
-finish ws (Ok n) bom = outcome (parsed n bom) (cleared ws n)
+finish ws (Ok n) bom = outcome (with_tokens n bom) (cleared ws n)
 finish ws (Err r) bom = refuse (length ws) r

@@ -8,7 +8,7 @@ use Rattle.machine.specs.declared.Machine.{Machine}
 use Rattle.machine.specs.declared.Refusal.TheVariants.{TooLong, Eof}
 use Rattle.machine.specs.Start.{has_bom, start}
 use Rattle.machine.specs.Machine.{to}
-use Rattle.machine.specs.Finish.{Outcome, outcome, refuse, parsed}
+use Rattle.machine.specs.Finish.{Outcome, outcome, refuse, with_tokens}
 use Rattle.parse.specs.After.{After, next, done, refused}
 use Rattle.parse.specs.Containers.{text_end}
 use Rattle.parse.specs.Key.{key_turn}
@@ -61,7 +61,7 @@ text_limit = 16777215
 -- crates/parse/proofs/Runs.antt
 abbrev pub answer : Bool → ℕ → After → Outcome
 answer bom len (next m t) = refuse len Eof
-answer bom len (done n t) = outcome (parsed n bom) (padded len t.tokens)
+answer bom len (done n t) = outcome (with_tokens n bom) (padded len t.tokens)
 answer bom len (refused r) = refuse len r
 
 -- the parse of a text on a tape of so many words: there is room for as many tokens as its length divided by 3, rounded down; 1 TooLong

@@ -21,7 +21,7 @@ use Rattle.machine.specs.Refusals.{number}
 use Rattle.parse.specs.Told.{tell_parse}
 use Rattle.parse.specs.After.{After, next, done, refused}
 use Rattle.machine.specs.Start.{has_bom}
-use Rattle.machine.specs.Finish.{Outcome, outcome, parsed}
+use Rattle.machine.specs.Finish.{Outcome, outcome, with_tokens}
 use Rattle.parse.specs.Parse.{answer, text_limit, parse_of}
 use Rattle.parse.proofs.parse.Reads as parse
 use Rattle.promises.specs.Demand1.{Laid_out, Demand1}
@@ -57,7 +57,7 @@ parse_left text len =
     (answer-left (has_bom text) len (run_in (holds (capacity len)) text) (run_fits text (capacity len))))
 
 -- a success leaves every word past its tokens zero
-pub success_zeroes_past : (text : List ℕ) (len n : ℕ) (bom : Bool) (ws : List ℕ) → outcome (parsed n bom) ws ≡ parse_of text len → Laid_out len n ws
+pub success_zeroes_past : (text : List ℕ) (len n : ℕ) (bom : Bool) (ws : List ℕ) → outcome (with_tokens n bom) ws ≡ parse_of text len → Laid_out len n ws
 success_zeroes_past text len n bom ws e = rw (← e) at (parse_left text len)
 
 -- ---- told by document 01's numbers

@@ -11,7 +11,7 @@ use Rattle.sheet.specs.Sound.{Sound}
 use Rattle.sheet.proofs.check.Reads as check
 use Rattle.machine.specs.declared.Refusal.TheVariants.{Full}
 use Rattle.machine.specs.declared.Parsed.{Parsed}
-use Rattle.machine.specs.Finish.{outcome, parsed}
+use Rattle.machine.specs.Finish.{outcome, with_tokens}
 use Rattle.parse.specs.Parse.{parse_of}
 use Rattle.parse.specs.Told.{tell_parse}
 use Rattle.tape.specs.Words.{capacity, words_for}
@@ -25,7 +25,7 @@ use Rattle.promises.proofs.Links.Parse.{parse_tied}
 use Rattle.promises.proofs.Rising.{parse_viewed}
 use Rattle.machine.specs.declared.Refusal.{Refusal}
 
-pub parse_sound : (text : List ℕ) (len count : ℕ) (bom : Bool) (words : List ℕ) → parse_of text len ≡ outcome (parsed count bom) words
+pub parse_sound : (text : List ℕ) (len count : ℕ) (bom : Bool) (words : List ℕ) → parse_of text len ≡ outcome (with_tokens count bom) words
     → Sound (length text) words count
 parse_sound text len count bom words e =
     let out = success_zeroes_past text len count bom words (sym e) in
@@ -72,10 +72,10 @@ parse_passes κs args r xs p =
     omega (arith, laid-most text_lent))
 
 -- and asked of the text's length, those words and that count, any answer that the contract of `check` allows is yes
-pub check_says_yes : (κs : _) (args : _) (count : ℕ) (bom : Bool) (xs : _) → parse.Post κs args (parsed count bom) xs
+pub check_says_yes : (κs : _) (args : _) (count : ℕ) (bom : Bool) (xs : _) → parse.Post κs args (with_tokens count bom) xs
     → let text_lent : List ℕ = args.0.now in
     let tape_left : List ℕ = xs.1.0.now in
     (ls : _) (asked : _) (said : Bool) (ys : _) → check.Post ls asked said ys
     → asked.0 ≡ length text_lent → asked.1.0.now ≡ tape_left → asked.1.1.0 ≡ count → said ≡ true
 check_says_yes κs args count bom xs p ls asked said ys q same_length same_words same_count =
-    q.1 (rw (same_length, same_words, same_count) ((parse_passes κs args (parsed count bom) xs p).sound refl))
+    q.1 (rw (same_length, same_words, same_count) ((parse_passes κs args (with_tokens count bom) xs p).sound refl))

@@ -22,7 +22,7 @@ use Rattle.machine.specs.declared.Machine.{Machine}
 use Rattle.machine.specs.declared.Parsed.{Parsed}
 use Rattle.machine.specs.Machine.{to}
 use Rattle.machine.specs.Start.{has_bom, start}
-use Rattle.machine.specs.Finish.{outcome, parsed}
+use Rattle.machine.specs.Finish.{outcome, with_tokens}
 use Rattle.parse.specs.ParseOpen.{flag_parent}
 use Rattle.parse.specs.Parse.{parse_of}
 use Rattle.parse.specs.Told.{tell_parse}
@@ -176,7 +176,7 @@ module _ (text : List ℕ) where
         finishes = λ {n} {x} by. both x (k.finishes by) (end_says m ts h.1 by);
       }
 
-  parse_says : (len count : ℕ) (bom : Bool) (words : List ℕ) → parse_of text len ≡ outcome (parsed count bom) words
+  parse_says : (len count : ℕ) (bom : Bool) (words : List ℕ) → parse_of text len ≡ outcome (with_tokens count bom) words
       → (i : ℕ) → Says text (token_in words count i)
   unfolding token_in Saying
   parse_says len count bom words e i =

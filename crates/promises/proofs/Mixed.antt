@@ -20,7 +20,7 @@ use Rattle.machine.specs.declared.State.TheVariants.{Key, KeyValueSeparator, Obj
 use Rattle.machine.specs.declared.Machine.{Machine}
 use Rattle.parse.specs.After.{After, next, done, refused}
 use Rattle.machine.specs.Start.{has_bom}
-use Rattle.machine.specs.Finish.{outcome, parsed}
+use Rattle.machine.specs.Finish.{outcome, with_tokens}
 use Rattle.parse.specs.Parse.{parse_of}
 use Rattle.promises.specs.Room.{after_turns}
 use Rattle.promises.specs.Mixed.{Mixing, Marked, Flags}
@@ -60,7 +60,7 @@ module _ (text : List ℕ) (n : ℕ) where
       (λ e. rw (a.fits (ltb-false _ _ e)) (mixing_in_room k (after_turns text n unbounded) free-turns))
 
 -- ---- a MixedContainer stands directly before a scalar, on every tape that a successful parse leaves
-pub mixed-before-scalar : (text : List ℕ) (len count : ℕ) (bom : Bool) (words : List ℕ) → parse_of text len ≡ outcome (parsed count bom) words
+pub mixed-before-scalar : (text : List ℕ) (len count : ℕ) (bom : Bool) (words : List ℕ) → parse_of text len ≡ outcome (with_tokens count bom) words
     → Marked (tokens_in words count)
 mixed-before-scalar text len count bom words e = (parse_tied text len count bom words e).tokens.marked
 

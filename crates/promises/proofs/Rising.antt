@@ -14,7 +14,7 @@ use native.Mathlib.Omega.{arith}
 use lib.ListN.{length}
 use Rattle.tape.specs.Words.{tokens_in}
 use Rattle.machine.specs.Start.{start, has_bom}
-use Rattle.machine.specs.Finish.{outcome, parsed}
+use Rattle.machine.specs.Finish.{outcome, with_tokens}
 use Rattle.parse.specs.Parse.{parse_of}
 use Rattle.parse.proofs.Walk.{parse_keeps}
 use Rattle.promises.proofs.Rising.Spans.{spans, Upto}
@@ -32,7 +32,7 @@ start-kept L bom =
     record { base = none; topped = tt }
 
 -- the words of a successful parse hold its tokens, with views as a sheet owes them
-pub parse_viewed : (text : List ℕ) (len count : ℕ) (bom : Bool) (words : List ℕ) → parse_of text len ≡ outcome (parsed count bom) words
+pub parse_viewed : (text : List ℕ) (len count : ℕ) (bom : Bool) (words : List ℕ) → parse_of text len ≡ outcome (with_tokens count bom) words
     → Viewed (length text) (tokens_in words count)
 parse_viewed text len count bom words e =
     let L : ℕ = length text in

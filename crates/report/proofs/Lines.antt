@@ -14,7 +14,7 @@ use Rattle.tape.specs.Token.{no_token}
 use Rattle.tape.specs.Words.{tokens_in, token_in}
 use Rattle.machine.specs.declared.Parsed.{Parsed}
 use Rattle.machine.specs.declared.Refusal.{Refusal}
-use Rattle.machine.specs.Finish.{outcome, parsed}
+use Rattle.machine.specs.Finish.{outcome, with_tokens}
 use Rattle.parse.specs.Parse.{parse_of}
 use Rattle.machine.specs.declared.Refusal.TheVariants.{TooLong, Eof, StackEmpty, NoHeader, NoValue, MixedParameter, Full}
 use Rattle.machine.specs.declared.Refusal.TheVariants.{NothingPrecedes, UnknownOperator, NoParameter, OpenName}
@@ -36,7 +36,7 @@ lines_none ts i all e h =
     rw (drop_of_length-le ts past)
 
 -- the dump of a text that parses, and of one that is refused
-pub dump-tokens : (text ws : List ℕ) (len count : ℕ) (bom : Bool) (p : Result Parsed Refusal) → outcome p ws ≡ parse_of text len → p ≡ parsed count bom
+pub dump-tokens : (text ws : List ℕ) (len count : ℕ) (bom : Bool) (p : Result Parsed Refusal) → outcome p ws ≡ parse_of text len → p ≡ with_tokens count bom
     → header_of count (bit bom) ++ lines_from 0 (tokens_in ws count) ≡ dump_of text len
 unfolding dump_of lines_of
 dump-tokens text ws len count bom p e told = rw (dump_of, ← e, told)

@@ -19,7 +19,7 @@ use Rattle.sheet.specs.Sound.{nth}
 use Rattle.tape.proofs.Views.{tokens-length, tokens-at, tokens_none, tokens-past}
 use Rattle.machine.specs.declared.Parsed.{Parsed}
 use Rattle.machine.specs.declared.Refusal.{Refusal}
-use Rattle.machine.specs.Finish.{outcome, parsed}
+use Rattle.machine.specs.Finish.{outcome, with_tokens}
 use Rattle.parse.specs.Parse.{parse_of}
 use Rattle.machine.specs.Refusals.{number, place}
 use Rattle.put.proofs.Append.{append-fits}
@@ -123,7 +123,7 @@ unfolding refused_of
 refused-short number place h k = simp length-append (omega (arith, number_short number h, number_short place k))
 
 -- ---- so that the dump of any text is held, and with it what the program prints
-pub dump-held : (text ws : List ℕ) (len count : ℕ) (bom : Bool) (p : Result Parsed Refusal) → outcome p ws ≡ parse_of text len → p ≡ parsed count bom
+pub dump-held : (text ws : List ℕ) (len count : ℕ) (bom : Bool) (p : Result Parsed Refusal) → outcome p ws ≡ parse_of text len → p ≡ with_tokens count bom
     → Fit ws → length ws ≡ len → count < 2 ^ 32 → Held (dump_of text len) len
 dump-held text ws len count bom p e told fit kept small tokens room =
     let most = tokens-length ws count in

@@ -1,6 +1,7 @@
 -- Our tokens as the Rust has them: what is laid down, changed and read off is the same, from what holds of every machine that a run reaches.
 -- Assumes nothing.
-use Rattle.std.specs.Prelude.{Option, Some, None}
+use Rattle.std.specs.Prelude.{Some, None}
+use Rattle.std.specs.Prelude.{Option as Maybe}
 use Prim.Native.Nat.{ℕ, zero, suc, ◌+◌, ◌-◌, ◌≤◌, ◌<◌}
 use mathlib.Core.Path.{◌≡◌, refl, sym, ◌∙◌, ap}
 use mathlib.Core.Bool.{Bool, true, false, ◌&&◌}
@@ -252,7 +253,7 @@ abbrev pub container_as : ContainerKind → ℕ → Bool → Rust.Container
 container_as Array link mixed = Rust.AnArray link mixed
 container_as Object link mixed = Rust.AnObject link mixed
 
-abbrev pub as_container : Option Containers.Container → Rust.Container
+abbrev pub as_container : Maybe Containers.Container → Rust.Container
 as_container (Some c) = container_as c.kind c.link c.mixed
 as_container None = Rust.Neither
 
@@ -269,15 +270,15 @@ pub container-read : (ts : List Token) (i : ℕ) → Rust.container (Rust.get (r
 container-read ts i = get-read Rust.container refl ts i ∙ token_container (nth ts i)
 
 -- what a container is read for
-pub ends_same : (c : Option Containers.Container) → Rust.its_end (as_container c) ≡ parent_of c
+pub ends_same : (c : Maybe Containers.Container) → Rust.its_end (as_container c) ≡ parent_of c
 ends_same c =
     by_opened (λ c. Rust.its_end (as_container c) ≡ parent_of c) (elim [ Array ↦ λ link mixed. refl | Object ↦ λ link mixed. refl ]) refl c
 
-pub mode_same : (c : Option Containers.Container) → Rust.mode_in (as_container c) ≡ mixed_in c
+pub mode_same : (c : Maybe Containers.Container) → Rust.mode_in (as_container c) ≡ mixed_in c
 mode_same c =
     by_opened (λ c. Rust.mode_in (as_container c) ≡ mixed_in c) (elim [ Array ↦ λ link mixed. refl | Object ↦ λ link mixed. refl ]) refl c
 
-pub state-same : (c : Option Containers.Container) → Rust.state_in (as_container c) ≡ as_state (state_in c)
+pub state-same : (c : Maybe Containers.Container) → Rust.state_in (as_container c) ≡ as_state (state_in c)
 state-same c = by_opened (λ c. Rust.state_in (as_container c) ≡ as_state (state_in c)) go refl c
   where
     go : (kind : ContainerKind) (link : ℕ) (mixed : Bool)
@@ -286,7 +287,7 @@ state-same c = by_opened (λ c. Rust.state_in (as_container c) ≡ as_state (sta
     go Object link true = refl
     go Object link false = refl
 
-pub kind-same : (c : Option Containers.Container) (end : ℕ) (mixed : Bool)
+pub kind-same : (c : Maybe Containers.Container) (end : ℕ) (mixed : Bool)
     → Rust.closed_as (Rust.is_array (as_container c)) end mixed ≡ opener_as (own_kind c) end mixed
 kind-same c end mixed =
     by_opened (λ c. Rust.closed_as (Rust.is_array (as_container c)) end mixed ≡ opener_as (own_kind c) end mixed)

@@ -26,6 +26,7 @@ use Rattle.way_back.proofs.Answers.{given_accepts, settled, length-sound}
 use Rattle.way_back.proofs.Exactly.{length-exactly}
 use Rattle.way_back.proofs.Promised.{plain-accepted, plain-promised}
 use Rattle.way_back.proofs.Stable.{parses_again, stable}
+use Rattle.machine.specs.declared.Refusal.{Refusal as ParseRefusal}
 
 -- ---- what the contracts say of a call's values
 abbrev written_of : WriteCall → Left
@@ -111,12 +112,12 @@ module _ (κs : _) (args : _) (r : Result ℕ Refusal) (xs : _) (post : write.Po
   pub write-plain : WritePlain writing
   write-plain = plain-told writing post
 
-module _ (κs : _) (args : _) (p : Result Parsed Refusal) (xs : _) (post : parse.Post κs args p xs) where
+module _ (κs : _) (args : _) (p : Result Parsed ParseRefusal) (xs : _) (post : parse.Post κs args p xs) where
   abbrev pub parsing : ParseCall
   parsing = record { text = args.0.now; len = length args.1.0.now; parsed = outcome p xs.1.0.now }
 
 module _ (κs : _) (args : _) (r : Result ℕ Refusal) (xs : _) (post : write.Post κs args r xs)
-    (ls : _) (asked : _) (p : Result Parsed Refusal) (ys : _) (q : parse.Post ls asked p ys) where
+    (ls : _) (asked : _) (p : Result Parsed ParseRefusal) (ys : _) (q : parse.Post ls asked p ys) where
   pub write-exactly : WriteExactly (writing κs args r xs post) (parsing ls asked p ys q)
   write-exactly = exactly-told _ _ post q
 

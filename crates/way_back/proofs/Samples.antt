@@ -24,7 +24,7 @@ use Rattle.tape.specs.Words.{words_for, tokens_in, words_of, padded}
 use Rattle.tape.specs.Tape.{token_at, replace, add, lay}
 use Rattle.machine.specs.Bytes.{key_byte, open_byte, follows_key}
 use Rattle.machine.specs.Start.{has_bom, start}
-use Rattle.machine.specs.Finish.{outcome, parsed}
+use Rattle.machine.specs.Finish.{outcome, with_tokens}
 use Rattle.parse.specs.After.{lay_then}
 use Rattle.parse.specs.Containers.{open_then, close_at, close, key_end, text_end}
 use Rattle.parse.specs.Scalars.{scalar_then}
@@ -48,7 +48,7 @@ abbrev tokens : List Token
 tokens = scalar_of Unquoted 0 1 ∷ opener_of Object 4 false ∷ scalar_of Unquoted 3 1 ∷ scalar_of Quoted 6 1 ∷ end_of 1 ∷ []
 
 -- it is what parse leaves
-parsed : parse_of text (words_for 5) ≡ outcome (parsed 5 false) (words_of tokens)
+parsed : parse_of text (words_for 5) ≡ outcome (with_tokens 5 false) (words_of tokens)
 unfolding bytes is_boundary is_blank blanks_from comment_from skip_ws stop_from run_of run_end_of quoted_from skipped_from quoted_run
     opens_variable cut_of scalar_cut sighted container_of scalar_named words_of padded token_at replace add lay key_byte open_byte
     follows_key has_bom start lay_then open_then close_at close key_end text_end scalar_then key_close key_turn separator_then

@@ -20,6 +20,7 @@ use Rattle.way_back.proofs.Rooms.{Laid, found, laid_anywhere}
 use Rattle.way_back.proofs.Answers.{given_accepts, Settled, settled}
 use Rattle.way_back.proofs.Exactly.{Comes, comes, comes_anywhere}
 use Rattle.way_back.proofs.Likeness.{alike-text, alike-formed, alike_deep}
+use Rattle.machine.proofs.Outcomes.{same_outcome}
 
 -- one text is accepted
 one-text : (room scratch : ℕ) (bytes other : List ℕ) → accept room scratch bytes ≡ accept room scratch other → bytes ≡ other
@@ -36,8 +37,9 @@ laid-once text n m bom mark us vs a b =
     let room : capacity len ≡ n + m = mul-div_cancel (n + m) (omega arith) in
     let x = a.parsed len (omega arith) in
     let y = b.parsed len (omega arith) in
-    let c : n ≡ m = cc in
-    let w : padded len us ≡ padded len vs = cc in
+    let same = same_outcome (sym x ∙ y) in
+    let c : n ≡ m = same.0 in
+    let w : padded len us ≡ padded len vs = same.2 in
     sym (found len n us a.counted) ∙ ap (λ (ws : List ℕ). tokens_in ws n) w ∙ ap (tokens_in (padded len vs)) c ∙ found len m vs b.counted
 
 module _ (text : List ℕ) (ts : List Token) (room scratch : ℕ) (bytes : List ℕ) (a : AcceptedAs text ts room scratch bytes) where

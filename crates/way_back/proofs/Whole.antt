@@ -19,7 +19,7 @@ use Rattle.machine.specs.declared.Machine.{Machine}
 use Rattle.machine.specs.Start.{bom_first, has_bom, start}
 use Rattle.parse.specs.After.{After, next, done}
 use Rattle.parse.specs.Containers.{text_end, key_end}
-use Rattle.machine.specs.Finish.{outcome, parsed}
+use Rattle.machine.specs.Finish.{outcome, with_tokens}
 use Rattle.parse.specs.Parse.{turn, run, enough, text_limit, parse_of}
 use Rattle.parse.proofs.Falls.{left}
 use Rattle.parse.proofs.Runs.{run-add, run-done, run-enough, within-enough}
@@ -90,7 +90,7 @@ no_bom (pairs (quoted bs) e ps) pl = refl
 
 -- and so the parse, given room
 pub plain_back : (t : Tree) → PlainTree t → length (write_tree t) ≤ text_limit → (len : ℕ) → length (flatten_tree t) ≤ capacity len
-    → parse_of (write_tree t) len ≡ outcome (parsed (length (flatten_tree t)) false) (padded len (flatten_tree t))
+    → parse_of (write_tree t) len ≡ outcome (with_tokens (length (flatten_tree t)) false) (padded len (flatten_tree t))
 unfolding run_in start
 plain_back t pl fits len room =
     let text : List ℕ = write_tree t in

@@ -2,7 +2,7 @@
 use Rattle.std.specs.Prelude.{ℕ, Ok, ◌-◌, ◌≤◌, Bool, ◌≡◌, List, ◌++◌, length, take}
 use Rattle.tape.specs.declared.token.Token.{Token}
 use Rattle.tape.specs.Words.{capacity, words_for, tokens_in}
-use Rattle.machine.specs.Finish.{Outcome, outcome, parsed}
+use Rattle.machine.specs.Finish.{Outcome, outcome, with_tokens}
 use Rattle.sheet.specs.Sound.{Sound}
 use Rattle.writer.specs.Write.{Left, left, zeros, accept, text_of}
 use Rattle.way_back.specs.Plain.{Plain}
@@ -59,7 +59,7 @@ pub record ParsesWritten (w : WriteCall) (size : ℕ) (p : ParseCall) : Type 0 w
 -- what a parse left is written, over the text that it parsed, with room
 pub record WritesParsed (p : ParseCall) (v : WriteCall) : Type 0 where
   pub bom : Bool
-  pub parsed : p.parsed ≡ outcome (parsed v.count bom) v.words
+  pub parsed : p.parsed ≡ outcome (with_tokens v.count bom) v.words
   pub text : v.text ≡ p.text
   pub buffer : length p.text ≤ v.room
   pub tape : v.count ≤ capacity v.scratch

@@ -2,7 +2,7 @@
 use Rattle.std.specs.Prelude.{ℕ, ◌≤◌, Bool, true, false, ◌≡◌, List, length}
 use Rattle.tape.specs.declared.token.Token.{Token}
 use Rattle.tape.specs.Words.{capacity, tokens_in}
-use Rattle.machine.specs.Finish.{Outcome, outcome, parsed}
+use Rattle.machine.specs.Finish.{Outcome, outcome, with_tokens}
 use Rattle.parse.specs.Parse.{parse_of}
 use Rattle.sheet.specs.Sound.{Sound}
 use Rattle.alike.specs.Alike.{alike}
@@ -13,7 +13,7 @@ use Rattle.way_back.specs.Accepted.{AcceptedAs}
 pub record LeavesAlike (text : List ℕ) (ts : List Token) (bytes : List ℕ) (parsed : Outcome) : Type 0 where
   pub bom : Bool
   pub words : List ℕ
-  pub told : parsed ≡ outcome (parsed (length ts) bom) words
+  pub told : parsed ≡ outcome (with_tokens (length ts) bom) words
   pub same : alike text bytes ts (tokens_in words (length ts)) ≡ true
 
 -- so does a parse of what is accepted, on any tape with room for the count
@@ -33,5 +33,5 @@ pub record Stable (bytes words : List ℕ) (count : ℕ) : Type 0 where
 -- whatever a parse of what is accepted leaves, on any tape
 abbrev pub WritesAgain : List ℕ → List Token → ℕ → ℕ → List ℕ → Type 0
 WritesAgain text ts room scratch bytes =
-    AcceptedAs text ts room scratch bytes → (len count : ℕ) (bom : Bool) (words : List ℕ) → parse_of bytes len ≡ outcome (parsed count bom) words
+    AcceptedAs text ts room scratch bytes → (len count : ℕ) (bom : Bool) (words : List ℕ) → parse_of bytes len ≡ outcome (with_tokens count bom) words
     → Stable bytes words count

@@ -13,7 +13,7 @@ use Rattle.tape.specs.Tape.{Tape}
 use Rattle.tape.proofs.Shapes.{no-shape}
 use Rattle.parse.specs.After.{next}
 use Rattle.machine.specs.Start.{start, has_bom}
-use Rattle.machine.specs.Finish.{outcome, parsed}
+use Rattle.machine.specs.Finish.{outcome, with_tokens}
 use Rattle.parse.specs.Parse.{run, parse_of}
 use Rattle.parse.proofs.Walk.{run_keeps, parse_keeps}
 use Rattle.promises.proofs.Links.Nest.{nest_none}
@@ -45,6 +45,6 @@ pub run-from-start : (text : List ℕ) (n : ℕ) (bom : Bool) (t : Tape) → t.t
 run-from-start text n bom t none = run_keeps Held Finished text (turn-moves text) n (next (start bom) t) (rw none (start-held bom))
 
 -- the words of a successful parse hold as many tokens as it answers, and they are tied
-pub parse_tied : (text : List ℕ) (len count : ℕ) (bom : Bool) (words : List ℕ) → parse_of text len ≡ outcome (parsed count bom) words
+pub parse_tied : (text : List ℕ) (len count : ℕ) (bom : Bool) (words : List ℕ) → parse_of text len ≡ outcome (with_tokens count bom) words
     → Finished count (tokens_in words count)
 parse_tied text len count bom words e = rw e at (parse_keeps Held Finished text (start-held (has_bom text)) (turn-moves text) (λ n ts h. h.counted) len)
