@@ -401,7 +401,7 @@ module _ (ts : List Token) {p : ℕ} (s : Kept ts p) where
   pub end-opens : (j : ℕ) → j < length ts → (nth ts j).code ≡ end_code
       → Rust.is_container (Rust.container (Rust.get (rust_tape ts) (nth ts j).a)) ≡ true
   end-opens j h e =
-      let named : link_at ts j ≡ Some (ToOpener (nth ts j)).a = end-link (nth ts j) (closing-form (nth ts j) (s.row.forms j h) e) in
+      let named : link_at ts j ≡ Some (ToOpener (nth ts j).a) = end-link (nth ts j) (closing-form (nth ts j) (s.row.forms j h) e) in
       let o = link-container (nth ts (nth ts j).a) (s.links.opened j (nth ts j).a named).1 in
       ap Rust.is_container (container-read ts (nth ts j).a ∙ ap as_container o.2) ∙ is-opened o.0 j o.1
 
