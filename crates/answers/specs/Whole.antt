@@ -14,6 +14,7 @@ use Rattle.report.specs.Readings.{readings_of, leading_of}
 use Rattle.report.specs.Room.{most_input, most_tokens, dump_bytes}
 use Rattle.report.specs.Sheets as sheets
 use Rattle.file_lines.specs.Lines.{file_text, sheet_text}
+use Rattle.sheet.specs.declared.views.Viewed.{Viewed}
 
 -- the most bytes of an answer: no other is as long as the longest dump
 abbrev pub most_answer : ℕ
@@ -49,7 +50,7 @@ pub data Answers (capacity : ℕ) (body : List ℕ) : List ℕ → Type 0 where
   date : Answers capacity body (date_line body)
   day : length body ≡ word_bytes → Answers capacity body (day_line (word_in body 0))
   verdict : (sound : Bool) → Answers capacity body (sheets.verdict sound)
-  view : (from size : ℕ) (v : Option View) → Answers capacity body (sheets.view_text (take size (drop from body)) v)
+  view : (from size : ℕ) (v : Option Viewed) → Answers capacity body (sheets.view_text (take size (drop from body)) v)
   written : (w : Result ℕ Refusal) (buffer : List ℕ) → length buffer ≤ most_input → Answers capacity body (sheets.written_text w buffer)
   filed : (w : Result ℕ file.Refusal) (buffer : List ℕ) → length buffer ≤ most_input → Answers capacity body (file_text w buffer)
   found : (f : Result Found file.Refusal) (words : List ℕ) → files.Reads body (min capacity most_words) (files.left f words)

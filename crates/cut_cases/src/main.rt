@@ -113,12 +113,14 @@ fn say_scalar(rt: &impl Print, text: &[u8], place: usize) -> io::Result<()> {
             say(rt, b" unquoted")?;
             say_view(rt, start, end, rest)
         }
-        Some(Cut::Quoted {
-            start,
-            end,
-            rest,
-            escaped,
-        }) => {
+        Some(
+            Cut::Quoted {
+                start,
+                end,
+                rest,
+                escaped,
+            },
+        ) => {
             say(rt, b" quoted")?;
             say_view(rt, start, end, rest)?;
             say_escaped(rt, escaped)

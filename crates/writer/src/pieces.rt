@@ -55,11 +55,13 @@ fn bare_piece(shape: Option<Shape>) -> Piece
     ensures { result ≡ bare_piece shape }
 {
     match shape {
-        Some(Shape::Scalar {
-            kind,
-            offset,
-            length,
-        }) => scalar_piece(kind, offset, length),
+        Some(
+            Shape::Scalar {
+                kind,
+                offset,
+                length,
+            },
+        ) => scalar_piece(kind, offset, length),
         Some(Shape::Operator { number }) => Piece::Sign { number },
         Some(Shape::MixedContainer) => Piece::Mixed,
         Some(Shape::Opener { .. }) | Some(Shape::End { .. }) | None => Piece::Other,
