@@ -50,7 +50,7 @@ pub enum Refusal {
 }
 
 impl Refusal {
-    // Document 01's number for a refusal.
+    // Document 01's number for a refusal. A match, since a variant that carries a place has no discriminant.
     pub fn number(self) -> u32
         ensures { result ≡ number self }
     {
