@@ -13,6 +13,7 @@ use tape::token::{ScalarKind, Token};
 use tape::{codes, token, words};
 
 // Puts the name of the scalars of a kind.
+#[tactic(auto, unfolding(crate::specs::Dump::name_of, crate::specs::Dump::named))]
 fn put_scalar_name(out: &mut [u8], at: usize, kind: ScalarKind) -> usize
     ensures { wrote result out.new ≡ append out.old at (name_of (scalar_code kind)) }
 {
