@@ -3,7 +3,7 @@
 use Rattle.std.specs.Prelude.{ℕ, Result, List, Float, ℤ, length, Option, Some, None, Bool, false, pos}
 use Rattle.std.specs.Result.{result_unwrap_or}
 use Rattle.parse.specs.Told.{bit}
-use Rattle.scalar.specs.Numbers.{bool_refusal, whole_refusal, f64_refusal, f64_value_of}
+use Rattle.scalar.specs.Numbers.{bool_refusal_of, whole_refusal_of, f64_refusal_of, f64_value_of}
 use Rattle.scalar.specs.declared.errors.BoolError.{BoolError}
 use Rattle.scalar.specs.declared.errors.DecimalError.{DecimalError}
 use Rattle.scalar.specs.declared.errors.WholeError.{WholeError}
@@ -57,16 +57,16 @@ pub data ReadTold (Value : Type 0) : Type 0 where
   read_told : (refusal : ℕ) → Value → ReadTold Value
 
 abbrev pub tell_bool : Result Bool BoolError → ReadTold ℕ
-tell_bool r = read_told (bool_refusal r) (bit (result_unwrap_or r false))
+tell_bool r = read_told (bool_refusal_of r) (bit (result_unwrap_or r false))
 
 abbrev pub tell_u64 : Result ℕ WholeError → ReadTold ℕ
-tell_u64 r = read_told (whole_refusal r) (result_unwrap_or r 0)
+tell_u64 r = read_told (whole_refusal_of r) (result_unwrap_or r 0)
 
 abbrev pub tell_i64 : Result ℤ WholeError → ReadTold ℤ
-tell_i64 r = read_told (whole_refusal r) (result_unwrap_or r (pos 0))
+tell_i64 r = read_told (whole_refusal_of r) (result_unwrap_or r (pos 0))
 
 abbrev pub tell_f64 : Result Float DecimalError → ReadTold Float
-tell_f64 r = read_told (f64_refusal r) (f64_value_of r)
+tell_f64 r = read_told (f64_refusal_of r) (f64_value_of r)
 
 -- a date, and a day
 abbrev pub tell_date : Result Date DateError → ReadTold Date
@@ -81,7 +81,7 @@ pub data PartTold : Type 0 where
 
 -- what is told of a number and of the part after it
 abbrev pub tell_part : Result ℤ WholeError → List ℕ → PartTold
-tell_part r rest = part_told (whole_refusal r) (result_unwrap_or r (pos 0)) (length rest)
+tell_part r rest = part_told (whole_refusal_of r) (result_unwrap_or r (pos 0)) (length rest)
 
 -- a token: its code, a and b
 pub data TokenTold : Type 0 where

@@ -17,7 +17,7 @@ use Rattle.scalar.specs.Digits.{is_digit, digit_run, value}
 use Rattle.scalar.specs.Float.{tail_of, f64_read}
 use Rattle.scalar.specs.Kind.{kind_above, kind_by_size, kind_of_digits, kind_unpointed, some_digit, kind_pointed, kind_after_point, kind_after_sign}
 use Rattle.scalar.specs.Kind.{number_or_name, kind_of}
-use Rattle.scalar.specs.Numbers.{answered, precision_loss, bool_error_number, whole_error_number, bool_refusal, whole_refusal, f64_refusal}
+use Rattle.scalar.specs.Numbers.{answered, precision_loss, bool_error_number, whole_error_number, bool_refusal_of, whole_refusal_of, f64_refusal_of}
 use Rattle.scalar.specs.Numbers.{kind_bool, kind_whole, kind_decimal, kind_name, kind_number_of}
 use Rattle.scalar.specs.Truth.{yes, no, same, bool_read}
 use Rattle.scalar.specs.Whole.{i64_part, i64_read}
@@ -58,7 +58,7 @@ no_whole-refused Overflow = refl
 
 -- whether an f64 answers or gives 24
 abbrev counts : Result Float DecimalError → Bool
-counts x = eqb (f64_refusal x) answered || eqb (f64_refusal x) precision_loss
+counts x = eqb (f64_refusal_of x) answered || eqb (f64_refusal_of x) precision_loss
 
 by_f64 : (x : Result Float DecimalError) → kind_number_of (kind_by_f64 x) ≡ by_readings false false (counts x)
 by_f64 (Ok x) = refl
@@ -66,15 +66,15 @@ by_f64 (Err (Decimal.PrecisionLoss x)) = refl
 by_f64 (Err Decimal.AllDigits) = refl
 by_f64 (Err Decimal.Overflow) = refl
 
-by-i64 : (x : Result Float DecimalError) (w : Result ℤ WholeError) → kind_number_of (kind_by_i64 x w) ≡ by_readings false (eqb (whole_refusal w) answered) (counts x)
+by-i64 : (x : Result Float DecimalError) (w : Result ℤ WholeError) → kind_number_of (kind_by_i64 x w) ≡ by_readings false (eqb (whole_refusal_of w) answered) (counts x)
 by-i64 x (Ok n) = refl
 by-i64 x (Err e) = by_f64 x ∙ sym (ap (λ (a : Bool). by_readings false a (counts x)) (no_whole-refused e))
 
 by-bool_read : (x : Result Float DecimalError) (w : Result ℤ WholeError) (r : Result Bool BoolError)
-    → kind_number_of (kind_by_bool x w r) ≡ by_readings (eqb (bool_refusal r) answered) (eqb (whole_refusal w) answered) (counts x)
+    → kind_number_of (kind_by_bool x w r) ≡ by_readings (eqb (bool_refusal_of r) answered) (eqb (whole_refusal_of w) answered) (counts x)
 by-bool_read x w (Ok b) = refl
 by-bool_read x w (Err e) =
-    by-i64 x w ∙ sym (ap (λ (t : Bool). by_readings t (eqb (whole_refusal w) answered) (counts x)) (no_truth-refused e))
+    by-i64 x w ∙ sym (ap (λ (t : Bool). by_readings t (eqb (whole_refusal_of w) answered) (counts x)) (no_truth-refused e))
 
 old_is : (d : List ℕ) → old_number d ≡ by_readings (bool_answers d) (i64_answers d) (f64_counts d)
 unfolding kind_by_readings
@@ -85,7 +85,7 @@ by_truth (Ok b) is none = is b refl
 by_truth (Err e) is none = none e refl
 
 by-unless : (n : Bool) (x : Result Float DecimalError) (w : Result ℤ WholeError)
-    → kind_number_of (unless n (kind_by_i64 x w)) ≡ by_form false n (eqb (whole_refusal w) answered) (counts x)
+    → kind_number_of (unless n (kind_by_i64 x w)) ≡ by_form false n (eqb (whole_refusal_of w) answered) (counts x)
 by-unless true x w = refl
 by-unless false x w = by-i64 x w
 
@@ -96,7 +96,7 @@ new_is d =
     (λ why e. ap kind_number_of (no_truth d why e ∙ now-is d (start d)) ∙ by-unless (no_number d) (f64_read d) (i64_read d) ∙ sym (ap form e ∙ ap (λ (t : Bool). by_form t (no_number d) (i64_answers d) (f64_counts d)) (no_truth-refused why)))
   where
     form : Result Bool BoolError → ℕ
-    form r = by_form (eqb (bool_refusal r) answered) (no_number d) (i64_answers d) (f64_counts d)
+    form r = by_form (eqb (bool_refusal_of r) answered) (no_number d) (i64_answers d) (f64_counts d)
 
 -- ---- neither of the two words is a number
 

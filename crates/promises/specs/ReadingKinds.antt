@@ -7,7 +7,7 @@ use Rattle.data.specs.Bytes.{point, letter_f}
 use Rattle.scalar.specs.Digits.{is_digit}
 use Rattle.scalar.specs.Float.{f64_read}
 use Rattle.scalar.specs.Kind.{kind_of}
-use Rattle.scalar.specs.Numbers.{answered, precision_loss, bool_refusal, whole_refusal, f64_refusal}
+use Rattle.scalar.specs.Numbers.{answered, precision_loss, bool_refusal_of, whole_refusal_of, f64_refusal_of}
 use Rattle.scalar.specs.Numbers.{kind_bool, kind_whole, kind_decimal, kind_name, kind_number_of}
 use Rattle.scalar.specs.Truth.{bool_read}
 use Rattle.scalar.specs.Whole.{i64_read}
@@ -59,15 +59,15 @@ is_number k = eqb k kind_whole || eqb k kind_decimal
 
 -- whether yes or no is answered
 abbrev pub bool_answers : List ℕ → Bool
-bool_answers d = eqb (bool_refusal (bool_read d)) answered
+bool_answers d = eqb (bool_refusal_of (bool_read d)) answered
 
 -- whether the i64 answers
 abbrev pub i64_answers : List ℕ → Bool
-i64_answers d = eqb (whole_refusal (i64_read d)) answered
+i64_answers d = eqb (whole_refusal_of (i64_read d)) answered
 
 -- whether the f64 answers or gives 24
 abbrev pub f64_counts : List ℕ → Bool
-f64_counts d = eqb (f64_refusal (f64_read d)) answered || eqb (f64_refusal (f64_read d)) precision_loss
+f64_counts d = eqb (f64_refusal_of (f64_read d)) answered || eqb (f64_refusal_of (f64_read d)) precision_loss
 
 -- ---- what stands in a scalar
 

@@ -3,7 +3,7 @@ use Rattle.std.specs.Result.{result_unwrap_or}
 use Rattle.std.specs.Prelude.{Result, pos, ℕ, ◌^◌, ◌<◌, Bool, true, false, List, ◌≡◌, eqb, Float, ℤ, length}
 use Rattle.std.specs.Float.{nan}
 use Rattle.scalar.specs.Float.{f64_read}
-use Rattle.scalar.specs.Numbers.{answered, all_digits, overflow, invalid_bool, bool_refusal, whole_refusal, f64_refusal, f64_value_of}
+use Rattle.scalar.specs.Numbers.{answered, all_digits, overflow, invalid_bool, bool_refusal_of, whole_refusal_of, f64_refusal_of, f64_value_of}
 use Rattle.scalar.specs.Truth.{bool_read}
 use Rattle.scalar.specs.Whole.{u64_read, i64_number, i64_rest, i64_read}
 use Rattle.scalar.specs.declared.errors.BoolError.{BoolError}
@@ -41,20 +41,20 @@ abbrev pub nothing_carried : Float
 nothing_carried = nan
 
 abbrev pub rust_bool : Result Bool BoolError → Outcome Bool
-rust_bool r = reading_as_rust (bool_refusal r) (result_unwrap_or r false) nothing_carried
+rust_bool r = reading_as_rust (bool_refusal_of r) (result_unwrap_or r false) nothing_carried
 
 abbrev pub rust_u64 : Result ℕ WholeError → Outcome ℕ
-rust_u64 r = reading_as_rust (whole_refusal r) (result_unwrap_or r 0) nothing_carried
+rust_u64 r = reading_as_rust (whole_refusal_of r) (result_unwrap_or r 0) nothing_carried
 
 abbrev pub rust_i64 : Result ℤ WholeError → Outcome ℤ
-rust_i64 r = reading_as_rust (whole_refusal r) (result_unwrap_or r (pos 0)) nothing_carried
+rust_i64 r = reading_as_rust (whole_refusal_of r) (result_unwrap_or r (pos 0)) nothing_carried
 
 abbrev pub rust_f64 : Result Float DecimalError → Outcome Float
-rust_f64 r = reading_as_rust (f64_refusal r) (f64_value_of r) (f64_value_of r)
+rust_f64 r = reading_as_rust (f64_refusal_of r) (f64_value_of r) (f64_value_of r)
 
 -- of a number with whatever stands after it, the Rust answers both at once, and we each by a call
 abbrev pub rust_i64_part : Result ℤ WholeError → List ℕ → Outcome (ℤ × List ℕ)
-rust_i64_part r rest = reading_as_rust (whole_refusal r) (result_unwrap_or r (pos 0), rest) nothing_carried
+rust_i64_part r rest = reading_as_rust (whole_refusal_of r) (result_unwrap_or r (pos 0), rest) nothing_carried
 
 -- ---- what is promised
 

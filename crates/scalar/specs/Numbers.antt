@@ -51,16 +51,16 @@ refusal_of number (Ok a) = answered
 refusal_of number (Err e) = number e
 
 -- so of what a reading of a truth answered
-abbrev pub bool_refusal : Result Bool BoolError → ℕ
-bool_refusal r = refusal_of bool_error_number r
+abbrev pub bool_refusal_of : Result Bool BoolError → ℕ
+bool_refusal_of r = refusal_of bool_error_number r
 
 -- of a whole number
-abbrev pub whole_refusal : {A : Type 0} → Result A WholeError → ℕ
-whole_refusal r = refusal_of whole_error_number r
+abbrev pub whole_refusal_of : {A : Type 0} → Result A WholeError → ℕ
+whole_refusal_of r = refusal_of whole_error_number r
 
 -- and of a decimal
-abbrev pub f64_refusal : Result Float DecimalError → ℕ
-f64_refusal r = refusal_of decimal_error_number r
+abbrev pub f64_refusal_of : Result Float DecimalError → ℕ
+f64_refusal_of r = refusal_of decimal_error_number r
 
 -- the value of a decimal, which a loss of precision carries too
 abbrev pub f64_value_of : Result Float DecimalError → Float

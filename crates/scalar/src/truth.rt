@@ -9,9 +9,9 @@ use crate::errors::BoolError;
 pub fn to_bool(d: &[u8]) -> Result<bool, BoolError>
     ensures { result ≡ bool_read d.now }
 {
-    match d {
-        b"yes" => Ok(true),
-        b"no" => Ok(false),
+    match *d {
+        [x, y, z] if x == b'y' && y == b'e' && z == b's' => Ok(true),
+        [x, y] if x == b'n' && y == b'o' => Ok(false),
         _ => Err(BoolError::InvalidBool),
     }
 }
