@@ -9,9 +9,11 @@ use crate::errors::BoolError;
 pub fn to_bool(d: &[u8]) -> Result<bool, BoolError>
     ensures { result ≡ bool_read d.now }
 {
-    match *d {
-        [x, y, z] if x == b'y' && y == b'e' && z == b's' => Ok(true),
-        [x, y] if x == b'n' && y == b'o' => Ok(false),
-        _ => Err(BoolError::InvalidBool),
+    if d.len() == 3 && (d[0] == b'y') & (d[1] == b'e') & (d[2] == b's') {
+        return Ok(true);
     }
+    if d.len() == 2 && (d[0] == b'n') & (d[1] == b'o') {
+        return Ok(false);
+    }
+    Err(BoolError::InvalidBool)
 }

@@ -74,12 +74,13 @@ pub fn to_i64_rest(d: &[u8]) -> &[u8]
 fn i64_part(d: &[u8]) -> Result<(i64, usize), WholeError>
     ensures { result ≡ i64_part d.now }
 {
-    let sign = match d {
-        [b'-' | b'+', ..] => 1,
-        [b'0'..=b'9', ..] => 0,
+    let (sign, negative) = match d {
+        [b'-', ..] => (1, true),
+        [b'+', ..] => (1, false),
+        [b'0'..=b'9', ..] => (0, false),
         _ => return Err(WholeError::AllDigits),
     };
-    i64_digits(d, sign, d[0] == b'-')
+    i64_digits(d, sign, negative)
 }
 
 // Reads the digits after a sign of `sign` bytes. The size counts before what stands after them.
