@@ -12,7 +12,7 @@ use lib.Dec.{leb}
 use lib.ListN.{length, replicate}
 use Rattle.data.proofs.Cases.{by_bool}
 use Rattle.packed.specs.Packed.{words_packed, behind}
-use Rattle.packed.proofs.Packing.{behind-none}
+use Rattle.packed.proofs.Packing.{behind_none}
 use Rattle.tape.specs.declared.token.Token.{Token}
 use Rattle.tape.specs.Words.{words_for, greatest_word, room_of, tokens_in, words_of, padded, cleared}
 use Rattle.tape.proofs.Views.{tokens-counted}
@@ -55,7 +55,7 @@ standing_layable L ts s =
 module _ (L : ℕ) (bytes ws : List ℕ) (n : ℕ) where
   -- without words the bytes are read
   from_bytes : (P : List ℕ → Type 0) → P (behind [] bytes) → P (words_packed bytes)
-  from_bytes P p = subst P (behind-none bytes) p
+  from_bytes P p = subst P (behind_none bytes) p
 
   module _ (fits : words_for n ≤ length (behind [] bytes)) (stand : AllStand L (tokens_in (behind [] bytes) n)) where
     there : words_for n ≤ length (words_packed bytes)

@@ -5,7 +5,7 @@ use mathlib.Core.Bool.{true}
 use mathlib.Core.List.{List}
 use mathlib.Core.Logic.{◌↔◌}
 use Prim.Native.Nat.{ℕ}
-use Rattle.packed.proofs.Packing.{behind-none}
+use Rattle.packed.proofs.Packing.{behind_none}
 use Rattle.sheet.specs.Sound.{Sound}
 use Rattle.sheet.proofs.check_packed.Goals as goal
 
@@ -13,4 +13,4 @@ pub returns : goal.returns
 returns c =
     let asked = c.check_source in
     subst (λ (ws : List ℕ). (asked.result ≡ true) ↔ Sound c.args.text_length ws c.args.count)
-    (behind-none c.args.bytes.now) asked.ensures
+    (behind_none c.args.bytes.now) asked.ensures

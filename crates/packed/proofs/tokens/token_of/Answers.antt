@@ -2,12 +2,14 @@
 -- Assumes nothing.
 use Rattle.packed.proofs.Packing.{packed-there, packed_none, packed-past}
 use Rattle.packed.proofs.tokens.token_of.Goals as goal
+use Rattle.packed.proofs.tokens.token_of.Goals.{else-i-count-via-then-i-count+else-i-bytes, else-i-count-via-else-i-count}
 
 pub returns-then-i-bytes : goal.returns-then-i-bytes
 returns-then-i-bytes c = packed-there _ _ _ c.if-i-count.true c.if-i-bytes.true c.token_at.ensures
 
-pub returns-else-i-bytes : goal.returns-else-i-bytes
-returns-else-i-bytes c = packed_none _ _ _ c.if-i-bytes.false
-
-pub returns-else-i-count : goal.returns-else-i-count
-returns-else-i-count c = packed-past _ _ _ c.if-i-count.false
+pub returns : goal.returns
+returns c =
+    elim c.else-i-count.branch [
+      | else-i-count-via-then-i-count+else-i-bytes w ↦ packed_none _ _ _ w.if-i-bytes.false
+      | else-i-count-via-else-i-count w ↦ packed-past _ _ _ w.if-i-count.false
+    ]
