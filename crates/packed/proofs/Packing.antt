@@ -61,10 +61,10 @@ token-read bytes at e f g = rw (e, f, g)
 
 -- token i of n, by the tests that lead to it
 module _ (bytes : List ℕ) (n i : ℕ) where
-  pub packed-there : {t : Token} → i < n → i < length bytes / bytes_per_token → t ≡ token_spelled bytes (bytes_for i)
+  pub packed_there : {t : Token} → i < n → i < length bytes / bytes_per_token → t ≡ token_spelled bytes (bytes_for i)
       → t ≡ token_in (words_packed bytes) n i
   unfolding token_in words_packed
-  packed-there h k e =
+  packed_there h k e =
       e ∙ sym (unpacked-at bytes i k)
       ∙ sym (get_or-take n (unpacked bytes) i no_token h)
       ∙ ap (λ (ts : List Token). nth ts i) (sym (words_hold (unpacked bytes) n))
@@ -75,9 +75,9 @@ module _ (bytes : List ℕ) (n i : ℕ) where
       sym (ap (λ (ts : List Token). nth ts i) (words_hold (unpacked bytes) n)
       ∙ get_or-eq_default (take n (unpacked bytes)) no_token {n = i} (omega (arith, length-take n (unpacked bytes), unpacked-length bytes)))
 
-  pub packed-past : n ≤ i → no_token ≡ token_in (words_packed bytes) n i
+  pub packed_past : n ≤ i → no_token ≡ token_in (words_packed bytes) n i
   unfolding token_in words_packed
-  packed-past h =
+  packed_past h =
       sym (ap (λ (ts : List Token). nth ts i) (words_hold (unpacked bytes) n)
       ∙ get_or-eq_default (take n (unpacked bytes)) no_token {n = i} (omega (arith, length-take n (unpacked bytes))))
 

@@ -40,6 +40,7 @@ fn token_at(bytes: &[u8], at: usize) -> Token
 }
 
 // Token i of count that stand in some bytes, or the token of zeros where there is none.
+#[tactic(auto, using(crate::proofs::Packing::packed_there, crate::proofs::Packing::packed_none, crate::proofs::Packing::packed_past))]
 pub fn token_of(bytes: &[u8], count: usize, i: usize) -> Token
     ensures { result ≡ token_in (words_packed bytes.now) count i }
 {
