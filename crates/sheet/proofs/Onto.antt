@@ -20,7 +20,7 @@ use Rattle.sheet.specs.Sound.{Nested, Sound}
 use Rattle.sheet.specs.Steps.{AllStand, Layable}
 use Rattle.sheet.specs.Onto.{kept, laid_onto}
 use Rattle.sheet.proofs.Tokens.{opener_in}
-use Rattle.sheet.proofs.Whole.{standing-linked, check-short, check_fallen, check-nested}
+use Rattle.sheet.proofs.Whole.{standing_linked, check_short, check_fallen, check_nested}
 use Rattle.sheet.proofs.Chaining.{Ready}
 
 -- ---- whether there is room
@@ -47,7 +47,7 @@ module _ (ws : List ℕ) (n : ℕ) where
 pub standing_layable : (L : ℕ) (ts : List Token) → AllStand L ts → Layable ts
 standing_layable L ts s =
     record {
-      linked = standing-linked L ts s;
+      linked = standing_linked L ts s;
       forms = λ i h. (s.held i h).form;
       top = λ end o. (s.held 0 (opener_in ts 0 o)).top refl end o;
     }
@@ -68,17 +68,17 @@ module _ (L : ℕ) (bytes ws : List ℕ) (n : ℕ) where
     unfolding room_of
     onto_ready room = (standing_layable L _ stood, tokens-counted (words_packed bytes) n there, omega arith, omega arith)
 
-    pub onto-nested : {r : Bool} → (r ≡ true) ↔ ((i : ℕ) → Nested (tokens_in (words_packed bytes) n) i)
+    pub onto_nested : {r : Bool} → (r ≡ true) ↔ ((i : ℕ) → Nested (tokens_in (words_packed bytes) n) i)
         → (r ≡ true) ↔ Sound L (words_packed bytes) n
-    onto-nested t = check-nested L (words_packed bytes) n there stood t
+    onto_nested t = check_nested L (words_packed bytes) n there stood t
 
-  pub onto_fallen : {r : Bool} → (r ≡ true) ↔ AllStand L (tokens_in (behind [] bytes) n) → r ≡ false
-      → (false ≡ true) ↔ Sound L (words_packed bytes) n
-  onto_fallen t f = from_bytes (λ (bs : List ℕ). (false ≡ true) ↔ Sound L bs n) (check_fallen L (behind [] bytes) n t f)
+  pub onto_fallen : {r : Bool} → (r ≡ true) ↔ AllStand L (tokens_in (behind [] bytes) n) → r ≡ false → (r ≡ true) ↔ Sound L (words_packed bytes) n
+  onto_fallen {r} t f =
+      rw f (from_bytes (λ (bs : List ℕ). (false ≡ true) ↔ Sound L bs n) (check_fallen L (behind [] bytes) n t f))
 
-  pub onto-short : {r : Bool} → r ≡ leb (words_for n) (length (behind [] bytes)) → r ≡ false
+  pub onto_short : {r : Bool} → r ≡ leb (words_for n) (length (behind [] bytes)) → r ≡ false
       → (false ≡ true) ↔ Sound L (words_packed bytes) n
-  onto-short e f = from_bytes (λ (bs : List ℕ). (false ≡ true) ↔ Sound L bs n) (check-short L (behind [] bytes) n e f)
+  onto_short e f = from_bytes (λ (bs : List ℕ). (false ≡ true) ↔ Sound L bs n) (check_short L (behind [] bytes) n e f)
 
 -- ---- what is left of the words: they are cleared behind the tokens that are kept
 pub onto-left : (sound : Bool) (ws vs : List ℕ) (n : ℕ) (ts : List Token) {after : List ℕ}

@@ -1,7 +1,7 @@
 -- `sheet::nests::nest` meets its contract. The invariant: the containers from i on nest.
 -- Assumes nothing.
 use Rattle.data.proofs.Cases.{some_as}
-use Rattle.sheet.proofs.Links.{read-link}
+use Rattle.sheet.proofs.Links.{read_link}
 use Rattle.sheet.proofs.Nesting.{nested-past, nested-all, nested-more, nested-end, nested-none, walkable, nested_not}
 use Rattle.sheet.proofs.nests.nest.Goals as goal
 
@@ -11,7 +11,7 @@ loop-i-init c = nested-past _ _
 pub walk-requires : goal.walk-requires
 walk-requires c =
     walkable _ _ c.loop-i-test.true c.loop-i.invariant c.requires
-    (read-link _ _ _ c.token_of.ensures c.link_of.ensures (some_as c.in-Some-ToEnd.is c.in-Some-ToEnd.field-0-is))
+    (read_link c.link_at.ensures (some_as c.in-Some-ToEnd.is c.in-Some-ToEnd.field-0-is))
 
 pub returns-then-not-walk : goal.returns-then-not-walk
 returns-then-not-walk c = nested_not _ _ c.walk.ensures c.if-not-walk.true
@@ -23,12 +23,12 @@ loop-i-preserved-else-not-walk c =
 pub loop-i-preserved-in-Some-ToOpener : goal.loop-i-preserved-in-Some-ToOpener
 loop-i-preserved-in-Some-ToOpener c =
     nested-end _ _ c.loop-i-test.true c.loop-i.invariant
-    (read-link _ _ _ c.token_of.ensures c.link_of.ensures (some_as c.in-Some-ToOpener.is c.in-Some-ToOpener.field-0-is))
+    (read_link c.link_at.ensures (some_as c.in-Some-ToOpener.is c.in-Some-ToOpener.field-0-is))
 
 pub loop-i-preserved : goal.loop-i-preserved
 loop-i-preserved c =
     nested-none _ _ c.loop-i-test.true c.loop-i.invariant
-    (read-link _ _ _ c.token_of.ensures c.link_of.ensures c.in-None.is)
+    (read_link c.link_at.ensures c.in-None.is)
 
 pub returns : goal.returns
 returns c = nested-all _ c.loop-i.invariant c.loop-i-test.false

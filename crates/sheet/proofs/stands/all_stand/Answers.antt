@@ -10,7 +10,7 @@ loop-i-init c = (omega arith, scanned_none _ _)
 
 pub token_stands-requires : goal.token_stands-requires
 token_stands-requires c =
-    (c.requires, c.loop-i-test.true, read-shape _ _ _ c.token_of.ensures c.shape_of-shape.ensures)
+    (c.requires, c.loop-i-test.true, read-shape _ _ _ c.token.ensures c.shape_of-shape.ensures)
 
 pub returns-then-not-token_stands : goal.returns-then-not-token_stands
 returns-then-not-token_stands c =
@@ -21,7 +21,7 @@ returns-then-not-token_stands c =
 pub returns-in_default : goal.returns-in_default
 returns-in_default c =
     stand_passed _ _ _ c.requires _ c.loop-i-test.true c.loop-i.invariant.1
-    (read-floor _ _ (read-shape _ _ _ c.token_of.ensures c.shape_of-shape.ensures)
+    (read-floor _ _ (read-shape _ _ _ c.token.ensures c.shape_of-shape.ensures)
     c.raised.ensures
     c.in_default.is)
 
@@ -30,7 +30,7 @@ loop-i-preserved c =
     let here = c.token_stands.ensures.0 c.if-not-token_stands.false in (
       omega arith,
       scanned_more _ _ _ _ c.loop-i.invariant.1 here
-          (read-floor _ _ (read-shape _ _ _ c.token_of.ensures c.shape_of-shape.ensures)
+          (read-floor _ _ (read-shape _ _ _ c.token.ensures c.shape_of-shape.ensures)
           c.raised.ensures
           c.in-Some.is),
     )
