@@ -36,6 +36,7 @@ fn check_source(text_length: usize, source: Source<'_>) -> bool
 }
 
 // Whether the first count tokens of the words are a sound sheet for a text of a length.
+#[tactic(auto, using(packed::proofs::Packing::behind_words))]
 pub fn check(text_length: usize, words: &[u32], count: usize) -> bool
     ensures { (result ≡ true) ↔ Sound text_length words.now count }
 {
@@ -44,6 +45,7 @@ pub fn check(text_length: usize, words: &[u32], count: usize) -> bool
 }
 
 // The same of tokens that stand in bytes, as a sheet file has them.
+#[tactic(auto, using(packed::proofs::Packing::behind_none))]
 pub fn check_packed(text_length: usize, bytes: &[u8], count: usize) -> bool
     ensures { (result ≡ true) ↔ Sound text_length (words_packed bytes.now) count }
 {
