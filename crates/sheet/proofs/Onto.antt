@@ -25,19 +25,19 @@ use Rattle.sheet.proofs.Chaining.{Ready}
 
 -- ---- whether there is room
 module _ (ws : List ℕ) (n : ℕ) where
-  pub room-over : greatest_word < n → false ≡ leb n (room_of ws)
+  pub room_over : greatest_word < n → false ≡ leb n (room_of ws)
   unfolding room_of
-  room-over h = sym (lt-leb n (room_of ws) (omega arith))
+  room_over h = sym (lt-leb n (room_of ws) (omega arith))
 
-  pub room-held : {r : Bool} → n ≤ greatest_word → r ≡ leb (words_for n) (length ws) → r ≡ leb n (room_of ws)
+  pub room_held : {r : Bool} → n ≤ greatest_word → r ≡ leb (words_for n) (length ws) → r ≡ leb n (room_of ws)
   unfolding room_of
-  room-held {r} h e =
+  room_held {r} h e =
       by_bool (leb n (room_of ws))
       (λ t. e ∙ le-leb (words_for n) (length ws) (omega (arith, leb-true n (room_of ws) t)) ∙ sym t)
       (λ t. e ∙ lt-leb (words_for n) (length ws) (omega (arith, leb-false n (room_of ws) t)) ∙ sym t)
 
-  pub room-there : {r : Bool} → r ≡ leb n (room_of ws) → r ≡ true → n ≤ room_of ws
-  room-there e t = leb-true n (room_of ws) (sym e ∙ t)
+  pub room_there : {r : Bool} → r ≡ leb n (room_of ws) → r ≡ true → n ≤ room_of ws
+  room_there e t = leb-true n (room_of ws) (sym e ∙ t)
 
   pub room_most : n ≤ room_of ws → n ≤ greatest_word
   unfolding room_of
@@ -87,29 +87,29 @@ unfolding laid_onto cleared
 onto-left sound ws vs n ts size tokens e = e ∙ rw (cleared, laid_onto, size, tokens)
 
 -- none where they are not sound
-pub onto-unsound : (ws vs : List ℕ) (ts : List Token) {after : List ℕ} → length vs ≡ length ws → after ≡ cleared vs 0
+pub onto_unsound : (ws vs : List ℕ) (ts : List Token) {after : List ℕ} → length vs ≡ length ws → after ≡ cleared vs 0
     → after ≡ laid_onto false ws ts
 unfolding tokens_in
-onto-unsound ws vs ts size e = onto-left false ws vs 0 ts size refl e
+onto_unsound ws vs ts size e = onto-left false ws vs 0 ts size refl e
 
 module _ (L : ℕ) (bs ws : List ℕ) (n : ℕ) where
   counted : Sound L bs n → length (tokens_in bs n) ≡ n
   counted s = tokens-counted bs n s.fits
 
   -- none where they find no room
-  pub onto-no_room : (sound : Bool) {r : Bool} {after : List ℕ} → r ≡ leb n (room_of ws) → r ≡ false → (sound ≡ true) ↔ Sound L bs n
+  pub onto_no_room : (sound : Bool) {r : Bool} {after : List ℕ} → r ≡ leb n (room_of ws) → r ≡ false → (sound ≡ true) ↔ Sound L bs n
       → after ≡ cleared ws 0 → after ≡ laid_onto sound ws (tokens_in bs n)
   unfolding tokens_in
-  onto-no_room true e f t g =
+  onto_no_room true e f t g =
       let over : leb (length (tokens_in bs n)) (room_of ws) ≡ false =
       ap (λ (k : ℕ). leb k (room_of ws)) (counted (t.0 refl)) ∙ sym e ∙ f in
       onto-left true ws ws 0 (tokens_in bs n) refl (rw (kept, over)) g
-  onto-no_room false e f t g = onto-unsound ws ws (tokens_in bs n) refl g
+  onto_no_room false e f t g = onto_unsound ws ws (tokens_in bs n) refl g
 
   -- all else
-  pub onto-laid : (vs : List ℕ) {after : List ℕ} → n ≤ room_of ws → Sound L bs n → tokens_in vs n ≡ tokens_in bs n → length vs ≡ length ws
+  pub onto_laid : (vs : List ℕ) {after : List ℕ} → n ≤ room_of ws → Sound L bs n → tokens_in vs n ≡ tokens_in bs n → length vs ≡ length ws
       → after ≡ cleared vs n → after ≡ laid_onto true ws (tokens_in bs n)
-  onto-laid vs room s tokens size g =
+  onto_laid vs room s tokens size g =
       let fit : leb (length (tokens_in bs n)) (room_of ws) ≡ true = le-leb (length (tokens_in bs n)) (room_of ws) (omega (arith, counted s)) in
       onto-left true ws vs n (tokens_in bs n) size (tokens ∙ rw (kept, fit)) g
 

@@ -43,25 +43,25 @@ placed-within L None e = absurd (refused_not refl e)
 
 module _ (L : ℕ) (ws : List ℕ) (n i : ℕ) where
   -- ---- the answer, by the tests that lead to it
-  pub view-past : n ≤ i → None ≡ viewed L ws n i
+  pub view_past : n ≤ i → None ≡ viewed L ws n i
   unfolding viewed
-  view-past h = rw (viewed, le-ltb i n h)
+  view_past h = rw (viewed, le-ltb i n h)
 
-  pub view-short : {r : Bool} → i < n → r ≡ leb (words_for n) (length ws) → r ≡ false → None ≡ viewed L ws n i
+  pub view_short : {r : Bool} → i < n → r ≡ leb (words_for n) (length ws) → r ≡ false → None ≡ viewed L ws n i
   unfolding viewed
-  view-short h e f = rw (viewed, lt-ltb i n h, sym e ∙ f)
+  view_short h e f = rw (viewed, lt-ltb i n h, sym e ∙ f)
 
-  pub view-placed : {r : Bool} {t : Token} {s : Option Shape} → i < n → r ≡ leb (words_for n) (length ws) → r ≡ true
+  pub view_placed : {r : Bool} {t : Token} {s : Option Shape} → i < n → r ≡ leb (words_for n) (length ws) → r ≡ true
       → t ≡ token_in ws n i → s ≡ shape_of t → placed L s ≡ viewed L ws n i
   unfolding viewed
-  view-placed h e f g k =
+  view_placed h e f g k =
       rw (viewed, lt-ltb i n h, sym e ∙ f)
       (ap (λ (x : Option Shape). placed L x) k ∙ ap (λ (x : Token). placed L (shape_of x)) g)
 
   -- ---- it lies in the text
-  pub viewed-within : {offset size : ℕ} → viewed L ws n i ≡ seen offset size → offset + size ≤ L
+  pub viewed_within : {offset size : ℕ} → viewed L ws n i ≡ seen offset size → offset + size ≤ L
   unfolding viewed
-  viewed-within e =
+  viewed_within e =
       by_bool (ltb i n)
       (λ t. by_bool (leb (words_for n) (length ws))
       (λ f. placed-within L (shape_of (token_in ws n i)) (rw (viewed, t, f) at e))

@@ -54,6 +54,7 @@ pub fn check_packed(text_length: usize, bytes: &[u8], count: usize) -> bool
 }
 
 // Whether some words have room for count tokens, no more than a word numbers.
+#[tactic(auto, using(crate::proofs::Onto::room_over, crate::proofs::Onto::room_held))]
 fn has_room(words: &[u32], count: usize) -> bool
     ensures { result ≡ leb count (room_of words.now) }
 {
@@ -61,6 +62,7 @@ fn has_room(words: &[u32], count: usize) -> bool
 }
 
 // The same of tokens that words have room for: where they are sound, they are laid down.
+#[tactic(auto, using(crate::proofs::Whole::check_fits, crate::proofs::Onto::onto_fallen, crate::proofs::Onto::onto_short))]
 fn lay_sound(text_length: usize, bytes: &[u8], count: usize, words: &mut [u32]) -> bool
     requires { count ≤ room_of words.old }
     ensures sound { (result ≡ true) ↔ Sound text_length (words_packed bytes.now) count }
@@ -76,6 +78,7 @@ fn lay_sound(text_length: usize, bytes: &[u8], count: usize, words: &mut [u32]) 
 
 // The same of tokens that stand in bytes, which are laid down where they are sound and the words have room for them, with zeros behind
 // them; else the words are left zero.
+#[tactic(auto, using(crate::proofs::Onto::onto_no_room))]
 pub fn check_onto(text_length: usize, bytes: &[u8], count: usize, words: &mut [u32]) -> bool
     ensures sound { (result ≡ true) ↔ Sound text_length (words_packed bytes.now) count }
     ensures left { words.new ≡ laid_onto result words.old (tokens_in (words_packed bytes.now) count) }

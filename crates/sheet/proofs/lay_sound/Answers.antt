@@ -3,12 +3,8 @@
 use mathlib.Core.List.{[]}
 use Rattle.packed.specs.Packed.{behind}
 use Rattle.sheet.proofs.Whole.{check_fits}
-use Rattle.sheet.proofs.Onto.{onto_ready, onto_nested, onto_fallen, onto_short}
+use Rattle.sheet.proofs.Onto.{onto_ready, onto_nested}
 use Rattle.sheet.proofs.lay_sound.Goals as goal
-
-pub all_stand-requires : goal.all_stand-requires
-all_stand-requires c =
-    check_fits (behind [] c.args.bytes.now) _ c.holds.ensures c.if-not-holds.false
 
 pub nest_onto-requires : goal.nest_onto-requires
 nest_onto-requires c =
@@ -21,11 +17,3 @@ returns-then-all_stand-clause-sound c =
     let fits = check_fits (behind [] c.args.bytes.now) _ c.holds.ensures c.if-not-holds.false in
     let stood = c.all_stand.ensures.0 c.if-all_stand.true in
     onto_nested _ c.args.bytes.now c.args.words.now _ fits stood c.nest_onto.ensures.nests
-
-pub returns-else-all_stand-clause-sound : goal.returns-else-all_stand-clause-sound
-returns-else-all_stand-clause-sound c =
-    onto_fallen _ c.args.bytes.now c.args.words.now _ c.all_stand.ensures c.if-all_stand.false
-
-pub returns-then-not-holds-clause-sound : goal.returns-then-not-holds-clause-sound
-returns-then-not-holds-clause-sound c =
-    onto_short _ c.args.bytes.now c.args.words.now _ c.holds.ensures c.if-not-holds.true

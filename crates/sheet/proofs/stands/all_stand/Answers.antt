@@ -5,9 +5,6 @@ use Rattle.sheet.proofs.Tokens.{read-shape}
 use Rattle.sheet.proofs.Scan.{scanned_none, scanned_more, read-floor, stand_all, stand_unheld, stand_passed}
 use Rattle.sheet.proofs.stands.all_stand.Goals as goal
 
-pub loop-i-init : goal.loop-i-init
-loop-i-init c = (omega arith, scanned_none _ _)
-
 pub token_stands-requires : goal.token_stands-requires
 token_stands-requires c =
     (c.requires, c.loop-i-test.true, read-shape _ _ _ c.token.ensures c.shape_of-shape.ensures)
