@@ -1,9 +1,8 @@
 -- What reading a token's link tells of openers and Ends.
 -- Assumes nothing.
 use Rattle.std.specs.Prelude.{Option, Some, None}
-use mathlib.Core.Path.{◌≡◌, refl, sym, ◌∙◌, ap, subst}
+use mathlib.Core.Path.{◌≡◌, refl, sym, ◌∙◌, subst}
 use mathlib.Core.Bool.{Bool, true, false, false≢true}
-use mathlib.Core.List.{List}
 use mathlib.Core.Logic.{◌↔◌}
 use Prim.Native.Nat.{ℕ, ◌≤◌, ◌<◌}
 use native.Mathlib.Omega.{arith}
@@ -14,9 +13,7 @@ use Rattle.tape.specs.declared.shape.Link.{Link}
 use Rattle.tape.specs.declared.shape.Link.TheVariants.{ToEnd, ToOpener}
 use Rattle.tape.specs.Token.{end_of}
 use Rattle.tape.specs.Shape.{link_of, Opens}
-use Rattle.tape.specs.Words.{tokens_in, token_in}
 use Rattle.tape.proofs.Shapes.{opens-link, end-link, link-made}
-use Rattle.sheet.specs.Sound.{nth}
 
 -- ---- an answer that tells
 pub told-yes : {P : Type 0} → P → (true ≡ true) ↔ P

@@ -2,10 +2,10 @@
 -- Assumes nothing.
 use Rattle.std.specs.Prelude.{Option, Some, None}
 use mathlib.Core.Path.{◌≡◌, sym, ◌∙◌, ap, subst}
-use mathlib.Core.Bool.{Bool, true, false, false≢true}
+use mathlib.Core.Bool.{Bool, true, false}
 use mathlib.Core.List.{List}
 use mathlib.Core.Logic.{◌↔◌}
-use Prim.Native.Nat.{ℕ, ◌+◌, ◌≤◌, ◌<◌}
+use Prim.Native.Nat.{ℕ, ◌+◌, ◌<◌}
 use native.Mathlib.Omega.{arith}
 use borrow.Author.Tests.{ltb-true, ltb-false}
 use lib.Dec.{ltb}
@@ -213,30 +213,3 @@ module _ (L : ℕ) (ts : List Token) (i : ℕ) where
 
   pub nothing_held : shape_of (nth ts i) ≡ None → (false ≡ true) ↔ Held L ts i
   nothing_held e = told-no (λ h. formless (nth ts i) e h.form)
-
--- ---- whether a scalar may be as long as it is
-pub fills_empty : {r : Bool} (kind : ScalarKind) {size : ℕ} → size ≡ 0 → r ≡ may_be_empty kind
-    → (r ≡ true) ↔ (size ≡ 0 → may_be_empty kind ≡ true)
-fills_empty kind z e = (λ t n. sym e ∙ t, λ f. e ∙ f z)
-
-pub fills_some : (kind : ScalarKind) {size : ℕ} → (size ≡ 0 → ⊥) → (true ≡ true) ↔ (size ≡ 0 → may_be_empty kind ≡ true)
-fills_some kind n = told-yes (λ z. absurd (n z))
-
--- ---- what a scalar owes
-module _ (L : ℕ) (ts : List Token) (next : ℕ) (kind : ScalarKind) (offset size : ℕ) where
-  pub suits_out : L < offset + size → (false ≡ true) ↔ Suited L ts next kind offset size
-  suits_out h = told-no (λ s. omega (arith, s.within))
-
-  pub suits_empty : {r : Bool} → (r ≡ true) ↔ (size ≡ 0 → may_be_empty kind ≡ true) → r ≡ false
-      → (false ≡ true) ↔ Suited L ts next kind offset size
-  suits_empty t f = told-no (λ s. false≢true (sym f ∙ t.1 s.filled))
-
-  module _ (in-text : offset + size ≤ L) (fills : size ≡ 0 → may_be_empty kind ≡ true) where
-    pub suits_header : {r : Bool} → is_header kind ≡ true → (r ≡ true) ↔ ((end : ℕ) × Opens (nth ts next) end)
-        → (r ≡ true) ↔ Suited L ts next kind offset size
-    suits_header e c =
-        told_through c (λ o. record { within = in-text; filled = fills; headed = λ h. o }) (λ s. s.headed e)
-
-    pub suits_other : is_header kind ≡ false → (true ≡ true) ↔ Suited L ts next kind offset size
-    suits_other e =
-        told-yes (record { within = in-text; filled = fills; headed = λ h. absurd (false≢true (sym e ∙ h)) })

@@ -40,7 +40,11 @@ fn check_source(text_length: usize, source: Source<'_>) -> bool
 pub fn check(text_length: usize, words: &[u32], count: usize) -> bool
     ensures { (result ≡ true) ↔ Sound text_length words.now count }
 {
-    let source = Source { words, bytes: b"", count };
+    let source = Source {
+        words,
+        bytes: b"",
+        count,
+    };
     check_source(text_length, source)
 }
 
@@ -49,7 +53,11 @@ pub fn check(text_length: usize, words: &[u32], count: usize) -> bool
 pub fn check_packed(text_length: usize, bytes: &[u8], count: usize) -> bool
     ensures { (result ≡ true) ↔ Sound text_length (words_packed bytes.now) count }
 {
-    let source = Source { words: &[], bytes, count };
+    let source = Source {
+        words: &[],
+        bytes,
+        count,
+    };
     check_source(text_length, source)
 }
 
@@ -69,7 +77,11 @@ fn lay_sound(text_length: usize, bytes: &[u8], count: usize, words: &mut [u32]) 
     ensures laid { result ≡ true → tokens_in words.new count ≡ tokens_in (words_packed bytes.now) count }
     ensures size { length words.new ≡ length words.old }
 {
-    let source = Source { words: &[], bytes, count };
+    let source = Source {
+        words: &[],
+        bytes,
+        count,
+    };
     if !source.holds() {
         return false;
     }

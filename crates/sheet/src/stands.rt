@@ -88,12 +88,7 @@ fn suits(
 }
 
 // Whether token i, of a shape, stands as it should by itself.
-fn token_stands(
-    text_length: usize,
-    source: Source<'_>,
-    i: usize,
-    shape: Option<Shape>,
-) -> bool
+fn token_stands(text_length: usize, source: Source<'_>, i: usize, shape: Option<Shape>) -> bool
     requires { (words_for source.count ≤ length (words source)) × (i < source.count) × (shape ≡ shape_of (nth (tokens source) i)) }
     ensures { (result ≡ true) ↔ Held text_length (tokens source.entry) i }
 {
@@ -105,14 +100,7 @@ fn token_stands(
                 offset,
                 length,
             },
-        ) => suits(
-            text_length,
-            source,
-            i + 1,
-            kind,
-            offset,
-            length,
-        ),
+        ) => suits(text_length, source, i + 1, kind, offset, length),
         Some(Shape::End { opener }) => opened(source, i, opener),
         Some(Shape::MixedContainer) => true,
         Some(Shape::Operator { .. }) => true,

@@ -1,6 +1,5 @@
 -- `sheet::lays::nest_onto` meets its contract. The invariant: the tokens before i hang in the chain.
 -- Assumes nothing.
-use native.Mathlib.Omega.{arith}
 use Rattle.sheet.proofs.Links.{told_not}
 use Rattle.sheet.proofs.Chaining.{run_none, run-done, run-form, run-other, run-opener}
 use Rattle.sheet.proofs.Chaining.{run_crossed, run_end}

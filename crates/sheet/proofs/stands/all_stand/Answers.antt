@@ -2,7 +2,7 @@
 -- Assumes nothing.
 use native.Mathlib.Omega.{arith}
 use Rattle.sheet.proofs.Tokens.{read-shape}
-use Rattle.sheet.proofs.Scan.{scanned_none, scanned_more, read-floor, stand_all, stand_unheld, stand_passed}
+use Rattle.sheet.proofs.Scan.{scanned_more, read-floor, stand_all, stand_unheld, stand_passed}
 use Rattle.sheet.proofs.stands.all_stand.Goals as goal
 
 pub token_stands-requires : goal.token_stands-requires
