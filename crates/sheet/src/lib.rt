@@ -77,15 +77,15 @@ fn lay_sound(text_length: usize, bytes: &[u8], count: usize, words: &mut [u32]) 
     ensures laid { result ≡ true → tokens_in words.new count ≡ tokens_in (words_packed bytes.now) count }
     ensures size { length words.new ≡ length words.old }
 {
-    let source = Source {
+    let given = Source {
         words: &[],
         bytes,
         count,
     };
-    if !source.holds() {
+    if !given.holds() {
         return false;
     }
-    stands::all_stand(text_length, source) && lays::nest_onto(bytes, words, count)
+    stands::all_stand(text_length, given) && lays::nest_onto(bytes, words, count)
 }
 
 // The same of tokens that stand in bytes, which are laid down where they are sound and the words have room for them, with zeros behind

@@ -50,11 +50,7 @@ fn opened(source: Source<'_>, i: usize, opener: u32) -> bool
 fn opens(source: Source<'_>, at: usize) -> bool
     ensures { (result ≡ true) ↔ ((end : ℕ) × Opens (nth (tokens source.entry) at) end) }
 {
-    match link_at(source, at) {
-        Some(Link::ToEnd(_)) => true,
-        Some(Link::ToOpener(_)) => false,
-        None => false,
-    }
+    matches!(link_at(source, at), Some(Link::ToEnd(_)))
 }
 
 // Whether a scalar of a kind may be as long as it is.
