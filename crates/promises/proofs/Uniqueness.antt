@@ -113,8 +113,8 @@ use Rattle.packed.proofs.numbers.put_number.Reads as put-number
 use Rattle.packed.proofs.tokens.bytes_for.Reads as bytes_for
 use Rattle.packed.proofs.tokens.token_of.Reads as packed_token_of
 use Rattle.packed.proofs.tokens.pack.Reads as pack
-use Rattle.packed.proofs.source.token_of.Reads as source_token_of
-use Rattle.packed.proofs.source.holds.Reads as source_holds
+use Rattle.packed.proofs.source.Source.token.Reads as source_token_of
+use Rattle.packed.proofs.source.Source.holds.Reads as source_holds
 use Rattle.sheet.proofs.check.Reads as check
 use Rattle.sheet.proofs.check_packed.Reads as check_packed
 use Rattle.sheet.proofs.check_onto.Reads as check-onto
