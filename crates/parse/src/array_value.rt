@@ -1,5 +1,5 @@
 // A turn in ArrayValue.
-ghost use Rattle.std.specs.Prelude.{◌≡◌, ℕ, ◌<◌, List};
+ghost use Rattle.std.specs.Prelude.{◌≡◌, length, ℕ, ◌<◌, List};
 ghost use Rattle.tape.specs.Tape.{view};
 ghost use Rattle.parse.specs.After.{after};
 ghost use Rattle.parse.specs.KeyValueSeparator.{mix_then};
@@ -7,8 +7,8 @@ ghost use Rattle.parse.specs.ArrayValue.{array_close, operator_then, after_end, 
 ghost use Rattle.parse.specs.ArrayValue.{array_operator, array_value_turn};
 ghost use Rattle.parse.specs.Step.{stepped};
 ghost use Rattle.parse.specs.Parse.{text_limit};
-ghost use Rattle.parse.specs.Here.{Here};
 
+use crate::text::Text;
 use crate::containers::{close, open_then};
 use crate::laying::lay;
 use crate::step::Step;
@@ -35,12 +35,12 @@ fn array_close(tape: &mut [u32], m: Machine) -> Result<Turn, Refusal>
 
 // An operator among the values of a mixed container.
 #[tactic(auto, unfolding(crate::specs::ArrayValue::operator_then))]
-pub(crate) fn operator_then(text: &[u8], tape: &mut [u32], m: Machine) -> Result<Turn, Refusal>
-    requires { Here text.now m }
-    ensures { after result tape.new ≡ operator_then text.now (view tape.old m.count) m }
+pub(crate) fn operator_then(text: Text, tape: &mut [u32], m: Machine) -> Result<Turn, Refusal>
+    requires { m.at < length text.bytes.now }
+    ensures { after result tape.new ≡ operator_then text.entry.bytes.now (view tape.old m.count) m }
 {
     let at = m.at;
-    match operator::operator_at(byte_at(text, at), byte_at(text, at + 1)) {
+    match operator::operator_at(byte_at(text.bytes, at), byte_at(text.bytes, at + 1)) {
         Some(Sighted { operator, width }) => {
             lay(
                 tape,
@@ -56,11 +56,11 @@ pub(crate) fn operator_then(text: &[u8], tape: &mut [u32], m: Machine) -> Result
 
 // An operator byte after a container: `=` belongs to an object template and is skipped.
 #[tactic(auto, unfolding(crate::specs::ArrayValue::after_end))]
-fn after_end(text: &[u8], m: Machine) -> Result<Turn, Refusal>
-    requires { Here text.now m }
-    ensures { (ws : List ℕ) → after result ws ≡ after_end text.now (view ws m.count) m }
+fn after_end(text: Text, m: Machine) -> Result<Turn, Refusal>
+    requires { m.at < length text.bytes.now }
+    ensures { (ws : List ℕ) → after result ws ≡ after_end text.entry.bytes.now (view ws m.count) m }
 {
-    if byte_at(text, m.at) == b'=' {
+    if byte_at(text.bytes, m.at) == b'=' {
         return Ok(Turn::Next(m.to(m.at + 1, State::ArrayValue, m.count)));
     }
     Err(Refusal::NothingPrecedes(before(m.at)))
@@ -79,10 +79,10 @@ fn mixed_operator(tape: &mut [u32], m: Machine) -> Step
 
 // An operator byte in a container that is not mixed: the last token decides.
 #[tactic(auto, unfolding(crate::specs::ArrayValue::unmixed_operator, tape::specs::Words::token_in, tape::specs::Tape::token_at))]
-fn unmixed_operator(text: &[u8], tape: &mut [u32], m: Machine) -> Step
-    requires { Here text.now m }
-    ensures { stepped text.now result tape.new m
-        ≡ unmixed_operator text.now (view tape.old m.count) m }
+fn unmixed_operator(text: Text, tape: &mut [u32], m: Machine) -> Step
+    requires { m.at < length text.bytes.now }
+    ensures { stepped text.entry.bytes.now result tape.new m
+        ≡ unmixed_operator text.entry.bytes.now (view tape.old m.count) m }
 {
     let last = words::token(tape, m.count, less(m.count, 1));
     match last.standing() {
@@ -93,10 +93,10 @@ fn unmixed_operator(text: &[u8], tape: &mut [u32], m: Machine) -> Step
 }
 
 // `<` `>` `!` `=` in ArrayValue.
-fn array_operator(text: &[u8], tape: &mut [u32], m: Machine) -> Step
-    requires { Here text.now m }
-    ensures { stepped text.now result tape.new m
-        ≡ array_operator text.now (view tape.old m.count) m }
+fn array_operator(text: Text, tape: &mut [u32], m: Machine) -> Step
+    requires { m.at < length text.bytes.now }
+    ensures { stepped text.entry.bytes.now result tape.new m
+        ≡ array_operator text.entry.bytes.now (view tape.old m.count) m }
 {
     if m.mixed {
         return Step::Operator(m.count);
@@ -106,12 +106,12 @@ fn array_operator(text: &[u8], tape: &mut [u32], m: Machine) -> Step
 
 // A turn in ArrayValue, at a byte that is no blank.
 #[tactic(auto, unfolding(crate::specs::ArrayValue::array_value_turn, crate::specs::Step::entry))]
-pub(crate) fn array_value_turn(text: &[u8], tape: &mut [u32], m: Machine) -> Step
-    requires { Here text.now m }
-    ensures { stepped text.now result tape.new m
-        ≡ array_value_turn text.now (view tape.old m.count) m }
+pub(crate) fn array_value_turn(text: Text, tape: &mut [u32], m: Machine) -> Step
+    requires { m.at < length text.bytes.now }
+    ensures { stepped text.entry.bytes.now result tape.new m
+        ≡ array_value_turn text.entry.bytes.now (view tape.old m.count) m }
 {
-    match value_byte(byte_at(text, m.at)) {
+    match value_byte(byte_at(text.bytes, m.at)) {
         ValueByte::Brace => Step::Turned(open_then(tape, m)),
         ValueByte::Closer => Step::Turned(array_close(tape, m)),
         ValueByte::Sign => array_operator(text, tape, m),

@@ -1,12 +1,12 @@
 // A turn in Key.
-ghost use Rattle.std.specs.Prelude.{◌≡◌, ◌<◌};
+ghost use Rattle.std.specs.Prelude.{◌≡◌, ◌<◌, length};
 ghost use Rattle.tape.specs.Tape.{view};
 ghost use Rattle.parse.specs.After.{after};
 ghost use Rattle.parse.specs.Key.{key_close, open_header, key_header, key_brace, key_turn};
 ghost use Rattle.parse.specs.Step.{stepped};
 ghost use Rattle.parse.specs.Parse.{text_limit};
-ghost use Rattle.parse.specs.Here.{Here};
 
+use crate::text::Text;
 use crate::containers::close;
 use crate::laying::lay;
 use crate::step::Step;
@@ -60,12 +60,12 @@ fn key_header(tape: &mut [u32], m: Machine, at: usize) -> Result<Turn, Refusal>
 
 // `{`: an empty pair of braces is dropped, else it is a Header's container.
 #[tactic(auto, unfolding(crate::specs::Key::key_brace))]
-fn key_brace(text: &[u8], tape: &mut [u32], m: Machine) -> Result<Turn, Refusal>
-    requires { Here text.now m }
-    ensures { after result tape.new ≡ key_brace text.now (view tape.old m.count) m }
+fn key_brace(text: Text, tape: &mut [u32], m: Machine) -> Result<Turn, Refusal>
+    requires { m.at < length text.bytes.now }
+    ensures { after result tape.new ≡ key_brace text.entry.bytes.now (view tape.old m.count) m }
 {
-    let p = cut::skip_ws_t(text, m.at + 1).ok_or(Refusal::Eof)?;
-    if byte_at(text, p) == b'}' {
+    let p = cut::skip_ws_t(text.bytes, m.at + 1).ok_or(Refusal::Eof)?;
+    if byte_at(text.bytes, p) == b'}' {
         return Ok(Turn::Next(m.to(p + 1, State::Key, m.count)));
     }
     key_header(tape, m, p)
@@ -73,11 +73,11 @@ fn key_brace(text: &[u8], tape: &mut [u32], m: Machine) -> Result<Turn, Refusal>
 
 // A turn in Key, at a byte that is no blank.
 #[tactic(auto, unfolding(crate::specs::Key::key_turn, crate::specs::Step::entry))]
-pub(crate) fn key_turn(text: &[u8], tape: &mut [u32], m: Machine) -> Step
-    requires { Here text.now m }
-    ensures { stepped text.now result tape.new m ≡ key_turn text.now (view tape.old m.count) m }
+pub(crate) fn key_turn(text: Text, tape: &mut [u32], m: Machine) -> Step
+    requires { m.at < length text.bytes.now }
+    ensures { stepped text.entry.bytes.now result tape.new m ≡ key_turn text.entry.bytes.now (view tape.old m.count) m }
 {
-    match key_byte(byte_at(text, m.at)) {
+    match key_byte(byte_at(text.bytes, m.at)) {
         KeyByte::Closer => Step::Turned(key_close(tape, m)),
         KeyByte::Brace => Step::Turned(key_brace(text, tape, m)),
         KeyByte::Bracket => Step::Parameter(m.parent),

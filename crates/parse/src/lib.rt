@@ -1,15 +1,16 @@
 // The text tape parser: from save text to tokens on a lent tape.
 #![tactic(auto)]
 
-ghost use Rattle.std.specs.Prelude.{◌≡◌, ◌≤◌, length};
+ghost use Rattle.std.specs.Prelude.{◌≡◌, ◌<◌, length};
 ghost use Rattle.tape.specs.Tape.{view};
 ghost use Rattle.parse.specs.After.{after, next};
 ghost use Rattle.parse.specs.Step.{stepped};
 ghost use Rattle.machine.specs.Finish.{outcome};
 ghost use Rattle.parse.specs.Parse.{text_limit, state_turn, turn, run, ending, enough, parse_of};
-ghost use Rattle.parse.specs.Here.{Here, Lent, LentHere};
+ghost use Rattle.data.specs.Classes.{classes};
 
 use crate::step::Step;
+use crate::text::Text;
 use machine::finish::{finish, refuse};
 use machine::start::{has_bom, start};
 use machine::{Machine, Parsed, Refusal, State, Turn, mixed_on};
@@ -24,14 +25,15 @@ mod parse_open;
 mod scalars;
 mod separator;
 mod step;
+mod text;
 
 // A text of more bytes than this is too long.
 pub const TEXT_LIMIT: usize = 16777215;
 
 // What the machine's state makes of a byte that is no blank.
-fn state_step(text: &[u8], tape: &mut [u32], m: Machine) -> Step
-    requires { Here text.now m }
-    ensures { stepped text.now result tape.new m ≡ state_turn text.now (view tape.old m.count) m }
+fn state_step(text: Text, tape: &mut [u32], m: Machine) -> Step
+    requires { m.at < length text.bytes.now }
+    ensures { stepped text.entry.bytes.now result tape.new m ≡ state_turn text.entry.bytes.now (view tape.old m.count) m }
 {
     match m.state {
         State::Key => key::key_turn(text, tape, m),
@@ -44,13 +46,13 @@ fn state_step(text: &[u8], tape: &mut [u32], m: Machine) -> Step
 
 // A turn of the machine's state, at a byte that is no blank.
 fn state_turn(
-    text: &[u8],
+    text: Text,
     table: &[u8; data::BYTE_COUNT],
     tape: &mut [u32],
     m: Machine,
 ) -> Result<Turn, Refusal>
-    requires { LentHere text.now table.now m }
-    ensures { after result tape.new ≡ state_turn text.now (view tape.old m.count) m }
+    requires { (table.now ≡ classes) × (m.at < length text.bytes.now) }
+    ensures { after result tape.new ≡ state_turn text.entry.bytes.now (view tape.old m.count) m }
 {
     match state_step(text, tape, m) {
         Step::Turned(turned) => turned,
@@ -63,25 +65,24 @@ fn state_turn(
 // A turn: skips blanks, and then the state decides.
 #[tactic(auto, unfolding(crate::specs::Parse::turn))]
 fn turn(
-    text: &[u8],
+    text: Text,
     table: &[u8; data::BYTE_COUNT],
     tape: &mut [u32],
     m: Machine,
 ) -> Result<Turn, Refusal>
-    requires { Lent text.now table.now }
-    ensures { after result tape.new ≡ turn text.now (view tape.old m.count) m }
+    requires { table.now ≡ classes }
+    ensures { after result tape.new ≡ turn text.entry.bytes.now (view tape.old m.count) m }
 {
-    match cut::skip_ws_t(text, m.at) {
+    match cut::skip_ws_t(text.bytes, m.at) {
         Some(p) => state_turn(text, table, tape, m.to(p, m.state, m.count)),
         None => containers::text_end(tape, m),
     }
 }
 
 // Turns until the text is done or refused.
-fn run(text: &[u8], tape: &mut [u32], from: Machine) -> Result<u32, Refusal>
-    requires { length text.now ≤ text_limit }
+fn run(text: Text, tape: &mut [u32], from: Machine) -> Result<u32, Refusal>
     ensures { ending result tape.new
-        ≡ run text.now (enough text.now) (next from (view tape.old from.count)) }
+        ≡ run text.entry.bytes.now (enough text.entry.bytes.now) (next from (view tape.old from.count)) }
 {
     let table = data::character_class();
     let mut m = from;
@@ -102,6 +103,6 @@ pub fn parse(text: &[u8], tape: &mut [u32]) -> Result<Parsed, Refusal>
         return refuse(tape, Refusal::TooLong);
     }
     let bom = has_bom(text);
-    let ending = run(text, tape, start(bom));
+    let ending = run(Text { bytes: text }, tape, start(bom));
     finish(tape, ending, bom)
 }

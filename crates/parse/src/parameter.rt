@@ -7,8 +7,8 @@ ghost use Rattle.parse.specs.After.{after};
 ghost use Rattle.parse.specs.Parameter.{parameter_object, value_or_object, parameter_value, parameter_named, parameter_name};
 ghost use Rattle.parse.specs.Parameter.{name_kind, name_start, parameter};
 ghost use Rattle.parse.specs.Parse.{text_limit};
-ghost use Rattle.parse.specs.Here.{Lent, LentHere};
 
+use crate::text::Text;
 use crate::laying::lay;
 use crate::scalars::viewed;
 use machine::{Machine, Refusal, State, Turn, byte_at};
@@ -41,7 +41,7 @@ fn parameter_object(
 // What the byte after the run from start to end says that the run is.
 #[tactic(auto, unfolding(crate::specs::Parameter::value_or_object))]
 fn value_or_object(
-    text: &[u8],
+    text: Text,
     tape: &mut [u32],
     m: Machine,
     start: usize,
@@ -49,9 +49,9 @@ fn value_or_object(
     rest: usize,
 ) -> Result<Turn, Refusal>
     requires { (start ≤ end) × (end ≤ text_limit) × (rest ≤ text_limit) }
-    ensures { after result tape.new ≡ value_or_object text.now start end rest (view tape.old m.count) m }
+    ensures { after result tape.new ≡ value_or_object text.entry.bytes.now start end rest (view tape.old m.count) m }
 {
-    if byte_at(text, rest) == b']' {
+    if byte_at(text.bytes, rest) == b']' {
         return lay(
             tape,
             m,
@@ -64,34 +64,34 @@ fn value_or_object(
 }
 
 // The place after the run that starts at a place: the cut is handed the text's later part, and the place is added back.
-fn run_from(text: &[u8], table: &[u8; data::BYTE_COUNT], start: usize) -> usize
-    requires { (table.now ≡ classes) × (start < length text.now) }
-    ensures { result ≡ run_end text.now start }
+fn run_from(text: Text, table: &[u8; data::BYTE_COUNT], start: usize) -> usize
+    requires { (table.now ≡ classes) × (start < length text.bytes.now) }
+    ensures { result ≡ run_end text.entry.bytes.now start }
 {
-    start + cut::split_at_scalar(&text[start..], table)
+    start + cut::split_at_scalar(&text.bytes[start..], table)
 }
 
 // The run after a parameter's name: its value, or the first key of its Object.
 #[tactic(auto, unfolding(crate::specs::Parameter::parameter_value))]
 fn parameter_value(
-    text: &[u8],
+    text: Text,
     table: &[u8; data::BYTE_COUNT],
     tape: &mut [u32],
     m: Machine,
 ) -> Result<Turn, Refusal>
-    requires { Lent text.now table.now }
-    ensures { after result tape.new ≡ parameter_value text.now (view tape.old m.count) m }
+    requires { table.now ≡ classes }
+    ensures { after result tape.new ≡ parameter_value text.entry.bytes.now (view tape.old m.count) m }
 {
-    let start = cut::skip_ws_t(text, m.at).ok_or(Refusal::Eof)?;
+    let start = cut::skip_ws_t(text.bytes, m.at).ok_or(Refusal::Eof)?;
     let end = run_from(text, table, start);
-    let rest = cut::skip_ws_t(text, end).ok_or(Refusal::Eof)?;
+    let rest = cut::skip_ws_t(text.bytes, end).ok_or(Refusal::Eof)?;
     value_or_object(text, tape, m, start, end, rest)
 }
 
 // Adds the name from start to end, which `]` must end.
 #[tactic(auto, unfolding(crate::specs::Parameter::parameter_named, crate::specs::After::lay_then))]
 fn parameter_named(
-    text: &[u8],
+    text: Text,
     table: &[u8; data::BYTE_COUNT],
     tape: &mut [u32],
     m: Machine,
@@ -99,10 +99,10 @@ fn parameter_named(
     start: usize,
     end: usize,
 ) -> Result<Turn, Refusal>
-    requires { (length text.now ≤ text_limit) × (table.now ≡ classes) × (start ≤ end) × (end ≤ length text.now) }
-    ensures { after result tape.new ≡ parameter_named text.now kind start end (view tape.old m.count) m }
+    requires { (table.now ≡ classes) × (start ≤ end) × (end ≤ length text.bytes.now) }
+    ensures { after result tape.new ≡ parameter_named text.entry.bytes.now kind start end (view tape.old m.count) m }
 {
-    if byte_at(text, end) != b']' {
+    if byte_at(text.bytes, end) != b']' {
         return Err(Refusal::OpenName(end));
     }
     let count = words::push(tape, m.count, viewed(kind, start, end)).ok_or(Refusal::Full)?;
@@ -112,17 +112,17 @@ fn parameter_named(
 // Reads a name that starts at a place.
 #[tactic(auto, unfolding(crate::specs::Parameter::parameter_name))]
 fn parameter_name(
-    text: &[u8],
+    text: Text,
     table: &[u8; data::BYTE_COUNT],
     tape: &mut [u32],
     m: Machine,
     kind: ScalarKind,
     start: usize,
 ) -> Result<Turn, Refusal>
-    requires { Lent text.now table.now }
-    ensures { after result tape.new ≡ parameter_name text.now kind start (view tape.old m.count) m }
+    requires { table.now ≡ classes }
+    ensures { after result tape.new ≡ parameter_name text.entry.bytes.now kind start (view tape.old m.count) m }
 {
-    if text.len() <= start {
+    if text.bytes.len() <= start {
         return Err(Refusal::Eof);
     }
     let end = run_from(text, table, start);
@@ -153,19 +153,19 @@ fn name_start(at: usize, undefined: bool) -> usize
 // `[[` or `[[!` at the machine's place, with what follows it.
 #[tactic(auto, unfolding(crate::specs::Parameter::parameter))]
 pub(crate) fn parameter(
-    text: &[u8],
+    text: Text,
     table: &[u8; data::BYTE_COUNT],
     tape: &mut [u32],
     m: Machine,
 ) -> Result<Turn, Refusal>
-    requires { LentHere text.now table.now m }
-    ensures { after result tape.new ≡ parameter text.now (view tape.old m.count) m }
+    requires { (table.now ≡ classes) × (m.at < length text.bytes.now) }
+    ensures { after result tape.new ≡ parameter text.entry.bytes.now (view tape.old m.count) m }
 {
     let at = m.at;
-    if byte_at(text, at + 1) != b'[' {
+    if byte_at(text.bytes, at + 1) != b'[' {
         return Err(Refusal::NoParameter(at));
     }
-    let undefined = byte_at(text, at + 2) == b'!';
+    let undefined = byte_at(text.bytes, at + 2) == b'!';
     parameter_name(
         text,
         table,

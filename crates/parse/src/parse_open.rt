@@ -1,12 +1,12 @@
 // A turn in ParseOpen: what the first entry says that a container is.
-ghost use Rattle.std.specs.Prelude.{◌≡◌, ℕ, ◌<◌, List};
+ghost use Rattle.std.specs.Prelude.{◌≡◌, length, ℕ, ◌<◌, List};
 ghost use Rattle.tape.specs.Tape.{view};
 ghost use Rattle.parse.specs.After.{after};
 ghost use Rattle.parse.specs.ParseOpen.{settle, open_empty, open_parameter, open_brace, flag_parent, open_as, parse_open_turn};
 ghost use Rattle.parse.specs.Step.{stepped};
 ghost use Rattle.parse.specs.Parse.{text_limit};
-ghost use Rattle.parse.specs.Here.{Here};
 
+use crate::text::Text;
 use crate::containers::close_at;
 use crate::step::Step;
 use machine::bytes::{OpenByte, follows_key, open_byte};
@@ -71,12 +71,12 @@ fn open_parameter(tape: &mut [u32], m: Machine) -> Step
 
 // `{`: an empty pair of braces is dropped, else the container is an Array whose first entry is a container.
 #[tactic(auto, unfolding(crate::specs::ParseOpen::open_brace))]
-fn open_brace(text: &[u8], tape: &mut [u32], m: Machine) -> Result<Turn, Refusal>
-    requires { Here text.now m }
-    ensures { after result tape.new ≡ open_brace text.now (view tape.old m.count) m }
+fn open_brace(text: Text, tape: &mut [u32], m: Machine) -> Result<Turn, Refusal>
+    requires { m.at < length text.bytes.now }
+    ensures { after result tape.new ≡ open_brace text.entry.bytes.now (view tape.old m.count) m }
 {
-    let p = cut::skip_ws_t(text, m.at + 1).ok_or(Refusal::Eof)?;
-    if byte_at(text, p) == b'}' {
+    let p = cut::skip_ws_t(text.bytes, m.at + 1).ok_or(Refusal::Eof)?;
+    if byte_at(text.bytes, p) == b'}' {
         return Ok(Turn::Next(m.to(p + 1, State::ParseOpen, m.count)));
     }
     settle(tape, m, ContainerKind::Array, 1, m.at, State::ArrayValue)
@@ -102,11 +102,11 @@ pub(crate) fn flag_parent(tape: &mut [u32], m: Machine)
 
 // The byte after the first scalar says whether the container is an Object or an Array.
 #[tactic(auto, unfolding(crate::specs::ParseOpen::open_as))]
-pub(crate) fn open_as(text: &[u8], tape: &mut [u32], m: Machine) -> Result<Turn, Refusal>
-    ensures { after result tape.new ≡ open_as text.now (view tape.old m.count) m }
+pub(crate) fn open_as(text: Text, tape: &mut [u32], m: Machine) -> Result<Turn, Refusal>
+    ensures { after result tape.new ≡ open_as text.entry.bytes.now (view tape.old m.count) m }
 {
-    let p = cut::skip_ws_t(text, m.at).ok_or(Refusal::Eof)?;
-    if follows_key(byte_at(text, p)) {
+    let p = cut::skip_ws_t(text.bytes, m.at).ok_or(Refusal::Eof)?;
+    if follows_key(byte_at(text.bytes, p)) {
         return settle(
             tape,
             m,
@@ -121,11 +121,11 @@ pub(crate) fn open_as(text: &[u8], tape: &mut [u32], m: Machine) -> Result<Turn,
 
 // A turn in ParseOpen, at a byte that is no blank.
 #[tactic(auto, unfolding(crate::specs::ParseOpen::parse_open_turn, crate::specs::Step::entry))]
-pub(crate) fn parse_open_turn(text: &[u8], tape: &mut [u32], m: Machine) -> Step
-    requires { Here text.now m }
-    ensures { stepped text.now result tape.new m ≡ parse_open_turn text.now (view tape.old m.count) m }
+pub(crate) fn parse_open_turn(text: Text, tape: &mut [u32], m: Machine) -> Step
+    requires { m.at < length text.bytes.now }
+    ensures { stepped text.entry.bytes.now result tape.new m ≡ parse_open_turn text.entry.bytes.now (view tape.old m.count) m }
 {
-    match open_byte(byte_at(text, m.at)) {
+    match open_byte(byte_at(text.bytes, m.at)) {
         OpenByte::Closer => Step::Turned(open_empty(tape, m)),
         OpenByte::Bracket => open_parameter(tape, m),
         OpenByte::Brace => Step::Turned(open_brace(text, tape, m)),

@@ -5,6 +5,7 @@ ghost use Rattle.cut.specs.Scalars.{scalar_cut};
 ghost use Rattle.parse.specs.Scalars.{scalar_found};
 ghost use Rattle.parse.specs.Parse.{text_limit};
 
+use crate::text::Text;
 use cut::Cut;
 use tape::token;
 use tape::token::ScalarKind;
@@ -25,11 +26,10 @@ pub struct Scalar {
 }
 
 // The scalar at a place; none where the text ends in it.
-pub(crate) fn scalar_at(text: &[u8], at: usize) -> Option<Scalar>
-    requires { length text.now ≤ text_limit }
-    ensures { result ≡ scalar_found (scalar_cut text.now at) }
+pub(crate) fn scalar_at(text: Text, at: usize) -> Option<Scalar>
+    ensures { result ≡ scalar_found (scalar_cut text.entry.bytes.now at) }
 {
-    match cut::scalar_at(text, at) {
+    match cut::scalar_at(text.bytes, at) {
         Some(Cut::Unquoted { start, end, rest }) => Some(Scalar {
             token: viewed(ScalarKind::Unquoted, start, end),
             rest,

@@ -1,12 +1,12 @@
 // A turn in KeyValueSeparator.
-ghost use Rattle.std.specs.Prelude.{◌≡◌, ◌≤◌, ◌<◌};
+ghost use Rattle.std.specs.Prelude.{◌≡◌, ◌≤◌, ◌<◌, length};
 ghost use Rattle.tape.specs.Tape.{view};
 ghost use Rattle.parse.specs.After.{after, next};
 ghost use Rattle.parse.specs.KeyValueSeparator.{mix_then, separator_then, separator_turn};
 ghost use Rattle.parse.specs.Equals.{is_separator, at_equals, past_equals};
 ghost use Rattle.parse.specs.Parse.{text_limit};
-ghost use Rattle.parse.specs.Here.{Here};
 
+use crate::text::Text;
 use crate::laying::lay;
 use machine::{Machine, Refusal, State, Turn, byte_at, mixed_on};
 use operator::{Operator, Sighted};
@@ -47,13 +47,13 @@ fn separator_then(
 
 // A turn in KeyValueSeparator, at a byte that is no blank.
 #[tactic(auto, unfolding(crate::specs::KeyValueSeparator::separator_turn))]
-pub(crate) fn separator_turn(text: &[u8], tape: &mut [u32], m: Machine) -> Result<Turn, Refusal>
-    requires { Here text.now m }
-    ensures { after result tape.new ≡ separator_turn text.now (view tape.old m.count) m }
+pub(crate) fn separator_turn(text: Text, tape: &mut [u32], m: Machine) -> Result<Turn, Refusal>
+    requires { m.at < length text.bytes.now }
+    ensures { after result tape.new ≡ separator_turn text.entry.bytes.now (view tape.old m.count) m }
 {
     let at = m.at;
-    let b = byte_at(text, at);
-    match operator::operator_at(b, byte_at(text, at + 1)) {
+    let b = byte_at(text.bytes, at);
+    match operator::operator_at(b, byte_at(text.bytes, at + 1)) {
         Some(Sighted { operator, width }) => separator_then(tape, m, operator, width),
         None => {
             if b == b'{' {
@@ -73,15 +73,15 @@ fn is_separator(state: State) -> bool
 
 // Whether a machine in KeyValueSeparator has next the `=` that most keys have right behind them, and no second one.
 #[tactic(auto, unfolding(crate::specs::Equals::at_equals))]
-fn at_equals(text: &[u8], m: Machine) -> bool
-    ensures { result ≡ at_equals text.now m }
+fn at_equals(text: Text, m: Machine) -> bool
+    ensures { result ≡ at_equals text.entry.bytes.now m }
 {
-    is_separator(m.state) && byte_at(text, m.at) == b'=' && byte_at(text, m.at + 1) != b'='
+    is_separator(m.state) && byte_at(text.bytes, m.at) == b'=' && byte_at(text.bytes, m.at + 1) != b'='
 }
 
 // The machine past that `=`, which adds no token: a turn of its own would find the same. Else the machine as it is, made anew field by field.
-pub(crate) fn past_equals(text: &[u8], m: Machine) -> Machine
-    ensures { result ≡ past_equals text.now m }
+pub(crate) fn past_equals(text: Text, m: Machine) -> Machine
+    ensures { result ≡ past_equals text.entry.bytes.now m }
 {
     let mut at = m.at;
     let mut state = m.state;

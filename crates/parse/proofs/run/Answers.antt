@@ -15,11 +15,10 @@ use Rattle.parse.proofs.run.Goals as goal
 pub loop-after-init : goal.loop-after-init
 loop-after-init c =
     let a = c.args in
-    (refl, c.character_class-table.ensures, run-enough a.text.now _ _ a.from _ (within-enough a.text.now a.from) (omega arith))
+    (refl, c.character_class-table.ensures, run-enough a.text.bytes.now _ _ a.from _ (within-enough a.text.bytes.now a.from) (omega arith))
 
 pub turn-requires : goal.turn-requires
-turn-requires c =
-    (c.requires, c.character_class-table.ensures)
+turn-requires c = c.loop-after.invariant.1
 
 pub loop-after-smaller : goal.loop-after-smaller
 loop-after-smaller c =
@@ -35,7 +34,7 @@ loop-after-preserved c = (
 
 pub returns-in-Done : goal.returns-in-Done
 returns-in-Done c =
-    let text = c.args.text.now in
+    let text = c.args.text.bytes.now in
     let m = c.loop-after.m in
     sym (c.loop-after.invariant.2
     ∙ rw (
@@ -47,7 +46,7 @@ returns-in-Done c =
 
 pub returns-in_err-after : goal.returns-in_err-after
 returns-in_err-after c =
-    let text = c.args.text.now in
+    let text = c.args.text.bytes.now in
     let m = c.loop-after.m in
     let e : c.from_residual.result ≡ Err c.in_err-after.field-0.0 = search rules in
     rw e (sym (c.loop-after.invariant.2

@@ -6,4 +6,4 @@ use Rattle.parse.proofs.turn.Goals as goal
 
 pub state_turn-requires : goal.state_turn-requires
 state_turn-requires c =
-    (c.requires.0, c.requires.1, rw c.to.ensures (skip_lands _ _ _ (sym c.skip_ws_t.ensures ∙ c.in-Some.is)).within)
+    (c.requires, rw c.to.ensures (skip_lands _ _ _ (sym c.skip_ws_t.ensures ∙ c.in-Some.is)).within)

@@ -9,7 +9,7 @@ pub returns : goal.returns
 returns c =
     let a = c.args in
     rw (
-      parameter-read a.text.now (view a.tape.now a.m.count) a.m (sym c.byte_at.ensures ∙ c.if-byte_at-ne91.false),
+      parameter-read a.text.bytes.now (view a.tape.now a.m.count) a.m (sym c.byte_at.ensures ∙ c.if-byte_at-ne91.false),
       c.parameter_name.ensures,
       c.name_kind.ensures,
       c.name_start.ensures,

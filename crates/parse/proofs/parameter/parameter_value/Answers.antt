@@ -11,13 +11,13 @@ pub run_from-end-requires : goal.run_from-end-requires
 run_from-end-requires c =
     let found : c.skip_ws_t.result ≡ Some c.in_ok-start.start = grind arith in
     let landed = skip_lands _ _ _ (sym c.skip_ws_t.ensures ∙ found) in
-    (c.requires.1, landed.within)
+    (c.requires, landed.within)
 
 pub value_or_object-requires : goal.value_or_object-requires
 value_or_object-requires c =
     let found : c.skip_ws_t.result ≡ Some c.in_ok-start.start = grind arith in
     let again : c.skip_ws_t-2.result ≡ Some c.in_ok-rest.rest = grind arith in
     let s = skip_lands _ _ _ (sym c.skip_ws_t.ensures ∙ found) in
-    let e = run_end-run c.args.text.now c.in_ok-start.start s.within in
+    let e = run_end-run c.args.text.bytes.now c.in_ok-start.start s.within in
     let q = skip_lands _ _ _ (sym c.skip_ws_t-2.ensures ∙ again) in
-    omega (arith, e.moves, e.within, q.within, c.run_from-end.ensures, c.requires.0)
+    omega (arith, e.moves, e.within, q.within, c.run_from-end.ensures, c.args.text.within)

@@ -12,11 +12,11 @@ overflow_add-result c =
     let a = c.args in
     omega (
       arith,
-      run_of-part a.table.now a.text.now a.start c.split_at_scalar.result c.split_at_scalar.ensures,
-      run_end_by-within a.table.now a.text.now a.start (search rules),
+      run_of-part a.table.now a.text.bytes.now a.start c.split_at_scalar.result c.split_at_scalar.ensures,
+      run_end_by-within a.table.now a.text.bytes.now a.start (search rules),
     )
 
 pub returns : goal.returns
 returns c =
     let a = c.args in
-    run_of-part _ _ _ _ c.split_at_scalar.ensures ∙ run_end-lent a.table.now a.text.now a.start c.requires.0
+    run_of-part _ _ _ _ c.split_at_scalar.ensures ∙ run_end-lent a.table.now a.text.bytes.now a.start c.requires.0

@@ -9,7 +9,7 @@ use Rattle.parse.proofs.separator.past_equals.Goals.{then-at_equals, else-at_equ
 pub overflow_add-at : goal.overflow_add-at
 overflow_add-at c =
     let a = c.args in
-    omega (arith, equals-next a.text.now a.m (sym c.at_equals.ensures ∙ c.if-at_equals.true))
+    omega (arith, equals-next a.text.bytes.now a.m (sym c.at_equals.ensures ∙ c.if-at_equals.true))
 
 pub returns : goal.returns
 returns c =
