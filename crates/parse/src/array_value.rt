@@ -34,7 +34,7 @@ fn array_close(tape: &mut [u32], m: Machine) -> Result<Turn, Refusal>
 }
 
 // An operator among the values of a mixed container.
-#[tactic(auto, unfolding(crate::specs::ArrayValue::operator_then))]
+#[tactic(auto, using(crate::proofs::Bounds::sighted_short), unfolding(crate::specs::ArrayValue::operator_then))]
 pub(crate) fn operator_then(text: Text, tape: &mut [u32], m: Machine) -> Result<Turn, Refusal>
     requires { m.at < length text.bytes.now }
     ensures { after result tape.new ≡ operator_then text.entry.bytes.now (view tape.old m.count) m }
@@ -93,6 +93,7 @@ fn unmixed_operator(text: Text, tape: &mut [u32], m: Machine) -> Step
 }
 
 // `<` `>` `!` `=` in ArrayValue.
+#[tactic(auto, using(crate::proofs::Steps::operator_mixed), unfolding(crate::specs::ArrayValue::array_operator))]
 fn array_operator(text: Text, tape: &mut [u32], m: Machine) -> Step
     requires { m.at < length text.bytes.now }
     ensures { stepped text.entry.bytes.now result tape.new m

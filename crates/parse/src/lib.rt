@@ -31,6 +31,7 @@ mod text;
 pub const TEXT_LIMIT: usize = 16777215;
 
 // What the machine's state makes of a byte that is no blank.
+#[tactic(auto, unfolding(crate::specs::Parse::state_turn))]
 fn state_step(text: Text, tape: &mut [u32], m: Machine) -> Step
     requires { m.at < length text.bytes.now }
     ensures { stepped text.entry.bytes.now result tape.new m ≡ state_turn text.entry.bytes.now (view tape.old m.count) m }
@@ -63,7 +64,7 @@ fn state_turn(
 }
 
 // A turn: skips blanks, and then the state decides.
-#[tactic(auto, unfolding(crate::specs::Parse::turn))]
+#[tactic(auto, using(crate::proofs::Bounds::skip_within), unfolding(crate::specs::Parse::turn))]
 fn turn(
     text: Text,
     table: &[u8; data::BYTE_COUNT],
@@ -96,6 +97,7 @@ fn run(text: Text, tape: &mut [u32], from: Machine) -> Result<u32, Refusal>
 
 // Parses a text onto a lent tape, whose old contents never matter: on success the tokens stand at its front with zeros
 // behind them, and a refusal leaves it zero.
+#[tactic(auto, using(crate::proofs::Outcomes::parse_too_long, crate::proofs::Outcomes::parse_runs, crate::proofs::Outcomes::finish_answers))]
 pub fn parse(text: &[u8], tape: &mut [u32]) -> Result<Parsed, Refusal>
     ensures { outcome result tape.new ≡ parse_of text.now (length tape.old) }
 {

@@ -64,6 +64,7 @@ fn value_or_object(
 }
 
 // The place after the run that starts at a place: the cut is handed the text's later part, and the place is added back.
+#[tactic(auto, using(crate::proofs::Tables::run_end_lent, crate::proofs::Tables::run_end_fits))]
 fn run_from(text: Text, table: &[u8; data::BYTE_COUNT], start: usize) -> usize
     requires { (table.now ≡ classes) × (start < length text.bytes.now) }
     ensures { result ≡ run_end text.entry.bytes.now start }
@@ -72,7 +73,7 @@ fn run_from(text: Text, table: &[u8; data::BYTE_COUNT], start: usize) -> usize
 }
 
 // The run after a parameter's name: its value, or the first key of its Object.
-#[tactic(auto, unfolding(crate::specs::Parameter::parameter_value))]
+#[tactic(auto, using(crate::proofs::Bounds::skip_within, crate::proofs::Bounds::run_moves, crate::proofs::Bounds::run_within), unfolding(crate::specs::Parameter::parameter_value))]
 fn parameter_value(
     text: Text,
     table: &[u8; data::BYTE_COUNT],
@@ -110,7 +111,7 @@ fn parameter_named(
 }
 
 // Reads a name that starts at a place.
-#[tactic(auto, unfolding(crate::specs::Parameter::parameter_name))]
+#[tactic(auto, using(crate::proofs::Bounds::run_moves, crate::proofs::Bounds::run_within), unfolding(crate::specs::Parameter::parameter_name))]
 fn parameter_name(
     text: Text,
     table: &[u8; data::BYTE_COUNT],
@@ -151,7 +152,7 @@ fn name_start(at: usize, undefined: bool) -> usize
 }
 
 // `[[` or `[[!` at the machine's place, with what follows it.
-#[tactic(auto, unfolding(crate::specs::Parameter::parameter))]
+#[tactic(auto, using(crate::proofs::Steps::parameter_read), unfolding(crate::specs::Parameter::parameter))]
 pub(crate) fn parameter(
     text: Text,
     table: &[u8; data::BYTE_COUNT],

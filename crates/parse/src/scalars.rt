@@ -26,6 +26,7 @@ pub struct Scalar {
 }
 
 // The scalar at a place; none where the text ends in it.
+#[tactic(auto, using(crate::proofs::Bounds::unquoted_within, crate::proofs::Bounds::quoted_within))]
 pub(crate) fn scalar_at(text: Text, at: usize) -> Option<Scalar>
     ensures { result ≡ scalar_found (scalar_cut text.entry.bytes.now at) }
 {

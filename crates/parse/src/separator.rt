@@ -46,7 +46,7 @@ fn separator_then(
 }
 
 // A turn in KeyValueSeparator, at a byte that is no blank.
-#[tactic(auto, unfolding(crate::specs::KeyValueSeparator::separator_turn))]
+#[tactic(auto, using(crate::proofs::Bounds::sighted_short), unfolding(crate::specs::KeyValueSeparator::separator_turn))]
 pub(crate) fn separator_turn(text: Text, tape: &mut [u32], m: Machine) -> Result<Turn, Refusal>
     requires { m.at < length text.bytes.now }
     ensures { after result tape.new ≡ separator_turn text.entry.bytes.now (view tape.old m.count) m }
@@ -80,6 +80,7 @@ fn at_equals(text: Text, m: Machine) -> bool
 }
 
 // The machine past that `=`, which adds no token: a turn of its own would find the same. Else the machine as it is, made anew field by field.
+#[tactic(auto, using(crate::proofs::Equals::equals_next), unfolding(crate::specs::Equals::past_equals))]
 pub(crate) fn past_equals(text: Text, m: Machine) -> Machine
     ensures { result ≡ past_equals text.entry.bytes.now m }
 {
