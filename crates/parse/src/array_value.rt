@@ -8,10 +8,10 @@ ghost use Rattle.parse.specs.ArrayValue.{array_operator, array_value_turn};
 ghost use Rattle.parse.specs.Step.{stepped};
 ghost use Rattle.parse.specs.Parse.{text_limit};
 
-use crate::text::Text;
 use crate::containers::{close, open_then};
 use crate::laying::lay;
 use crate::step::Step;
+use crate::text::Text;
 use machine::bytes::{ValueByte, value_byte};
 use machine::parents::{container_at, nothing_open, own_kind, parent_of};
 use machine::{Machine, Refusal, State, Turn, before, byte_at, less};

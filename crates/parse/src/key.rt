@@ -6,10 +6,10 @@ ghost use Rattle.parse.specs.Key.{key_close, open_header, key_header, key_brace,
 ghost use Rattle.parse.specs.Step.{stepped};
 ghost use Rattle.parse.specs.Parse.{text_limit};
 
-use crate::text::Text;
 use crate::containers::close;
 use crate::laying::lay;
 use crate::step::Step;
+use crate::text::Text;
 use machine::bytes::{KeyByte, key_byte};
 use machine::parents::{container_at, nothing_open, parent_of};
 use machine::{Machine, Refusal, State, Turn, byte_at, less};

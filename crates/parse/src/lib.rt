@@ -7,7 +7,6 @@ ghost use Rattle.parse.specs.After.{after, next};
 ghost use Rattle.parse.specs.Step.{stepped};
 ghost use Rattle.machine.specs.Finish.{outcome};
 ghost use Rattle.parse.specs.Parse.{text_limit, state_turn, turn, run, ending, enough, parse_of};
-ghost use Rattle.data.specs.Classes.{classes};
 
 use crate::step::Step;
 use crate::text::Text;
@@ -46,36 +45,25 @@ fn state_step(text: Text, tape: &mut [u32], m: Machine) -> Step
 }
 
 // A turn of the machine's state, at a byte that is no blank.
-fn state_turn(
-    text: Text,
-    table: &[u8; data::BYTE_COUNT],
-    tape: &mut [u32],
-    m: Machine,
-) -> Result<Turn, Refusal>
-    requires { (table.now ≡ classes) × (m.at < length text.bytes.now) }
+fn state_turn(text: Text, tape: &mut [u32], m: Machine) -> Result<Turn, Refusal>
+    requires { m.at < length text.bytes.now }
     ensures { after result tape.new ≡ state_turn text.entry.bytes.now (view tape.old m.count) m }
 {
     match state_step(text, tape, m) {
         Step::Turned(turned) => turned,
         Step::Scalar(state) => step::entry(text, tape, m, state),
         Step::Operator(count) => array_value::operator_then(text, tape, mixed_on(m, count)),
-        Step::Parameter(parent) => parameter::parameter(text, table, tape, m.within(parent)),
+        Step::Parameter(parent) => parameter::parameter(text, tape, m.within(parent)),
     }
 }
 
 // A turn: skips blanks, and then the state decides.
 #[tactic(auto, using(crate::proofs::Bounds::skip_within), unfolding(crate::specs::Parse::turn))]
-fn turn(
-    text: Text,
-    table: &[u8; data::BYTE_COUNT],
-    tape: &mut [u32],
-    m: Machine,
-) -> Result<Turn, Refusal>
-    requires { table.now ≡ classes }
+fn turn(text: Text, tape: &mut [u32], m: Machine) -> Result<Turn, Refusal>
     ensures { after result tape.new ≡ turn text.entry.bytes.now (view tape.old m.count) m }
 {
     match cut::skip_ws_t(text.bytes, m.at) {
-        Some(p) => state_turn(text, table, tape, m.to(p, m.state, m.count)),
+        Some(p) => state_turn(text, tape, m.to(p, m.state, m.count)),
         None => containers::text_end(tape, m),
     }
 }
@@ -85,10 +73,9 @@ fn run(text: Text, tape: &mut [u32], from: Machine) -> Result<u32, Refusal>
     ensures { ending result tape.new
         ≡ run text.entry.bytes.now (enough text.entry.bytes.now) (next from (view tape.old from.count)) }
 {
-    let table = data::character_class();
     let mut m = from;
     loop {
-        match turn(text, &table, tape, m)? {
+        match turn(text, tape, m)? {
             Turn::Next(after) => m = separator::past_equals(text, after),
             Turn::Done(count) => return Ok(count),
         }
@@ -105,6 +92,11 @@ pub fn parse(text: &[u8], tape: &mut [u32]) -> Result<Parsed, Refusal>
         return refuse(tape, Refusal::TooLong);
     }
     let bom = has_bom(text);
-    let ending = run(Text { bytes: text }, tape, start(bom));
+    let table = data::character_class();
+    let text = Text {
+        bytes: text,
+        table: &table,
+    };
+    let ending = run(text, tape, start(bom));
     finish(tape, ending, bom)
 }

@@ -4,9 +4,9 @@ ghost use Rattle.tape.specs.Tape.{view};
 ghost use Rattle.parse.specs.ObjectValue.{object_value_turn};
 ghost use Rattle.parse.specs.Step.{stepped};
 
-use crate::text::Text;
 use crate::containers::open_then;
 use crate::step::Step;
+use crate::text::Text;
 use machine::{Machine, Refusal, State, Turn, byte_at};
 
 // A turn in ObjectValue, at a byte that is no blank.

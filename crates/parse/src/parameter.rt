@@ -1,6 +1,5 @@
 // A parameter: `[[name] value ]`, or `[[name] key ..`, which opens an Object.
 ghost use Rattle.std.specs.Prelude.{◌≡◌, ◌≤◌, ◌<◌, length};
-ghost use Rattle.data.specs.Classes.{classes};
 ghost use Rattle.cut.specs.Runs.{run_end};
 ghost use Rattle.tape.specs.Tape.{view};
 ghost use Rattle.parse.specs.After.{after};
@@ -8,9 +7,9 @@ ghost use Rattle.parse.specs.Parameter.{parameter_object, value_or_object, param
 ghost use Rattle.parse.specs.Parameter.{name_kind, name_start, parameter};
 ghost use Rattle.parse.specs.Parse.{text_limit};
 
-use crate::text::Text;
 use crate::laying::lay;
 use crate::scalars::viewed;
+use crate::text::Text;
 use machine::{Machine, Refusal, State, Turn, byte_at};
 use tape::token::{ContainerKind, ScalarKind};
 use tape::{token, words};
@@ -65,26 +64,20 @@ fn value_or_object(
 
 // The place after the run that starts at a place: the cut is handed the text's later part, and the place is added back.
 #[tactic(auto, using(crate::proofs::Tables::run_end_lent, crate::proofs::Tables::run_end_fits))]
-fn run_from(text: Text, table: &[u8; data::BYTE_COUNT], start: usize) -> usize
-    requires { (table.now ≡ classes) × (start < length text.bytes.now) }
+fn run_from(text: Text, start: usize) -> usize
+    requires { start < length text.bytes.now }
     ensures { result ≡ run_end text.entry.bytes.now start }
 {
-    start + cut::split_at_scalar(&text.bytes[start..], table)
+    start + cut::split_at_scalar(&text.bytes[start..], text.table)
 }
 
 // The run after a parameter's name: its value, or the first key of its Object.
 #[tactic(auto, using(crate::proofs::Bounds::skip_within, crate::proofs::Bounds::run_moves, crate::proofs::Bounds::run_within), unfolding(crate::specs::Parameter::parameter_value))]
-fn parameter_value(
-    text: Text,
-    table: &[u8; data::BYTE_COUNT],
-    tape: &mut [u32],
-    m: Machine,
-) -> Result<Turn, Refusal>
-    requires { table.now ≡ classes }
+fn parameter_value(text: Text, tape: &mut [u32], m: Machine) -> Result<Turn, Refusal>
     ensures { after result tape.new ≡ parameter_value text.entry.bytes.now (view tape.old m.count) m }
 {
     let start = cut::skip_ws_t(text.bytes, m.at).ok_or(Refusal::Eof)?;
-    let end = run_from(text, table, start);
+    let end = run_from(text, start);
     let rest = cut::skip_ws_t(text.bytes, end).ok_or(Refusal::Eof)?;
     value_or_object(text, tape, m, start, end, rest)
 }
@@ -93,41 +86,38 @@ fn parameter_value(
 #[tactic(auto, unfolding(crate::specs::Parameter::parameter_named, crate::specs::After::lay_then))]
 fn parameter_named(
     text: Text,
-    table: &[u8; data::BYTE_COUNT],
     tape: &mut [u32],
     m: Machine,
     kind: ScalarKind,
     start: usize,
     end: usize,
 ) -> Result<Turn, Refusal>
-    requires { (table.now ≡ classes) × (start ≤ end) × (end ≤ length text.bytes.now) }
+    requires { (start ≤ end) × (end ≤ length text.bytes.now) }
     ensures { after result tape.new ≡ parameter_named text.entry.bytes.now kind start end (view tape.old m.count) m }
 {
     if byte_at(text.bytes, end) != b']' {
         return Err(Refusal::OpenName(end));
     }
     let count = words::push(tape, m.count, viewed(kind, start, end)).ok_or(Refusal::Full)?;
-    parameter_value(text, table, tape, m.to(end + 1, State::Key, count))
+    parameter_value(text, tape, m.to(end + 1, State::Key, count))
 }
 
 // Reads a name that starts at a place.
 #[tactic(auto, using(crate::proofs::Bounds::run_moves, crate::proofs::Bounds::run_within), unfolding(crate::specs::Parameter::parameter_name))]
 fn parameter_name(
     text: Text,
-    table: &[u8; data::BYTE_COUNT],
     tape: &mut [u32],
     m: Machine,
     kind: ScalarKind,
     start: usize,
 ) -> Result<Turn, Refusal>
-    requires { table.now ≡ classes }
     ensures { after result tape.new ≡ parameter_name text.entry.bytes.now kind start (view tape.old m.count) m }
 {
     if text.bytes.len() <= start {
         return Err(Refusal::Eof);
     }
-    let end = run_from(text, table, start);
-    parameter_named(text, table, tape, m, kind, start, end)
+    let end = run_from(text, start);
+    parameter_named(text, tape, m, kind, start, end)
 }
 
 // The kind of a name, by whether `!` stands before it. It and the place are told first, so that one call reads the name.
@@ -153,13 +143,8 @@ fn name_start(at: usize, undefined: bool) -> usize
 
 // `[[` or `[[!` at the machine's place, with what follows it.
 #[tactic(auto, using(crate::proofs::Steps::parameter_read), unfolding(crate::specs::Parameter::parameter))]
-pub(crate) fn parameter(
-    text: Text,
-    table: &[u8; data::BYTE_COUNT],
-    tape: &mut [u32],
-    m: Machine,
-) -> Result<Turn, Refusal>
-    requires { (table.now ≡ classes) × (m.at < length text.bytes.now) }
+pub(crate) fn parameter(text: Text, tape: &mut [u32], m: Machine) -> Result<Turn, Refusal>
+    requires { m.at < length text.bytes.now }
     ensures { after result tape.new ≡ parameter text.entry.bytes.now (view tape.old m.count) m }
 {
     let at = m.at;
@@ -169,7 +154,6 @@ pub(crate) fn parameter(
     let undefined = byte_at(text.bytes, at + 2) == b'!';
     parameter_name(
         text,
-        table,
         tape,
         m,
         name_kind(undefined),

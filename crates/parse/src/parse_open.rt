@@ -6,9 +6,9 @@ ghost use Rattle.parse.specs.ParseOpen.{settle, open_empty, open_parameter, open
 ghost use Rattle.parse.specs.Step.{stepped};
 ghost use Rattle.parse.specs.Parse.{text_limit};
 
-use crate::text::Text;
 use crate::containers::close_at;
 use crate::step::Step;
+use crate::text::Text;
 use machine::bytes::{OpenByte, follows_key, open_byte};
 use machine::parents::{container_at, resumed};
 use machine::{Machine, Refusal, State, Turn, byte_at, less};

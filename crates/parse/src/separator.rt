@@ -6,8 +6,8 @@ ghost use Rattle.parse.specs.KeyValueSeparator.{mix_then, separator_then, separa
 ghost use Rattle.parse.specs.Equals.{is_separator, at_equals, past_equals};
 ghost use Rattle.parse.specs.Parse.{text_limit};
 
-use crate::text::Text;
 use crate::laying::lay;
+use crate::text::Text;
 use machine::{Machine, Refusal, State, Turn, byte_at, mixed_on};
 use operator::{Operator, Sighted};
 use tape::{token, words};
@@ -76,7 +76,9 @@ fn is_separator(state: State) -> bool
 fn at_equals(text: Text, m: Machine) -> bool
     ensures { result ≡ at_equals text.entry.bytes.now m }
 {
-    is_separator(m.state) && byte_at(text.bytes, m.at) == b'=' && byte_at(text.bytes, m.at + 1) != b'='
+    is_separator(m.state)
+        && byte_at(text.bytes, m.at) == b'='
+        && byte_at(text.bytes, m.at + 1) != b'='
 }
 
 // The machine past that `=`, which adds no token: a turn of its own would find the same. Else the machine as it is, made anew field by field.

@@ -7,9 +7,9 @@ ghost use Rattle.parse.specs.After.{after};
 ghost use Rattle.parse.specs.Step.{entered, entry};
 ghost use Rattle.parse.specs.Parse.{text_limit};
 
-use crate::text::Text;
 use crate::parse_open::{flag_parent, open_as};
 use crate::scalars::{Scalar, scalar_at};
+use crate::text::Text;
 use machine::{Machine, Refusal, State, Turn, is_parse_open};
 use tape::words;
 
@@ -38,12 +38,7 @@ fn entered(text: Text, tape: &mut [u32], m: Machine) -> Result<Turn, Refusal>
 
 // Takes the scalar that is due, and goes on past it in a state.
 #[tactic(auto, using(crate::proofs::Steps::entry_taken))]
-pub(crate) fn entry(
-    text: Text,
-    tape: &mut [u32],
-    m: Machine,
-    state: State,
-) -> Result<Turn, Refusal>
+pub(crate) fn entry(text: Text, tape: &mut [u32], m: Machine, state: State) -> Result<Turn, Refusal>
     ensures { after result tape.new ≡ entry text.entry.bytes.now state (view tape.old m.count) m }
 {
     let Scalar { token, rest } = scalar_at(text, m.at).ok_or(Refusal::Eof)?;
