@@ -7,7 +7,9 @@ ghost use Rattle.parse.specs.After.{after, next};
 ghost use Rattle.parse.specs.Step.{stepped};
 ghost use Rattle.machine.specs.Finish.{outcome};
 ghost use Rattle.parse.specs.Parse.{text_limit, state_turn, turn, run, ending, enough, parse_of};
+ghost use Rattle.parse.specs.Here.{from_here, stepped_here};
 
+use crate::here::Here;
 use crate::step::Step;
 use crate::text::Text;
 use machine::finish::{finish, refuse};
@@ -16,6 +18,7 @@ use machine::{Machine, Parsed, Refusal, State, Turn, mixed_on};
 
 mod array_value;
 mod containers;
+mod here;
 mod key;
 mod laying;
 mod object_value;
@@ -31,29 +34,39 @@ pub const TEXT_LIMIT: usize = 16777215;
 
 // What the machine's state makes of a byte that is no blank.
 #[tactic(auto, unfolding(crate::specs::Parse::state_turn))]
-fn state_step(text: Text, tape: &mut [u32], m: Machine) -> Step
-    requires { m.at < length text.bytes.now }
-    ensures { stepped text.entry.bytes.now result tape.new m ≡ state_turn text.entry.bytes.now (view tape.old m.count) m }
+fn state_step(here: Here, tape: &mut [u32]) -> Step
+    ensures { stepped_here result here.entry tape.new ≡ from_here state_turn here.entry tape.old }
 {
-    match m.state {
-        State::Key => key::key_turn(text, tape, m),
-        State::KeyValueSeparator => Step::Turned(separator::separator_turn(text, tape, m)),
-        State::ObjectValue => object_value::object_value_turn(text, tape, m),
-        State::ParseOpen => parse_open::parse_open_turn(text, tape, m),
-        State::ArrayValue => array_value::array_value_turn(text, tape, m),
+    match here.m.state {
+        State::Key => key::key_turn(here, tape),
+        State::KeyValueSeparator => Step::Turned(separator::separator_turn(here, tape)),
+        State::ObjectValue => object_value::object_value_turn(here, tape),
+        State::ParseOpen => parse_open::parse_open_turn(here, tape),
+        State::ArrayValue => array_value::array_value_turn(here, tape),
     }
 }
 
 // A turn of the machine's state, at a byte that is no blank.
-fn state_turn(text: Text, tape: &mut [u32], m: Machine) -> Result<Turn, Refusal>
-    requires { m.at < length text.bytes.now }
-    ensures { after result tape.new ≡ state_turn text.entry.bytes.now (view tape.old m.count) m }
+fn state_turn(here: Here, tape: &mut [u32]) -> Result<Turn, Refusal>
+    ensures { after result tape.new ≡ from_here state_turn here.entry tape.old }
 {
-    match state_step(text, tape, m) {
+    match state_step(here, tape) {
         Step::Turned(turned) => turned,
-        Step::Scalar(state) => step::entry(text, tape, m, state),
-        Step::Operator(count) => array_value::operator_then(text, tape, mixed_on(m, count)),
-        Step::Parameter(parent) => parameter::parameter(text, tape, m.within(parent)),
+        Step::Scalar(state) => step::entry(here, tape, state),
+        Step::Operator(count) => array_value::operator_then(
+            Here {
+                text: here.text,
+                m: mixed_on(here.m, count),
+            },
+            tape,
+        ),
+        Step::Parameter(parent) => parameter::parameter(
+            Here {
+                text: here.text,
+                m: here.m.within(parent),
+            },
+            tape,
+        ),
     }
 }
 
@@ -63,7 +76,13 @@ fn turn(text: Text, tape: &mut [u32], m: Machine) -> Result<Turn, Refusal>
     ensures { after result tape.new ≡ turn text.entry.bytes.now (view tape.old m.count) m }
 {
     match cut::skip_ws_t(text.bytes, m.at) {
-        Some(p) => state_turn(text, tape, m.to(p, m.state, m.count)),
+        Some(p) => state_turn(
+            Here {
+                text,
+                m: m.to(p, m.state, m.count),
+            },
+            tape,
+        ),
         None => containers::text_end(tape, m),
     }
 }

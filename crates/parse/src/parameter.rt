@@ -6,7 +6,9 @@ ghost use Rattle.parse.specs.After.{after};
 ghost use Rattle.parse.specs.Parameter.{parameter_object, value_or_object, parameter_value, parameter_named, parameter_name};
 ghost use Rattle.parse.specs.Parameter.{name_kind, name_start, parameter};
 ghost use Rattle.parse.specs.Parse.{text_limit};
+ghost use Rattle.parse.specs.Here.{from_here};
 
+use crate::here::Here;
 use crate::laying::lay;
 use crate::scalars::viewed;
 use crate::text::Text;
@@ -143,19 +145,18 @@ fn name_start(at: usize, undefined: bool) -> usize
 
 // `[[` or `[[!` at the machine's place, with what follows it.
 #[tactic(auto, using(crate::proofs::Steps::parameter_read), unfolding(crate::specs::Parameter::parameter))]
-pub(crate) fn parameter(text: Text, tape: &mut [u32], m: Machine) -> Result<Turn, Refusal>
-    requires { m.at < length text.bytes.now }
-    ensures { after result tape.new ≡ parameter text.entry.bytes.now (view tape.old m.count) m }
+pub(crate) fn parameter(here: Here, tape: &mut [u32]) -> Result<Turn, Refusal>
+    ensures { after result tape.new ≡ from_here parameter here.entry tape.old }
 {
-    let at = m.at;
-    if byte_at(text.bytes, at + 1) != b'[' {
+    let at = here.m.at;
+    if byte_at(here.text.bytes, at + 1) != b'[' {
         return Err(Refusal::NoParameter(at));
     }
-    let undefined = byte_at(text.bytes, at + 2) == b'!';
+    let undefined = byte_at(here.text.bytes, at + 2) == b'!';
     parameter_name(
-        text,
+        here.text,
         tape,
-        m,
+        here.m,
         name_kind(undefined),
         name_start(at, undefined),
     )

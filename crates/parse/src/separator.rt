@@ -5,7 +5,9 @@ ghost use Rattle.parse.specs.After.{after, next};
 ghost use Rattle.parse.specs.KeyValueSeparator.{mix_then, separator_then, separator_turn};
 ghost use Rattle.parse.specs.Equals.{is_separator, at_equals, past_equals};
 ghost use Rattle.parse.specs.Parse.{text_limit};
+ghost use Rattle.parse.specs.Here.{from_here};
 
+use crate::here::Here;
 use crate::laying::lay;
 use crate::text::Text;
 use machine::{Machine, Refusal, State, Turn, byte_at, mixed_on};
@@ -24,14 +26,15 @@ fn mix(tape: &mut [u32], m: Machine) -> Result<Turn, Refusal>
 // An operator between a key and its value; `=` is the usual one and adds no token.
 #[tactic(auto, unfolding(crate::specs::KeyValueSeparator::separator_then))]
 fn separator_then(
+    here: Here,
     tape: &mut [u32],
-    m: Machine,
     operator: Operator,
     width: usize,
 ) -> Result<Turn, Refusal>
-    requires { (m.at < text_limit) × (width ≤ 2) }
-    ensures { after result tape.new ≡ separator_then operator width (view tape.old m.count) m }
+    requires { width ≤ 2 }
+    ensures { after result tape.new ≡ separator_then operator width (view tape.old here.entry.m.count) here.entry.m }
 {
+    let m = here.m;
     let at = m.at + width;
     if operator.is_equal() {
         return Ok(Turn::Next(m.to(at, State::ObjectValue, m.count)));
@@ -47,14 +50,14 @@ fn separator_then(
 
 // A turn in KeyValueSeparator, at a byte that is no blank.
 #[tactic(auto, using(crate::proofs::Bounds::sighted_short), unfolding(crate::specs::KeyValueSeparator::separator_turn))]
-pub(crate) fn separator_turn(text: Text, tape: &mut [u32], m: Machine) -> Result<Turn, Refusal>
-    requires { m.at < length text.bytes.now }
-    ensures { after result tape.new ≡ separator_turn text.entry.bytes.now (view tape.old m.count) m }
+pub(crate) fn separator_turn(here: Here, tape: &mut [u32]) -> Result<Turn, Refusal>
+    ensures { after result tape.new ≡ from_here separator_turn here.entry tape.old }
 {
+    let m = here.m;
     let at = m.at;
-    let b = byte_at(text.bytes, at);
-    match operator::operator_at(b, byte_at(text.bytes, at + 1)) {
-        Some(Sighted { operator, width }) => separator_then(tape, m, operator, width),
+    let b = byte_at(here.text.bytes, at);
+    match operator::operator_at(b, byte_at(here.text.bytes, at + 1)) {
+        Some(Sighted { operator, width }) => separator_then(here, tape, operator, width),
         None => {
             if b == b'{' {
                 return Ok(Turn::Next(m.to(at, State::ObjectValue, m.count)));
