@@ -26,6 +26,7 @@ mod parameter;
 mod parse_open;
 mod scalars;
 mod separator;
+mod span;
 mod step;
 mod text;
 

@@ -11,66 +11,65 @@ ghost use Rattle.parse.specs.Here.{from_here};
 use crate::here::Here;
 use crate::laying::lay;
 use crate::scalars::viewed;
+use crate::span::Span;
 use crate::text::Text;
 use machine::{Machine, Refusal, State, Turn, byte_at};
 use tape::token::{ContainerKind, ScalarKind};
 use tape::{token, words};
 
-// Opens an Object whose first key is the run from start to end.
+// Opens an Object whose first key is a run.
 #[tactic(auto, unfolding(crate::specs::Parameter::parameter_object, crate::specs::After::lay_then))]
 fn parameter_object(
     tape: &mut [u32],
     m: Machine,
-    start: usize,
-    end: usize,
+    run: Span,
     rest: usize,
 ) -> Result<Turn, Refusal>
-    requires { (start ≤ end) × (end ≤ text_limit) }
-    ensures { after result tape.new ≡ parameter_object start end rest (view tape.old m.count) m }
+    ensures { after result tape.new ≡ parameter_object run.start run.end rest (view tape.old m.count) m }
 {
     let opener = token::opener(ContainerKind::Object, m.parent, false);
     let count = words::push(tape, m.count, opener).ok_or(Refusal::Full)?;
     lay(
         tape,
         m.to(rest, State::KeyValueSeparator, count).within(m.count),
-        viewed(ScalarKind::Unquoted, start, end),
+        viewed(ScalarKind::Unquoted, run),
         rest,
         State::KeyValueSeparator,
     )
 }
 
-// What the byte after the run from start to end says that the run is.
+// What the byte after a run says that the run is.
 #[tactic(auto, unfolding(crate::specs::Parameter::value_or_object))]
 fn value_or_object(
     text: Text,
     tape: &mut [u32],
     m: Machine,
-    start: usize,
-    end: usize,
+    run: Span,
     rest: usize,
 ) -> Result<Turn, Refusal>
-    requires { (start ≤ end) × (end ≤ text_limit) × (rest ≤ text_limit) }
-    ensures { after result tape.new ≡ value_or_object text.entry.bytes.now start end rest (view tape.old m.count) m }
+    requires { rest ≤ text_limit }
+    ensures { after result tape.new ≡ value_or_object text.entry.bytes.now run.start run.end rest (view tape.old m.count) m }
 {
     if byte_at(text.bytes, rest) == b']' {
         return lay(
             tape,
             m,
-            viewed(ScalarKind::Unquoted, start, end),
+            viewed(ScalarKind::Unquoted, run),
             rest + 1,
             State::Key,
         );
     }
-    parameter_object(tape, m, start, end, rest)
+    parameter_object(tape, m, run, rest)
 }
 
-// The place after the run that starts at a place: the cut is handed the text's later part, and the place is added back.
+// The run that starts at a place: the cut is handed the text's later part, and the place is added back.
 #[tactic(auto, using(crate::proofs::Tables::run_end_lent, crate::proofs::Tables::run_end_fits))]
-fn run_from(text: Text, start: usize) -> usize
+fn run_from(text: Text, start: usize) -> Span
     requires { start < length text.bytes.now }
-    ensures { result ≡ run_end text.entry.bytes.now start }
+    ensures { (result.start ≡ start) × (result.end ≡ run_end text.entry.bytes.now start) }
 {
-    start + cut::split_at_scalar(&text.bytes[start..], text.table)
+    let end = start + cut::split_at_scalar(&text.bytes[start..], text.table);
+    Span { start, end }
 }
 
 // The run after a parameter's name: its value, or the first key of its Object.
@@ -79,29 +78,27 @@ fn parameter_value(text: Text, tape: &mut [u32], m: Machine) -> Result<Turn, Ref
     ensures { after result tape.new ≡ parameter_value text.entry.bytes.now (view tape.old m.count) m }
 {
     let start = cut::skip_ws_t(text.bytes, m.at).ok_or(Refusal::Eof)?;
-    let end = run_from(text, start);
-    let rest = cut::skip_ws_t(text.bytes, end).ok_or(Refusal::Eof)?;
-    value_or_object(text, tape, m, start, end, rest)
+    let run = run_from(text, start);
+    let rest = cut::skip_ws_t(text.bytes, run.end).ok_or(Refusal::Eof)?;
+    value_or_object(text, tape, m, run, rest)
 }
 
-// Adds the name from start to end, which `]` must end.
+// Adds a name, which `]` must end.
 #[tactic(auto, unfolding(crate::specs::Parameter::parameter_named, crate::specs::After::lay_then))]
 fn parameter_named(
     text: Text,
     tape: &mut [u32],
     m: Machine,
     kind: ScalarKind,
-    start: usize,
-    end: usize,
+    name: Span,
 ) -> Result<Turn, Refusal>
-    requires { (start ≤ end) × (end ≤ length text.bytes.now) }
-    ensures { after result tape.new ≡ parameter_named text.entry.bytes.now kind start end (view tape.old m.count) m }
+    ensures { after result tape.new ≡ parameter_named text.entry.bytes.now kind name.start name.end (view tape.old m.count) m }
 {
-    if byte_at(text.bytes, end) != b']' {
-        return Err(Refusal::OpenName(end));
+    if byte_at(text.bytes, name.end) != b']' {
+        return Err(Refusal::OpenName(name.end));
     }
-    let count = words::push(tape, m.count, viewed(kind, start, end)).ok_or(Refusal::Full)?;
-    parameter_value(text, tape, m.to(end + 1, State::Key, count))
+    let count = words::push(tape, m.count, viewed(kind, name)).ok_or(Refusal::Full)?;
+    parameter_value(text, tape, m.to(name.end + 1, State::Key, count))
 }
 
 // Reads a name that starts at a place.
@@ -118,8 +115,8 @@ fn parameter_name(
     if text.bytes.len() <= start {
         return Err(Refusal::Eof);
     }
-    let end = run_from(text, start);
-    parameter_named(text, tape, m, kind, start, end)
+    let name = run_from(text, start);
+    parameter_named(text, tape, m, kind, name)
 }
 
 // The kind of a name, by whether `!` stands before it. It and the place are told first, so that one call reads the name.

@@ -11,7 +11,7 @@ use crate::here::Here;
 use crate::laying::lay;
 use crate::text::Text;
 use machine::{Machine, Refusal, State, Turn, byte_at, mixed_on};
-use operator::{Operator, Sighted};
+use operator::Sighted;
 use tape::{token, words};
 
 // Puts a MixedContainer in before the last token, and goes on in ArrayValue with mixed on.
@@ -28,21 +28,20 @@ fn mix(tape: &mut [u32], m: Machine) -> Result<Turn, Refusal>
 fn separator_then(
     here: Here,
     tape: &mut [u32],
-    operator: Operator,
-    width: usize,
+    sign: Sighted,
 ) -> Result<Turn, Refusal>
-    requires { width ≤ 2 }
-    ensures { after result tape.new ≡ separator_then operator width (view tape.old here.entry.m.count) here.entry.m }
+    requires { sign.width ≤ 2 }
+    ensures { after result tape.new ≡ separator_then sign.operator sign.width (view tape.old here.entry.m.count) here.entry.m }
 {
     let m = here.m;
-    let at = m.at + width;
-    if operator.is_equal() {
+    let at = m.at + sign.width;
+    if sign.operator.is_equal() {
         return Ok(Turn::Next(m.to(at, State::ObjectValue, m.count)));
     }
     lay(
         tape,
         m,
-        token::operator(operator.number()),
+        token::operator(sign.operator.number()),
         at,
         State::ObjectValue,
     )
@@ -57,7 +56,7 @@ pub(crate) fn separator_turn(here: Here, tape: &mut [u32]) -> Result<Turn, Refus
     let at = m.at;
     let b = byte_at(here.text.bytes, at);
     match operator::operator_at(b, byte_at(here.text.bytes, at + 1)) {
-        Some(Sighted { operator, width }) => separator_then(here, tape, operator, width),
+        Some(sign) => separator_then(here, tape, sign),
         None => {
             if b == b'{' {
                 return Ok(Turn::Next(m.to(at, State::ObjectValue, m.count)));
