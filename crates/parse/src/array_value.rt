@@ -41,10 +41,7 @@ pub(crate) fn operator_then(here: Here, tape: &mut [u32]) -> Result<Turn, Refusa
     ensures { after result tape.new ≡ from_here operator_then here.entry tape.old }
 {
     let at = here.m.at;
-    match operator::operator_at(
-        byte_at(here.text.bytes, at),
-        byte_at(here.text.bytes, at + 1),
-    ) {
+    match operator::operator_at(here.byte(), byte_at(here.text.bytes, at + 1)) {
         Some(Sighted { operator, width }) => {
             lay(
                 tape,
@@ -64,7 +61,7 @@ fn after_end(here: Here) -> Result<Turn, Refusal>
     ensures { (ws : List ℕ) → after result ws ≡ after_end here.entry.text.bytes.now (view ws here.entry.m.count) here.entry.m }
 {
     let m = here.m;
-    if byte_at(here.text.bytes, m.at) == b'=' {
+    if here.byte() == b'=' {
         return Ok(Turn::Next(m.to(m.at + 1, State::ArrayValue, m.count)));
     }
     Err(Refusal::NothingPrecedes(before(m.at)))
@@ -114,7 +111,7 @@ pub(crate) fn array_value_turn(here: Here, tape: &mut [u32]) -> Step
     ensures { stepped_here result here.entry tape.new
         ≡ from_here array_value_turn here.entry tape.old }
 {
-    match value_byte(byte_at(here.text.bytes, here.m.at)) {
+    match value_byte(here.byte()) {
         ValueByte::Brace => Step::Turned(open_then(here, tape)),
         ValueByte::Closer => Step::Turned(array_close(here, tape)),
         ValueByte::Sign => array_operator(here, tape),

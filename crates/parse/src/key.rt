@@ -78,7 +78,7 @@ fn key_brace(here: Here, tape: &mut [u32]) -> Result<Turn, Refusal>
 pub(crate) fn key_turn(here: Here, tape: &mut [u32]) -> Step
     ensures { stepped_here result here.entry tape.new ≡ from_here key_turn here.entry tape.old }
 {
-    match key_byte(byte_at(here.text.bytes, here.m.at)) {
+    match key_byte(here.byte()) {
         KeyByte::Closer => Step::Turned(key_close(here, tape)),
         KeyByte::Brace => Step::Turned(key_brace(here, tape)),
         KeyByte::Bracket => Step::Parameter(here.m.parent),

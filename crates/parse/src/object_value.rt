@@ -9,7 +9,7 @@ use crate::containers::open_then;
 use crate::here::Here;
 use crate::step::Step;
 use crate::text::Text;
-use machine::{Machine, Refusal, State, Turn, byte_at};
+use machine::{Machine, Refusal, State, Turn};
 
 // A turn in ObjectValue, at a byte that is no blank.
 #[tactic(auto, unfolding(crate::specs::ObjectValue::object_value_turn, crate::specs::Step::entry))]
@@ -17,7 +17,7 @@ pub(crate) fn object_value_turn(here: Here, tape: &mut [u32]) -> Step
     ensures { stepped_here result here.entry tape.new
         ≡ from_here object_value_turn here.entry tape.old }
 {
-    let b = byte_at(here.text.bytes, here.m.at);
+    let b = here.byte();
     if b == b'{' {
         return Step::Turned(open_then(here, tape));
     }

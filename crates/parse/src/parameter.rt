@@ -19,12 +19,7 @@ use tape::{token, words};
 
 // Opens an Object whose first key is a run.
 #[tactic(auto, unfolding(crate::specs::Parameter::parameter_object, crate::specs::After::lay_then))]
-fn parameter_object(
-    tape: &mut [u32],
-    m: Machine,
-    run: Span,
-    rest: usize,
-) -> Result<Turn, Refusal>
+fn parameter_object(tape: &mut [u32], m: Machine, run: Span, rest: usize) -> Result<Turn, Refusal>
     ensures { after result tape.new ≡ parameter_object run.start run.end rest (view tape.old m.count) m }
 {
     let opener = token::opener(ContainerKind::Object, m.parent, false);

@@ -126,7 +126,7 @@ pub(crate) fn open_as(text: Text, tape: &mut [u32], m: Machine) -> Result<Turn, 
 pub(crate) fn parse_open_turn(here: Here, tape: &mut [u32]) -> Step
     ensures { stepped_here result here.entry tape.new ≡ from_here parse_open_turn here.entry tape.old }
 {
-    match open_byte(byte_at(here.text.bytes, here.m.at)) {
+    match open_byte(here.byte()) {
         OpenByte::Closer => Step::Turned(open_empty(here, tape)),
         OpenByte::Bracket => open_parameter(tape, here.m),
         OpenByte::Brace => Step::Turned(open_brace(here, tape)),

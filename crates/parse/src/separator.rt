@@ -25,11 +25,7 @@ fn mix(tape: &mut [u32], m: Machine) -> Result<Turn, Refusal>
 
 // An operator between a key and its value; `=` is the usual one and adds no token.
 #[tactic(auto, unfolding(crate::specs::KeyValueSeparator::separator_then))]
-fn separator_then(
-    here: Here,
-    tape: &mut [u32],
-    sign: Sighted,
-) -> Result<Turn, Refusal>
+fn separator_then(here: Here, tape: &mut [u32], sign: Sighted) -> Result<Turn, Refusal>
     requires { sign.width ≤ 2 }
     ensures { after result tape.new ≡ separator_then sign.operator sign.width (view tape.old here.entry.m.count) here.entry.m }
 {
@@ -54,7 +50,7 @@ pub(crate) fn separator_turn(here: Here, tape: &mut [u32]) -> Result<Turn, Refus
 {
     let m = here.m;
     let at = m.at;
-    let b = byte_at(here.text.bytes, at);
+    let b = here.byte();
     match operator::operator_at(b, byte_at(here.text.bytes, at + 1)) {
         Some(sign) => separator_then(here, tape, sign),
         None => {
