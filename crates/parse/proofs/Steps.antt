@@ -81,10 +81,6 @@ module _ (text : List ℕ) (t : Tape) (m : Machine) where
       ap (λ (b : Bool). operator_then text t (record { at = m.at; state = ArrayValue; parent = m.parent; mixed = b; count = m.count })) (sym e)
       ∙ sym (ap by_flag e)
 
-  pub operator-unmixed : m.mixed ≡ false → array_operator text t m ≡ unmixed_operator text t m
-  unfolding array_operator
-  operator-unmixed e = ap by_flag e
-
   -- a parameter that opens a container which is not mixed
   abbrev opened : After
   opened = parameter text (replace t (m.count - 1) (opener_of Object m.parent false)) (within m (m.count - 1))
