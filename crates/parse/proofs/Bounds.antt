@@ -11,11 +11,9 @@ use Rattle.operator.specs.declared.Sighted.{Sighted}
 use Rattle.operator.specs.Operators.{sighted}
 use Rattle.operator.proofs.Widths.{sighted-width}
 use Rattle.cut.specs.Blanks.{skip_ws}
-use Rattle.cut.specs.Runs.{run_end}
 use Rattle.cut.specs.Scalars.{scalar_cut}
 use Rattle.cut.specs.declared.Cut.TheVariants.{Unquoted, Quoted}
 use Rattle.cut.proofs.Blanks.{skip_lands}
-use Rattle.cut.proofs.Runs.{run_end-run}
 use Rattle.cut.proofs.Scalars.{unquoted_bounds, quoted_bounds}
 
 -- an operator takes two bytes at most
@@ -25,13 +23,6 @@ sighted_short a b s e = (sighted-width a b s.operator s.width e).few
 -- skipped blanks end at a byte of the text
 pub skip_within : (text : List ℕ) (at place : ℕ) → skip_ws text at ≡ Some place → place < length text
 skip_within text at place e = (skip_lands text at place e).within
-
--- a run ends after its start, and within the text
-pub run_moves : (text : List ℕ) (at : ℕ) → at < length text → at < run_end text at
-run_moves text at h = (run_end-run text at h).moves
-
-pub run_within : (text : List ℕ) (at : ℕ) → at < length text → run_end text at ≤ length text
-run_within text at h = (run_end-run text at h).within
 
 -- a scalar's view starts where it ends or before that, and ends within the text
 pub unquoted_within : (text : List ℕ) (at start end rest : ℕ) → scalar_cut text at ≡ Some (Unquoted start end rest)

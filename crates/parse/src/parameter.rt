@@ -68,7 +68,7 @@ fn run_from(text: Text, start: usize) -> Span
 }
 
 // The run after a parameter's name: its value, or the first key of its Object.
-#[tactic(auto, using(crate::proofs::Bounds::skip_within, crate::proofs::Bounds::run_moves, crate::proofs::Bounds::run_within), unfolding(crate::specs::Parameter::parameter_value))]
+#[tactic(auto, using(crate::proofs::Bounds::skip_within), unfolding(crate::specs::Parameter::parameter_value))]
 fn parameter_value(text: Text, tape: &mut [u32], m: Machine) -> Result<Turn, Refusal>
     ensures { after result tape.new ≡ parameter_value text.entry.bytes.now (view tape.old m.count) m }
 {
@@ -97,7 +97,7 @@ fn parameter_named(
 }
 
 // Reads a name that starts at a place.
-#[tactic(auto, using(crate::proofs::Bounds::run_moves, crate::proofs::Bounds::run_within), unfolding(crate::specs::Parameter::parameter_name))]
+#[tactic(auto, unfolding(crate::specs::Parameter::parameter_name))]
 fn parameter_name(
     text: Text,
     tape: &mut [u32],
