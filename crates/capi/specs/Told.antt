@@ -3,8 +3,10 @@
 use Rattle.std.specs.Prelude.{ℕ, Result, List, Float, ℤ, length, Option, Some, None, Bool, false, pos}
 use Rattle.std.specs.Result.{result_unwrap_or}
 use Rattle.parse.specs.Told.{bit}
-use Rattle.scalar.specs.Numbers.{scalar_refusal, f64_value_of}
-use Rattle.scalar.specs.declared.errors.ScalarError.{ScalarError}
+use Rattle.scalar.specs.Numbers.{bool_refusal_of, whole_refusal_of, f64_refusal_of, f64_value_of}
+use Rattle.scalar.specs.declared.errors.BoolError.{BoolError}
+use Rattle.scalar.specs.declared.errors.DecimalError.{DecimalError}
+use Rattle.scalar.specs.declared.errors.WholeError.{WholeError}
 use Rattle.date.specs.Refusals.{date_refusal, no_date}
 use Rattle.date.specs.declared.calendar.Date.{Date}
 use Rattle.date.specs.declared.refusals.DateError.{DateError}
@@ -54,17 +56,17 @@ tell_sheet (file.left f words) = sheet_told (read_refusal f) (text_length_of f) 
 pub data ReadTold (Value : Type 0) : Type 0 where
   read_told : (refusal : ℕ) → Value → ReadTold Value
 
-abbrev pub tell_bool : Result Bool ScalarError → ReadTold ℕ
-tell_bool r = read_told (scalar_refusal r) (bit (result_unwrap_or r false))
+abbrev pub tell_bool : Result Bool BoolError → ReadTold ℕ
+tell_bool r = read_told (bool_refusal_of r) (bit (result_unwrap_or r false))
 
-abbrev pub tell_u64 : Result ℕ ScalarError → ReadTold ℕ
-tell_u64 r = read_told (scalar_refusal r) (result_unwrap_or r 0)
+abbrev pub tell_u64 : Result ℕ WholeError → ReadTold ℕ
+tell_u64 r = read_told (whole_refusal_of r) (result_unwrap_or r 0)
 
-abbrev pub tell_i64 : Result ℤ ScalarError → ReadTold ℤ
-tell_i64 r = read_told (scalar_refusal r) (result_unwrap_or r (pos 0))
+abbrev pub tell_i64 : Result ℤ WholeError → ReadTold ℤ
+tell_i64 r = read_told (whole_refusal_of r) (result_unwrap_or r (pos 0))
 
-abbrev pub tell_f64 : Result Float ScalarError → ReadTold Float
-tell_f64 r = read_told (scalar_refusal r) (f64_value_of r)
+abbrev pub tell_f64 : Result Float DecimalError → ReadTold Float
+tell_f64 r = read_told (f64_refusal_of r) (f64_value_of r)
 
 -- a date, and a day
 abbrev pub tell_date : Result Date DateError → ReadTold Date
@@ -78,8 +80,8 @@ pub data PartTold : Type 0 where
   part_told : (refusal : ℕ) (value : ℤ) (left : ℕ) → PartTold
 
 -- what is told of a number and of the part after it
-abbrev pub tell_part : Result ℤ ScalarError → List ℕ → PartTold
-tell_part r rest = part_told (scalar_refusal r) (result_unwrap_or r (pos 0)) (length rest)
+abbrev pub tell_part : Result ℤ WholeError → List ℕ → PartTold
+tell_part r rest = part_told (whole_refusal_of r) (result_unwrap_or r (pos 0)) (length rest)
 
 -- a token: its code, a and b
 pub data TokenTold : Type 0 where

@@ -13,7 +13,7 @@ pub enum KeyByte {
 }
 
 // Tells the bytes of Key apart.
-#[tactic(auto, unfolding(crate::specs::Bytes::key_byte))]
+#[tactic(auto, unfolding(crate::specs::Bytes::key_byte, data::specs::Classes::may_be_sign))]
 pub fn key_byte(b: u8) -> KeyByte
     ensures { result ≡ key_byte b }
 {
@@ -38,7 +38,7 @@ pub enum OpenByte {
 }
 
 // Tells the bytes of ParseOpen apart.
-#[tactic(auto, unfolding(crate::specs::Bytes::open_byte))]
+#[tactic(auto, unfolding(crate::specs::Bytes::open_byte, data::specs::Classes::may_be_sign))]
 pub fn open_byte(b: u8) -> OpenByte
     ensures { result ≡ open_byte b }
 {
@@ -71,7 +71,7 @@ pub enum ValueByte {
 }
 
 // Tells the bytes of ArrayValue apart.
-#[tactic(auto, unfolding(crate::specs::Bytes::value_byte, crate::specs::Bytes::begins_operator))]
+#[tactic(auto, unfolding(crate::specs::Bytes::value_byte, crate::specs::Bytes::begins_operator, data::specs::Classes::may_be_sign))]
 pub fn value_byte(b: u8) -> ValueByte
     ensures { result ≡ value_byte b }
 {

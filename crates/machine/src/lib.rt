@@ -50,7 +50,7 @@ pub enum Refusal {
 }
 
 impl Refusal {
-    // Document 01's number for a refusal.
+    // Document 01's number for a refusal. A match, since a variant that carries a place has no discriminant.
     pub fn number(self) -> u32
         ensures { result ≡ number self }
     {
@@ -122,7 +122,7 @@ impl Machine {
     }
 }
 
-// The byte at a place, 0 past the end.
+// The byte at a place, 0 past the end. It, `less` and `before` are std's by another name, and stay: docs/CONTRACTS.md names their promises.
 pub fn byte_at(text: &[u8], at: usize) -> u8
     ensures { result ≡ byte_at text.now at }
 {

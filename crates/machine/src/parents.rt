@@ -8,6 +8,7 @@ use tape::token::{Container, ContainerKind};
 use tape::words;
 
 // Token i of count as a container.
+#[tactic(auto, unfolding(tape::specs::Words::token_in, tape::specs::Tape::token_at))]
 pub fn container_at(tape: &[u32], count: u32, i: u32) -> Option<Container>
     ensures { result ≡ container_at (view tape.now count) i }
 {

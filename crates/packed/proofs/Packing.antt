@@ -61,10 +61,10 @@ token-read bytes at e f g = rw (e, f, g)
 
 -- token i of n, by the tests that lead to it
 module _ (bytes : List ℕ) (n i : ℕ) where
-  pub packed-there : {t : Token} → i < n → i < length bytes / bytes_per_token → t ≡ token_spelled bytes (bytes_for i)
+  pub packed_there : {t : Token} → i < n → i < length bytes / bytes_per_token → t ≡ token_spelled bytes (bytes_for i)
       → t ≡ token_in (words_packed bytes) n i
   unfolding token_in words_packed
-  packed-there h k e =
+  packed_there h k e =
       e ∙ sym (unpacked-at bytes i k)
       ∙ sym (get_or-take n (unpacked bytes) i no_token h)
       ∙ ap (λ (ts : List Token). nth ts i) (sym (words_hold (unpacked bytes) n))
@@ -75,36 +75,36 @@ module _ (bytes : List ℕ) (n i : ℕ) where
       sym (ap (λ (ts : List Token). nth ts i) (words_hold (unpacked bytes) n)
       ∙ get_or-eq_default (take n (unpacked bytes)) no_token {n = i} (omega (arith, length-take n (unpacked bytes), unpacked-length bytes)))
 
-  pub packed-past : n ≤ i → no_token ≡ token_in (words_packed bytes) n i
+  pub packed_past : n ≤ i → no_token ≡ token_in (words_packed bytes) n i
   unfolding token_in words_packed
-  packed-past h =
+  packed_past h =
       sym (ap (λ (ts : List Token). nth ts i) (words_hold (unpacked bytes) n)
       ∙ get_or-eq_default (take n (unpacked bytes)) no_token {n = i} (omega (arith, length-take n (unpacked bytes))))
 
 -- ---- the words behind a sheet, by whether there are bytes
 module _ (words bytes : List ℕ) where
-  pub behind-words : length bytes ≡ 0 → behind words bytes ≡ words
+  pub behind_words : length bytes ≡ 0 → behind words bytes ≡ words
   unfolding behind
-  behind-words e = rw (behind, eq-eqb (length bytes) 0 e)
+  behind_words e = rw (behind, eq-eqb (length bytes) 0 e)
 
-  pub behind-bytes : (length bytes ≡ 0 → ⊥) → behind words bytes ≡ words_packed bytes
+  pub behind_bytes : (length bytes ≡ 0 → ⊥) → behind words bytes ≡ words_packed bytes
   unfolding behind
-  behind-bytes n = rw (behind, ne_eqb (length bytes) 0 n)
+  behind_bytes n = rw (behind, ne_eqb (length bytes) 0 n)
 
 -- without words the bytes are read, none of them too
-pub behind-none : (bytes : List ℕ) → behind [] bytes ≡ words_packed bytes
+pub behind_none : (bytes : List ℕ) → behind [] bytes ≡ words_packed bytes
 unfolding words_packed unpacked spelled_from words_of
-behind-none bytes =
+behind_none bytes =
     by_bool (eqb (length bytes) 0)
     (λ e.
     let none : length bytes / bytes_per_token ≡ 0 = omega (arith, eqb-true (length bytes) 0 e) in
-    behind-words [] bytes (eqb-true (length bytes) 0 e) ∙ sym (rw (words_packed, unpacked, none)))
-    (λ e. behind-bytes [] bytes (eqb-false (length bytes) 0 e))
+    behind_words [] bytes (eqb-true (length bytes) 0 e) ∙ sym (rw (words_packed, unpacked, none)))
+    (λ e. behind_bytes [] bytes (eqb-false (length bytes) 0 e))
 
 -- so many tokens stand in some bytes whole where their words do
-pub packed-holds : (bytes : List ℕ) (n : ℕ) → leb n (length bytes / bytes_per_token) ≡ leb (words_for n) (length (words_packed bytes))
+pub packed_holds : (bytes : List ℕ) (n : ℕ) → leb n (length bytes / bytes_per_token) ≡ leb (words_for n) (length (words_packed bytes))
 unfolding words_packed
-packed-holds bytes n =
+packed_holds bytes n =
     let size : length (words_of (unpacked bytes)) ≡ words_for (length bytes / bytes_per_token) =
     words-length (unpacked bytes) ∙ ap words_for (unpacked-length bytes) in
     by_bool (leb n (length bytes / bytes_per_token))

@@ -2,29 +2,41 @@
 // and the words where there are none.
 ghost use Rattle.std.specs.Prelude.{◌≡◌, leb, length};
 ghost use Rattle.tape.specs.Words.{words_for, token_in};
-ghost use Rattle.packed.specs.Packed.{behind};
+ghost use Rattle.packed.specs.Source.{words};
 
 use crate::tokens;
 use crate::tokens::BYTES_PER_TOKEN;
 use tape::token::Token;
 use tape::words;
 
-// Token i of count, or the token of zeros where there is none.
-pub fn token_of(words: &[u32], bytes: &[u8], count: usize, i: usize) -> Token
-    ensures { result ≡ token_in (behind words.now bytes.now) count i }
-{
-    if bytes.len() == 0 {
-        return words::token_of(words, count, i);
-    }
-    tokens::token_of(bytes, count, i)
+// The first count tokens of the words, or of the bytes where there are some.
+#[derive(Clone, Copy)]
+pub struct Source<'a> {
+    pub words: &'a [u32],
+    pub bytes: &'a [u8],
+    pub count: usize,
 }
 
-// Whether count tokens are all there.
-pub fn holds(words: &[u32], bytes: &[u8], count: usize) -> bool
-    ensures { result ≡ leb (words_for count) (length (behind words.now bytes.now)) }
-{
-    if bytes.len() == 0 {
-        return words::holds(words, count);
+impl Source<'_> {
+    // Token i of the count, or the token of zeros where there is none.
+    #[tactic(auto, using(crate::proofs::Packing::behind_words, crate::proofs::Packing::behind_bytes))]
+    pub fn token(self, i: usize) -> Token
+        ensures { result ≡ token_in (words self.entry) self.entry.count i }
+    {
+        if self.bytes.len() == 0 {
+            return words::token_of(self.words, self.count, i);
+        }
+        tokens::token_of(self.bytes, self.count, i)
     }
-    count <= bytes.len() / BYTES_PER_TOKEN
+
+    // Whether all tokens of the count are there.
+    #[tactic(auto, using(crate::proofs::Packing::behind_words, crate::proofs::Packing::behind_bytes, crate::proofs::Packing::packed_holds))]
+    pub fn holds(self) -> bool
+        ensures { result ≡ leb (words_for self.entry.count) (length (words self.entry)) }
+    {
+        if self.bytes.len() == 0 {
+            return words::holds(self.words, self.count);
+        }
+        self.count <= self.bytes.len() / BYTES_PER_TOKEN
+    }
 }

@@ -40,13 +40,12 @@ fn token_at(bytes: &[u8], at: usize) -> Token
 }
 
 // Token i of count that stand in some bytes, or the token of zeros where there is none.
+#[tactic(auto, using(crate::proofs::Packing::packed_there, crate::proofs::Packing::packed_none, crate::proofs::Packing::packed_past))]
 pub fn token_of(bytes: &[u8], count: usize, i: usize) -> Token
     ensures { result ≡ token_in (words_packed bytes.now) count i }
 {
-    if i < count {
-        if i < bytes.len() / BYTES_PER_TOKEN {
-            return token_at(bytes, i * BYTES_PER_TOKEN);
-        }
+    if i < count && i < bytes.len() / BYTES_PER_TOKEN {
+        return token_at(bytes, i * BYTES_PER_TOKEN);
     }
     token::NO_TOKEN
 }
@@ -76,15 +75,12 @@ fn put_all(words: &[u32], count: usize, n: usize, out: &mut [u8], at: usize)
 }
 
 // Puts the tokens of a sheet from a place on, where they all find room.
+#[tactic(auto, using(crate::proofs::Packing::pack_none, crate::proofs::Packing::pack_there))]
 pub fn pack(words: &[u32], count: usize, out: &mut [u8], at: usize)
     ensures { out.new ≡ store out.old at (packed (tokens_in words.now count)) }
 {
     let n = words::held(words, count);
-    if out.len() < at {
-        return;
+    if at <= out.len() && n <= (out.len() - at) / BYTES_PER_TOKEN {
+        put_all(words, count, n, out, at);
     }
-    if (out.len() - at) / BYTES_PER_TOKEN < n {
-        return;
-    }
-    put_all(words, count, n, out, at);
 }

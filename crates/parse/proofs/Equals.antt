@@ -65,8 +65,8 @@ module _ (text : List ℕ) (m : Machine) (there : at_equals text m ≡ true) whe
   second : eqb (byte_at text (m.at + 1)) equals ≡ false
   second = not-true _ (both (eqb (byte_at text m.at) equals) _ parts.1).1
 
-  pub equals-next : m.at < length text
-  equals-next = equals-within text m.at first
+  pub equals_next : m.at < length text
+  equals_next = equals-within text m.at first
 
   -- a turn there goes past it and lays down nothing
   equals-turn : (t : Tape) → turn text t m ≡ next (to m (m.at + 1) ObjectValue m.count) t
@@ -131,9 +131,9 @@ module _ (text : List ℕ) (t : Tape) (m m' r : Machine) (tape : List ℕ) (x : 
 
 -- by whether it is next, at the place and in the state that the code then has
 module _ (text : List ℕ) (m : Machine) (at : ℕ) (s : State) where
-  pub past-there : at_equals text m ≡ true → at ≡ m.at + 1 → s ≡ ObjectValue → to m at s m.count ≡ past_equals text m
+  pub past_there : at_equals text m ≡ true → at ≡ m.at + 1 → s ≡ ObjectValue → to m at s m.count ≡ past_equals text m
   unfolding past_equals
-  past-there e p q = rw (past_equals, e, p, q)
+  past_there e p q = rw (past_equals, e, p, q)
 
   pub past_elsewhere : at_equals text m ≡ false → at ≡ m.at → s ≡ m.state → to m at s m.count ≡ past_equals text m
   unfolding past_equals

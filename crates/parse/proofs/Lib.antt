@@ -9,3 +9,4 @@ pub mod Steps
 pub mod Tables
 pub mod Walk
 pub mod Rooms
+pub mod Bounds

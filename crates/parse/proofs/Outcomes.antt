@@ -44,7 +44,7 @@ unfolding parse_of
 parse_runs text ws h = rw (parse_of, le-ltb text_limit (length text) h) (numbered text ws h)
 
 -- what the end of a run is made into is the answer of the run
-pub finish-answers : (ws : List ℕ) (e : Result ℕ Refusal) (bom : Bool) → finish ws e bom ≡ answer bom (length ws) (ending e ws)
+pub finish_answers : (ws : List ℕ) (e : Result ℕ Refusal) (bom : Bool) → finish ws e bom ≡ answer bom (length ws) (ending e ws)
 unfolding finish cleared
-finish-answers ws (Ok n) bom = refl
-finish-answers ws (Err r) bom = refl
+finish_answers ws (Ok n) bom = refl
+finish_answers ws (Err r) bom = refl

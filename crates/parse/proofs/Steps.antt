@@ -75,15 +75,11 @@ module _ (text : List ℕ) (t : Tape) (m : Machine) where
   by_flag mixed = elim mixed [ true ↦ operator_then text t m | false ↦ unmixed_operator text t m ]
 
   -- of a container that is mixed already: mixed goes on again, and nothing changes
-  pub operator-mixed : m.mixed ≡ true → operator_then text t (mixed_on m m.count) ≡ array_operator text t m
+  pub operator_mixed : m.mixed ≡ true → operator_then text t (mixed_on m m.count) ≡ array_operator text t m
   unfolding array_operator operator_then lay_then
-  operator-mixed e =
+  operator_mixed e =
       ap (λ (b : Bool). operator_then text t (record { at = m.at; state = ArrayValue; parent = m.parent; mixed = b; count = m.count })) (sym e)
       ∙ sym (ap by_flag e)
-
-  pub operator-unmixed : m.mixed ≡ false → array_operator text t m ≡ unmixed_operator text t m
-  unfolding array_operator
-  operator-unmixed e = ap by_flag e
 
   -- a parameter that opens a container which is not mixed
   abbrev opened : After
@@ -94,10 +90,10 @@ module _ (text : List ℕ) (t : Tape) (m : Machine) where
   parameter-opens e = ap (λ (b : Bool). elim b [ true ↦ refused (MixedParameter m.at) | false ↦ opened ]) e
 
   -- a parameter by its name's kind and place, as one call reads both
-  pub parameter-read : byte_at text (m.at + 1) ≡ bracket_open → parameter text t m
+  pub parameter_read : byte_at text (m.at + 1) ≡ bracket_open → parameter text t m
       ≡ parameter_name text (name_kind (eqb (byte_at text (m.at + 2)) exclamation)) (name_start m.at (eqb (byte_at text (m.at + 2)) exclamation)) t m
   unfolding parameter name_kind name_start
-  parameter-read e =
+  parameter_read e =
       by_bool (eqb (byte_at text (m.at + 2)) exclamation)
       (λ b. rw (parameter, e, b))
       (λ b. rw (parameter, e, b))

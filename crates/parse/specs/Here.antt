@@ -1,17 +1,16 @@
--- What the turns' functions ask of their arguments: a text within the limit, data's table, and a place in the text.
-use Rattle.std.specs.Prelude.{◌≡◌, List, ℕ, ◌≤◌, ◌<◌, length}
-use Rattle.data.specs.Classes.{classes}
+-- A machine that stands at a byte of a text, with the words that are lent to it.
+use Rattle.std.specs.Prelude.{List, ℕ}
+use Rattle.tape.specs.Tape.{Tape, view}
 use Rattle.machine.specs.declared.Machine.{Machine}
-use Rattle.parse.specs.Parse.{text_limit}
+use Rattle.parse.specs.declared.here.Here.{Here}
+use Rattle.parse.specs.declared.step.Step.{Step}
+use Rattle.parse.specs.After.{After}
+use Rattle.parse.specs.Step.{stepped}
 
--- the machine stands at a byte of a text within the limit
-abbrev pub Here : List ℕ → Machine → Type 0
-Here text m = (length text ≤ text_limit) × (m.at < length text)
+-- what a turn, or a part of one, makes of them
+abbrev pub from_here : (List ℕ → Tape → Machine → After) → Here → List ℕ → After
+from_here part h ws = part h.text.bytes.now (view ws h.m.count) h.m
 
--- a text within the limit, and the table by which the runs of a parameter are cut
-abbrev pub Lent : List ℕ → List ℕ → Type 0
-Lent text table = (length text ≤ text_limit) × (table ≡ classes)
-
--- both
-abbrev pub LentHere : List ℕ → List ℕ → Machine → Type 0
-LentHere text table m = (length text ≤ text_limit) × (table ≡ classes) × (m.at < length text)
+-- what a step from there says together with the words that it leaves
+abbrev pub stepped_here : Step → Here → List ℕ → After
+stepped_here s h ws = stepped h.text.bytes.now s ws h.m

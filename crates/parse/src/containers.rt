@@ -8,6 +8,7 @@ ghost use Rattle.parse.specs.Containers.{open_then};
 ghost use Rattle.parse.specs.Containers.{close, key_end, text_end};
 ghost use Rattle.parse.specs.Parse.{text_limit};
 
+use crate::here::Here;
 use crate::laying::lay;
 use machine::parents::{container_at, parent_of, resumed};
 use machine::{Machine, Refusal, State, Turn, is_key};
@@ -16,15 +17,14 @@ use tape::{token, words};
 
 // `{` where a value is due: adds an Array, whose kind is settled in ParseOpen.
 #[tactic(auto, unfolding(crate::specs::Containers::open_then))]
-pub(crate) fn open_then(tape: &mut [u32], m: Machine) -> Result<Turn, Refusal>
-    requires { m.at < text_limit }
-    ensures { after result tape.new ≡ open_then (view tape.old m.count) m }
+pub(crate) fn open_then(here: Here, tape: &mut [u32]) -> Result<Turn, Refusal>
+    ensures { after result tape.new ≡ open_then (view tape.old here.entry.m.count) here.entry.m }
 {
     lay(
         tape,
-        m,
+        here.m,
         token::opener(ContainerKind::Array, 0, false),
-        m.at + 1,
+        here.m.at + 1,
         State::ParseOpen,
     )
 }
@@ -46,14 +46,14 @@ pub(crate) fn close_at(
 // Closes the container that the machine is in, as a kind with the flag in force, and takes up its parent.
 #[tactic(auto, unfolding(crate::specs::Containers::close, crate::specs::Containers::close_at))]
 pub(crate) fn close(
+    here: Here,
     tape: &mut [u32],
-    m: Machine,
     kind: ContainerKind,
     grand: u32,
 ) -> Result<Turn, Refusal>
-    requires { m.at < text_limit }
-    ensures { after result tape.new ≡ close kind grand (view tape.old m.count) m }
+    ensures { after result tape.new ≡ close kind grand (view tape.old here.entry.m.count) here.entry.m }
 {
+    let m = here.m;
     let up = container_at(tape, m.count, grand);
     let count = close_at(tape, m.count, m.parent, kind, m.mixed).ok_or(Refusal::Full)?;
     Ok(Turn::Next(resumed(up, grand, m.at + 1, count)))

@@ -1,21 +1,24 @@
 // The text tape parser: from save text to tokens on a lent tape.
 #![tactic(auto)]
 
-ghost use Rattle.std.specs.Prelude.{◌≡◌, ◌≤◌, length};
+ghost use Rattle.std.specs.Prelude.{◌≡◌, ◌<◌, length};
 ghost use Rattle.tape.specs.Tape.{view};
 ghost use Rattle.parse.specs.After.{after, next};
 ghost use Rattle.parse.specs.Step.{stepped};
 ghost use Rattle.machine.specs.Finish.{outcome};
 ghost use Rattle.parse.specs.Parse.{text_limit, state_turn, turn, run, ending, enough, parse_of};
-ghost use Rattle.parse.specs.Here.{Here, Lent, LentHere};
+ghost use Rattle.parse.specs.Here.{from_here, stepped_here};
 
+use crate::here::Here;
 use crate::step::Step;
+use crate::text::Text;
 use machine::finish::{finish, refuse};
 use machine::start::{has_bom, start};
 use machine::{Machine, Parsed, Refusal, State, Turn, mixed_on};
 
 mod array_value;
 mod containers;
+mod here;
 mod key;
 mod laying;
 mod object_value;
@@ -23,70 +26,76 @@ mod parameter;
 mod parse_open;
 mod scalars;
 mod separator;
+mod span;
 mod step;
+mod text;
 
 // A text of more bytes than this is too long.
 pub const TEXT_LIMIT: usize = 16777215;
 
 // What the machine's state makes of a byte that is no blank.
-fn state_step(text: &[u8], tape: &mut [u32], m: Machine) -> Step
-    requires { Here text.now m }
-    ensures { stepped text.now result tape.new m ≡ state_turn text.now (view tape.old m.count) m }
+#[tactic(auto, unfolding(crate::specs::Parse::state_turn))]
+fn state_step(here: Here, tape: &mut [u32]) -> Step
+    ensures { stepped_here result here.entry tape.new ≡ from_here state_turn here.entry tape.old }
 {
-    match m.state {
-        State::Key => key::key_turn(text, tape, m),
-        State::KeyValueSeparator => Step::Turned(separator::separator_turn(text, tape, m)),
-        State::ObjectValue => object_value::object_value_turn(text, tape, m),
-        State::ParseOpen => parse_open::parse_open_turn(text, tape, m),
-        State::ArrayValue => array_value::array_value_turn(text, tape, m),
+    match here.m.state {
+        State::Key => key::key_turn(here, tape),
+        State::KeyValueSeparator => Step::Turned(separator::separator_turn(here, tape)),
+        State::ObjectValue => object_value::object_value_turn(here, tape),
+        State::ParseOpen => parse_open::parse_open_turn(here, tape),
+        State::ArrayValue => array_value::array_value_turn(here, tape),
     }
 }
 
 // A turn of the machine's state, at a byte that is no blank.
-fn state_turn(
-    text: &[u8],
-    table: &[u8; data::BYTE_COUNT],
-    tape: &mut [u32],
-    m: Machine,
-) -> Result<Turn, Refusal>
-    requires { LentHere text.now table.now m }
-    ensures { after result tape.new ≡ state_turn text.now (view tape.old m.count) m }
+fn state_turn(here: Here, tape: &mut [u32]) -> Result<Turn, Refusal>
+    ensures { after result tape.new ≡ from_here state_turn here.entry tape.old }
 {
-    match state_step(text, tape, m) {
+    match state_step(here, tape) {
         Step::Turned(turned) => turned,
-        Step::Scalar(state) => step::entry(text, tape, m, state),
-        Step::Operator(count) => array_value::operator_then(text, tape, mixed_on(m, count)),
-        Step::Parameter(parent) => parameter::parameter(text, table, tape, m.within(parent)),
+        Step::Scalar(state) => step::entry(here, tape, state),
+        Step::Operator(count) => array_value::operator_then(
+            Here {
+                text: here.text,
+                m: mixed_on(here.m, count),
+            },
+            tape,
+        ),
+        Step::Parameter(parent) => parameter::parameter(
+            Here {
+                text: here.text,
+                m: here.m.within(parent),
+            },
+            tape,
+        ),
     }
 }
 
 // A turn: skips blanks, and then the state decides.
-#[tactic(auto, unfolding(crate::specs::Parse::turn))]
-fn turn(
-    text: &[u8],
-    table: &[u8; data::BYTE_COUNT],
-    tape: &mut [u32],
-    m: Machine,
-) -> Result<Turn, Refusal>
-    requires { Lent text.now table.now }
-    ensures { after result tape.new ≡ turn text.now (view tape.old m.count) m }
+#[tactic(auto, using(crate::proofs::Bounds::skip_within), unfolding(crate::specs::Parse::turn))]
+fn turn(text: Text, tape: &mut [u32], m: Machine) -> Result<Turn, Refusal>
+    ensures { after result tape.new ≡ turn text.entry.bytes.now (view tape.old m.count) m }
 {
-    match cut::skip_ws_t(text, m.at) {
-        Some(p) => state_turn(text, table, tape, m.to(p, m.state, m.count)),
+    match cut::skip_ws_t(text.bytes, m.at) {
+        Some(p) => state_turn(
+            Here {
+                text,
+                m: m.to(p, m.state, m.count),
+            },
+            tape,
+        ),
         None => containers::text_end(tape, m),
     }
 }
 
 // Turns until the text is done or refused.
-fn run(text: &[u8], tape: &mut [u32], from: Machine) -> Result<u32, Refusal>
-    requires { length text.now ≤ text_limit }
+fn run(text: Text, tape: &mut [u32], from: Machine) -> Result<u32, Refusal>
     ensures { ending result tape.new
-        ≡ run text.now (enough text.now) (next from (view tape.old from.count)) }
+        ≡ run text.entry.bytes.now (enough text.entry.bytes.now) (next from (view tape.old from.count)) }
 {
-    let table = data::character_class();
     let mut m = from;
     loop {
-        match turn(text, &table, tape, m)? {
+        match turn(text, tape, m)? {
             Turn::Next(after) => m = separator::past_equals(text, after),
             Turn::Done(count) => return Ok(count),
         }
@@ -95,6 +104,7 @@ fn run(text: &[u8], tape: &mut [u32], from: Machine) -> Result<u32, Refusal>
 
 // Parses a text onto a lent tape, whose old contents never matter: on success the tokens stand at its front with zeros
 // behind them, and a refusal leaves it zero.
+#[tactic(auto, using(crate::proofs::Outcomes::parse_too_long, crate::proofs::Outcomes::parse_runs, crate::proofs::Outcomes::finish_answers))]
 pub fn parse(text: &[u8], tape: &mut [u32]) -> Result<Parsed, Refusal>
     ensures { outcome result tape.new ≡ parse_of text.now (length tape.old) }
 {
@@ -102,6 +112,11 @@ pub fn parse(text: &[u8], tape: &mut [u32]) -> Result<Parsed, Refusal>
         return refuse(tape, Refusal::TooLong);
     }
     let bom = has_bom(text);
+    let table = data::character_class();
+    let text = Text {
+        bytes: text,
+        table: &table,
+    };
     let ending = run(text, tape, start(bom));
     finish(tape, ending, bom)
 }

@@ -1,27 +1,28 @@
 // A turn in ObjectValue.
-ghost use Rattle.std.specs.Prelude.{◌≡◌};
+ghost use Rattle.std.specs.Prelude.{◌≡◌, ◌<◌, length};
 ghost use Rattle.tape.specs.Tape.{view};
 ghost use Rattle.parse.specs.ObjectValue.{object_value_turn};
 ghost use Rattle.parse.specs.Step.{stepped};
-ghost use Rattle.parse.specs.Here.{Here};
+ghost use Rattle.parse.specs.Here.{from_here, stepped_here};
 
 use crate::containers::open_then;
+use crate::here::Here;
 use crate::step::Step;
-use machine::{Machine, Refusal, State, Turn, byte_at};
+use crate::text::Text;
+use machine::{Machine, Refusal, State, Turn};
 
 // A turn in ObjectValue, at a byte that is no blank.
 #[tactic(auto, unfolding(crate::specs::ObjectValue::object_value_turn, crate::specs::Step::entry))]
-pub(crate) fn object_value_turn(text: &[u8], tape: &mut [u32], m: Machine) -> Step
-    requires { Here text.now m }
-    ensures { stepped text.now result tape.new m
-        ≡ object_value_turn text.now (view tape.old m.count) m }
+pub(crate) fn object_value_turn(here: Here, tape: &mut [u32]) -> Step
+    ensures { stepped_here result here.entry tape.new
+        ≡ from_here object_value_turn here.entry tape.old }
 {
-    let b = byte_at(text, m.at);
+    let b = here.byte();
     if b == b'{' {
-        return Step::Turned(open_then(tape, m));
+        return Step::Turned(open_then(here, tape));
     }
     if b == b'}' {
-        return Step::Turned(Err(Refusal::NoValue(m.at)));
+        return Step::Turned(Err(Refusal::NoValue(here.m.at)));
     }
     Step::Scalar(State::Key)
 }

@@ -1,132 +1,117 @@
 // A parameter: `[[name] value ]`, or `[[name] key ..`, which opens an Object.
 ghost use Rattle.std.specs.Prelude.{◌≡◌, ◌≤◌, ◌<◌, length};
-ghost use Rattle.data.specs.Classes.{classes};
 ghost use Rattle.cut.specs.Runs.{run_end};
 ghost use Rattle.tape.specs.Tape.{view};
 ghost use Rattle.parse.specs.After.{after};
 ghost use Rattle.parse.specs.Parameter.{parameter_object, value_or_object, parameter_value, parameter_named, parameter_name};
 ghost use Rattle.parse.specs.Parameter.{name_kind, name_start, parameter};
 ghost use Rattle.parse.specs.Parse.{text_limit};
-ghost use Rattle.parse.specs.Here.{Lent, LentHere};
+ghost use Rattle.parse.specs.Here.{from_here};
 
+use crate::here::Here;
 use crate::laying::lay;
 use crate::scalars::viewed;
+use crate::span::Span;
+use crate::text::Text;
 use machine::{Machine, Refusal, State, Turn, byte_at};
 use tape::token::{ContainerKind, ScalarKind};
 use tape::{token, words};
 
-// Opens an Object whose first key is the run from start to end.
+// Opens an Object whose first key is a run.
 #[tactic(auto, unfolding(crate::specs::Parameter::parameter_object, crate::specs::After::lay_then))]
-fn parameter_object(
-    tape: &mut [u32],
-    m: Machine,
-    start: usize,
-    end: usize,
-    rest: usize,
-) -> Result<Turn, Refusal>
-    requires { (start ≤ end) × (end ≤ text_limit) }
-    ensures { after result tape.new ≡ parameter_object start end rest (view tape.old m.count) m }
+fn parameter_object(tape: &mut [u32], m: Machine, run: Span, rest: usize) -> Result<Turn, Refusal>
+    ensures { after result tape.new ≡ parameter_object run.start run.end rest (view tape.old m.count) m }
 {
     let opener = token::opener(ContainerKind::Object, m.parent, false);
     let count = words::push(tape, m.count, opener).ok_or(Refusal::Full)?;
     lay(
         tape,
         m.to(rest, State::KeyValueSeparator, count).within(m.count),
-        viewed(ScalarKind::Unquoted, start, end),
+        viewed(ScalarKind::Unquoted, run),
         rest,
         State::KeyValueSeparator,
     )
 }
 
-// What the byte after the run from start to end says that the run is.
+// What the byte after a run says that the run is.
 #[tactic(auto, unfolding(crate::specs::Parameter::value_or_object))]
 fn value_or_object(
-    text: &[u8],
+    text: Text,
     tape: &mut [u32],
     m: Machine,
-    start: usize,
-    end: usize,
+    run: Span,
     rest: usize,
 ) -> Result<Turn, Refusal>
-    requires { (start ≤ end) × (end ≤ text_limit) × (rest ≤ text_limit) }
-    ensures { after result tape.new ≡ value_or_object text.now start end rest (view tape.old m.count) m }
+    requires { rest ≤ text_limit }
+    ensures { after result tape.new ≡ value_or_object text.entry.bytes.now run.start run.end rest (view tape.old m.count) m }
 {
-    if byte_at(text, rest) == b']' {
+    if byte_at(text.bytes, rest) == b']' {
         return lay(
             tape,
             m,
-            viewed(ScalarKind::Unquoted, start, end),
+            viewed(ScalarKind::Unquoted, run),
             rest + 1,
             State::Key,
         );
     }
-    parameter_object(tape, m, start, end, rest)
+    parameter_object(tape, m, run, rest)
 }
 
-// The place after the run that starts at a place: the cut is handed the text's later part, and the place is added back.
-fn run_from(text: &[u8], table: &[u8; data::BYTE_COUNT], start: usize) -> usize
-    requires { (table.now ≡ classes) × (start < length text.now) }
-    ensures { result ≡ run_end text.now start }
+// The run that starts at a place: the cut is handed the text's later part, and the place is added back.
+#[tactic(auto, using(crate::proofs::Tables::run_end_lent, crate::proofs::Tables::run_end_fits))]
+fn run_from(text: Text, start: usize) -> Span
+    requires { start < length text.bytes.now }
+    ensures { (result.start ≡ start) × (result.end ≡ run_end text.entry.bytes.now start) }
 {
-    start + cut::split_at_scalar(&text[start..], table)
+    let end = start + cut::split_at_scalar(&text.bytes[start..], text.table);
+    Span { start, end }
 }
 
 // The run after a parameter's name: its value, or the first key of its Object.
-#[tactic(auto, unfolding(crate::specs::Parameter::parameter_value))]
-fn parameter_value(
-    text: &[u8],
-    table: &[u8; data::BYTE_COUNT],
-    tape: &mut [u32],
-    m: Machine,
-) -> Result<Turn, Refusal>
-    requires { Lent text.now table.now }
-    ensures { after result tape.new ≡ parameter_value text.now (view tape.old m.count) m }
+#[tactic(auto, using(crate::proofs::Bounds::skip_within), unfolding(crate::specs::Parameter::parameter_value))]
+fn parameter_value(text: Text, tape: &mut [u32], m: Machine) -> Result<Turn, Refusal>
+    ensures { after result tape.new ≡ parameter_value text.entry.bytes.now (view tape.old m.count) m }
 {
-    let start = cut::skip_ws_t(text, m.at).ok_or(Refusal::Eof)?;
-    let end = run_from(text, table, start);
-    let rest = cut::skip_ws_t(text, end).ok_or(Refusal::Eof)?;
-    value_or_object(text, tape, m, start, end, rest)
+    let start = cut::skip_ws_t(text.bytes, m.at).ok_or(Refusal::Eof)?;
+    let run = run_from(text, start);
+    let rest = cut::skip_ws_t(text.bytes, run.end).ok_or(Refusal::Eof)?;
+    value_or_object(text, tape, m, run, rest)
 }
 
-// Adds the name from start to end, which `]` must end.
+// Adds a name, which `]` must end.
 #[tactic(auto, unfolding(crate::specs::Parameter::parameter_named, crate::specs::After::lay_then))]
 fn parameter_named(
-    text: &[u8],
-    table: &[u8; data::BYTE_COUNT],
+    text: Text,
     tape: &mut [u32],
     m: Machine,
     kind: ScalarKind,
-    start: usize,
-    end: usize,
+    name: Span,
 ) -> Result<Turn, Refusal>
-    requires { (length text.now ≤ text_limit) × (table.now ≡ classes) × (start ≤ end) × (end ≤ length text.now) }
-    ensures { after result tape.new ≡ parameter_named text.now kind start end (view tape.old m.count) m }
+    ensures { after result tape.new ≡ parameter_named text.entry.bytes.now kind name.start name.end (view tape.old m.count) m }
 {
-    if byte_at(text, end) != b']' {
-        return Err(Refusal::OpenName(end));
+    if byte_at(text.bytes, name.end) != b']' {
+        return Err(Refusal::OpenName(name.end));
     }
-    let count = words::push(tape, m.count, viewed(kind, start, end)).ok_or(Refusal::Full)?;
-    parameter_value(text, table, tape, m.to(end + 1, State::Key, count))
+    let count = words::push(tape, m.count, viewed(kind, name)).ok_or(Refusal::Full)?;
+    parameter_value(text, tape, m.to(name.end + 1, State::Key, count))
 }
 
 // Reads a name that starts at a place.
 #[tactic(auto, unfolding(crate::specs::Parameter::parameter_name))]
 fn parameter_name(
-    text: &[u8],
-    table: &[u8; data::BYTE_COUNT],
+    text: Text,
     tape: &mut [u32],
     m: Machine,
     kind: ScalarKind,
     start: usize,
 ) -> Result<Turn, Refusal>
-    requires { Lent text.now table.now }
-    ensures { after result tape.new ≡ parameter_name text.now kind start (view tape.old m.count) m }
+    ensures { after result tape.new ≡ parameter_name text.entry.bytes.now kind start (view tape.old m.count) m }
 {
-    if text.len() <= start {
+    if text.bytes.len() <= start {
         return Err(Refusal::Eof);
     }
-    let end = run_from(text, table, start);
-    parameter_named(text, table, tape, m, kind, start, end)
+    let name = run_from(text, start);
+    parameter_named(text, tape, m, kind, name)
 }
 
 // The kind of a name, by whether `!` stands before it. It and the place are told first, so that one call reads the name.
@@ -151,26 +136,19 @@ fn name_start(at: usize, undefined: bool) -> usize
 }
 
 // `[[` or `[[!` at the machine's place, with what follows it.
-#[tactic(auto, unfolding(crate::specs::Parameter::parameter))]
-pub(crate) fn parameter(
-    text: &[u8],
-    table: &[u8; data::BYTE_COUNT],
-    tape: &mut [u32],
-    m: Machine,
-) -> Result<Turn, Refusal>
-    requires { LentHere text.now table.now m }
-    ensures { after result tape.new ≡ parameter text.now (view tape.old m.count) m }
+#[tactic(auto, using(crate::proofs::Steps::parameter_read), unfolding(crate::specs::Parameter::parameter))]
+pub(crate) fn parameter(here: Here, tape: &mut [u32]) -> Result<Turn, Refusal>
+    ensures { after result tape.new ≡ from_here parameter here.entry tape.old }
 {
-    let at = m.at;
-    if byte_at(text, at + 1) != b'[' {
+    let at = here.m.at;
+    if byte_at(here.text.bytes, at + 1) != b'[' {
         return Err(Refusal::NoParameter(at));
     }
-    let undefined = byte_at(text, at + 2) == b'!';
+    let undefined = byte_at(here.text.bytes, at + 2) == b'!';
     parameter_name(
-        text,
-        table,
+        here.text,
         tape,
-        m,
+        here.m,
         name_kind(undefined),
         name_start(at, undefined),
     )

@@ -7,8 +7,10 @@ ghost use Rattle.parse.specs.After.{after};
 ghost use Rattle.parse.specs.Step.{entered, entry};
 ghost use Rattle.parse.specs.Parse.{text_limit};
 
+use crate::here::Here;
 use crate::parse_open::{flag_parent, open_as};
 use crate::scalars::{Scalar, scalar_at};
+use crate::text::Text;
 use machine::{Machine, Refusal, State, Turn, is_parse_open};
 use tape::words;
 
@@ -25,8 +27,8 @@ pub enum Step {
 // After a scalar: in ParseOpen it is the container's first entry, and the byte behind it decides. Else the machine goes on as it is, made
 // anew field by field, since a copy of the whole would go through memory.
 #[tactic(auto, unfolding(crate::specs::Step::entered))]
-fn entered(text: &[u8], tape: &mut [u32], m: Machine) -> Result<Turn, Refusal>
-    ensures { after result tape.new ≡ entered text.now (view tape.old m.count) m }
+fn entered(text: Text, tape: &mut [u32], m: Machine) -> Result<Turn, Refusal>
+    ensures { after result tape.new ≡ entered text.entry.bytes.now (view tape.old m.count) m }
 {
     if !is_parse_open(m.state) {
         return Ok(Turn::Next(m.to(m.at, m.state, m.count)));
@@ -37,16 +39,11 @@ fn entered(text: &[u8], tape: &mut [u32], m: Machine) -> Result<Turn, Refusal>
 
 // Takes the scalar that is due, and goes on past it in a state.
 #[tactic(auto, using(crate::proofs::Steps::entry_taken))]
-pub(crate) fn entry(
-    text: &[u8],
-    tape: &mut [u32],
-    m: Machine,
-    state: State,
-) -> Result<Turn, Refusal>
-    requires { length text.now ≤ text_limit }
-    ensures { after result tape.new ≡ entry text.now state (view tape.old m.count) m }
+pub(crate) fn entry(here: Here, tape: &mut [u32], state: State) -> Result<Turn, Refusal>
+    ensures { after result tape.new ≡ entry here.entry.text.bytes.now state (view tape.old here.entry.m.count) here.entry.m }
 {
-    let Scalar { token, rest } = scalar_at(text, m.at).ok_or(Refusal::Eof)?;
+    let m = here.m;
+    let Scalar { token, rest } = scalar_at(here.text, m.at).ok_or(Refusal::Eof)?;
     let count = words::push(tape, m.count, token).ok_or(Refusal::Full)?;
-    entered(text, tape, m.to(rest, state, count))
+    entered(here.text, tape, m.to(rest, state, count))
 }

@@ -17,11 +17,11 @@ use Rattle.data.specs.Bytes.{plus, minus}
 use Rattle.data.specs.Reasons.{first_of}
 use Rattle.scalar.specs.Digits.{is_digit, digit_first, digit_run, value}
 use Rattle.scalar.specs.Float.{rest}
-use Rattle.scalar.specs.Numbers.{answered, scalar_refusal}
+use Rattle.scalar.specs.Numbers.{answered, whole_refusal_of}
 use Rattle.scalar.specs.Whole.{most_i64, signed, i64_digits, i64_part, i64_number, i64_rest, i64_read}
 use Rattle.std.specs.Prelude.{Result, Ok, Err}
-use Rattle.scalar.specs.declared.errors.ScalarError.TheVariants.{AllDigits, Overflow}
-use Rattle.scalar.specs.declared.errors.ScalarError.{ScalarError}
+use Rattle.scalar.specs.declared.errors.WholeError.TheVariants.{AllDigits, Overflow}
+use Rattle.scalar.specs.declared.errors.WholeError.{WholeError}
 use Rattle.scalar.proofs.Rests.{rest-digit, rest-other, run_alone, rest_plain}
 use Rattle.scalar.proofs.Runs.{run-digit, run-other, run_length}
 use Rattle.scalar.proofs.Wholes.{i64-none, i64-minus, i64-plus, i64-bare, i64-other, i64-is, by_size}
@@ -137,15 +137,15 @@ module _ (d : List ℕ) where
   whole-refused e f g = sym (λ j. first_number (whole_reasons (e j) (f j) (g j)))
 
   -- a refusal: no rest is told, and the reading as a whole is the number's
-  refused : (why : Result ℤ ScalarError) → i64_number d ≡ why → i64_rest d ≡ [] → i64_read d ≡ why → (scalar_refusal why ≡ answered → ⊥)
-      → scalar_refusal why ≡ first_number (number_reasons (no_number d) (too_large d))
-      → scalar_refusal why ≡ first_number (whole_reasons (no_number d) (too_large d) (left_over d))
+  refused : (why : Result ℤ WholeError) → i64_number d ≡ why → i64_rest d ≡ [] → i64_read d ≡ why → (whole_refusal_of why ≡ answered → ⊥)
+      → whole_refusal_of why ≡ first_number (number_reasons (no_number d) (too_large d))
+      → whole_refusal_of why ≡ first_number (whole_reasons (no_number d) (too_large d) (left_over d))
       → Leading d
   refused why number left whole h e f = record {
-    number_refusal = ap scalar_refusal number ∙ e;
-    whole_refusal = ap scalar_refusal whole ∙ f;
-    number = λ a. absurd (h (sym (ap scalar_refusal number) ∙ a));
-    rest_of = λ a. absurd (h (sym (ap scalar_refusal number) ∙ a));
+    number_refusal = ap whole_refusal_of number ∙ e;
+    whole_refusal = ap whole_refusal_of whole ∙ f;
+    number = λ a. absurd (h (sym (ap whole_refusal_of number) ∙ a));
+    rest_of = λ a. absurd (h (sym (ap whole_refusal_of number) ∙ a));
     no_rest = λ a. left;
     whole = whole ∙ sym (λ j. whole_of (number j) (left j));
   }
@@ -181,17 +181,17 @@ module _ (d : List ℕ) where
   unfolding first_of
   within b part small = go (after_digits d) refl
     where
-      answers : (whole : Result ℤ ScalarError) → i64_read d ≡ whole → whole ≡ whole_of (Ok number) (after_digits d)
-          → scalar_refusal whole ≡ first_number (whole_reasons (no_number d) (too_large d) (left_over d)) → Leading d
+      answers : (whole : Result ℤ WholeError) → i64_read d ≡ whole → whole ≡ whole_of (Ok number) (after_digits d)
+          → whole_refusal_of whole ≡ first_number (whole_reasons (no_number d) (too_large d) (left_over d)) → Leading d
       answers whole read only e =
           let told = number_told d _ part in
           let left = rest-told d _ part ∙ after_both in
           record {
-            number_refusal = ap scalar_refusal told ∙ number-refused b.starts small;
-            whole_refusal = ap scalar_refusal read ∙ e;
+            number_refusal = ap whole_refusal_of told ∙ number-refused b.starts small;
+            whole_refusal = ap whole_refusal_of read ∙ e;
             number = λ a. ap (λ r. result_unwrap_or r (pos 0)) told;
             rest_of = λ a. left;
-            no_rest = λ h. absurd (h (ap scalar_refusal told));
+            no_rest = λ h. absurd (h (ap whole_refusal_of told));
             whole = read ∙ only ∙ sym (λ j. whole_of (told j) (left j));
           }
 

@@ -17,13 +17,17 @@ use Rattle.scalar.specs.Digits.{is_digit, digit_run, value}
 use Rattle.scalar.specs.Float.{tail_of, f64_read}
 use Rattle.scalar.specs.Kind.{kind_above, kind_by_size, kind_of_digits, kind_unpointed, some_digit, kind_pointed, kind_after_point, kind_after_sign}
 use Rattle.scalar.specs.Kind.{number_or_name, kind_of}
-use Rattle.scalar.specs.Numbers.{answered, precision_loss, error_number_of, scalar_refusal}
+use Rattle.scalar.specs.Numbers.{answered, precision_loss, bool_error_number, whole_error_number, bool_refusal_of, whole_refusal_of, f64_refusal_of}
 use Rattle.scalar.specs.Numbers.{kind_bool, kind_whole, kind_decimal, kind_name, kind_number_of}
 use Rattle.scalar.specs.Truth.{yes, no, same, bool_read}
 use Rattle.scalar.specs.Whole.{i64_part, i64_read}
 use Rattle.std.specs.Prelude.{Float, ℤ, Result, Ok, Err}
-use Rattle.scalar.specs.declared.errors.ScalarError.TheVariants.{AllDigits, Overflow, InvalidBool, PrecisionLoss}
-use Rattle.scalar.specs.declared.errors.ScalarError.{ScalarError}
+use Rattle.scalar.specs.declared.errors.BoolError.TheVariants.{InvalidBool}
+use Rattle.scalar.specs.declared.errors.BoolError.{BoolError}
+use Rattle.scalar.specs.declared.errors.DecimalError.TheVariants as Decimal
+use Rattle.scalar.specs.declared.errors.DecimalError.{DecimalError}
+use Rattle.scalar.specs.declared.errors.WholeError.TheVariants.{AllDigits, Overflow}
+use Rattle.scalar.specs.declared.errors.WholeError.{WholeError}
 use Rattle.scalar.proofs.Forms.{truth, no_truth}
 use Rattle.promises.specs.Cases.{bytes}
 use Rattle.promises.specs.ReadingKinds.{kind_by_f64, kind_by_i64, kind_by_bool, kind_by_readings, old_number, new_number, is_number, bool_answers}
@@ -45,43 +49,43 @@ abbrev by_form : Bool → Bool → Bool → Bool → ℕ
 by_form t n a f = elim t [ true ↦ kind_bool | false ↦ elim n [ true ↦ kind_name | false ↦ by_readings false a f ] ]
 
 -- a refusal is no answer
-refused : (e : ScalarError) → eqb (error_number_of e) answered ≡ false
-refused AllDigits = refl
-refused Overflow = refl
-refused InvalidBool = refl
-refused (PrecisionLoss x) = refl
+no_truth-refused : (e : BoolError) → eqb (bool_error_number e) answered ≡ false
+no_truth-refused InvalidBool = refl
+
+no_whole-refused : (e : WholeError) → eqb (whole_error_number e) answered ≡ false
+no_whole-refused AllDigits = refl
+no_whole-refused Overflow = refl
 
 -- whether an f64 answers or gives 24
-abbrev counts : Result Float ScalarError → Bool
-counts x = eqb (scalar_refusal x) answered || eqb (scalar_refusal x) precision_loss
+abbrev counts : Result Float DecimalError → Bool
+counts x = eqb (f64_refusal_of x) answered || eqb (f64_refusal_of x) precision_loss
 
-by_f64 : (x : Result Float ScalarError) → kind_number_of (kind_by_f64 x) ≡ by_readings false false (counts x)
+by_f64 : (x : Result Float DecimalError) → kind_number_of (kind_by_f64 x) ≡ by_readings false false (counts x)
 by_f64 (Ok x) = refl
-by_f64 (Err (PrecisionLoss x)) = refl
-by_f64 (Err AllDigits) = refl
-by_f64 (Err Overflow) = refl
-by_f64 (Err InvalidBool) = refl
+by_f64 (Err (Decimal.PrecisionLoss x)) = refl
+by_f64 (Err Decimal.AllDigits) = refl
+by_f64 (Err Decimal.Overflow) = refl
 
-by-i64 : (x : Result Float ScalarError) (w : Result ℤ ScalarError) → kind_number_of (kind_by_i64 x w) ≡ by_readings false (eqb (scalar_refusal w) answered) (counts x)
+by-i64 : (x : Result Float DecimalError) (w : Result ℤ WholeError) → kind_number_of (kind_by_i64 x w) ≡ by_readings false (eqb (whole_refusal_of w) answered) (counts x)
 by-i64 x (Ok n) = refl
-by-i64 x (Err e) = by_f64 x ∙ sym (ap (λ (a : Bool). by_readings false a (counts x)) (refused e))
+by-i64 x (Err e) = by_f64 x ∙ sym (ap (λ (a : Bool). by_readings false a (counts x)) (no_whole-refused e))
 
-by-bool_read : (x : Result Float ScalarError) (w : Result ℤ ScalarError) (r : Result Bool ScalarError)
-    → kind_number_of (kind_by_bool x w r) ≡ by_readings (eqb (scalar_refusal r) answered) (eqb (scalar_refusal w) answered) (counts x)
+by-bool_read : (x : Result Float DecimalError) (w : Result ℤ WholeError) (r : Result Bool BoolError)
+    → kind_number_of (kind_by_bool x w r) ≡ by_readings (eqb (bool_refusal_of r) answered) (eqb (whole_refusal_of w) answered) (counts x)
 by-bool_read x w (Ok b) = refl
 by-bool_read x w (Err e) =
-    by-i64 x w ∙ sym (ap (λ (t : Bool). by_readings t (eqb (scalar_refusal w) answered) (counts x)) (refused e))
+    by-i64 x w ∙ sym (ap (λ (t : Bool). by_readings t (eqb (whole_refusal_of w) answered) (counts x)) (no_truth-refused e))
 
 old_is : (d : List ℕ) → old_number d ≡ by_readings (bool_answers d) (i64_answers d) (f64_counts d)
 unfolding kind_by_readings
 old_is d = by-bool_read (f64_read d) (i64_read d) (bool_read d)
 
-by_truth : {P : Type 0} (r : Result Bool ScalarError) → ((b : Bool) → r ≡ Ok b → P) → ((e : ScalarError) → r ≡ Err e → P) → P
+by_truth : {P : Type 0} (r : Result Bool BoolError) → ((b : Bool) → r ≡ Ok b → P) → ((e : BoolError) → r ≡ Err e → P) → P
 by_truth (Ok b) is none = is b refl
 by_truth (Err e) is none = none e refl
 
-by-unless : (n : Bool) (x : Result Float ScalarError) (w : Result ℤ ScalarError)
-    → kind_number_of (unless n (kind_by_i64 x w)) ≡ by_form false n (eqb (scalar_refusal w) answered) (counts x)
+by-unless : (n : Bool) (x : Result Float DecimalError) (w : Result ℤ WholeError)
+    → kind_number_of (unless n (kind_by_i64 x w)) ≡ by_form false n (eqb (whole_refusal_of w) answered) (counts x)
 by-unless true x w = refl
 by-unless false x w = by-i64 x w
 
@@ -89,10 +93,10 @@ new_is : (d : List ℕ) → new_number d ≡ by_form (bool_answers d) (no_number
 new_is d =
     by_truth (bool_read d)
     (λ b e. ap kind_number_of (truth d b e) ∙ sym (ap form e))
-    (λ why e. ap kind_number_of (no_truth d why e ∙ now-is d (start d)) ∙ by-unless (no_number d) (f64_read d) (i64_read d) ∙ sym (ap form e ∙ ap (λ (t : Bool). by_form t (no_number d) (i64_answers d) (f64_counts d)) (refused why)))
+    (λ why e. ap kind_number_of (no_truth d why e ∙ now-is d (start d)) ∙ by-unless (no_number d) (f64_read d) (i64_read d) ∙ sym (ap form e ∙ ap (λ (t : Bool). by_form t (no_number d) (i64_answers d) (f64_counts d)) (no_truth-refused why)))
   where
-    form : Result Bool ScalarError → ℕ
-    form r = by_form (eqb (scalar_refusal r) answered) (no_number d) (i64_answers d) (f64_counts d)
+    form : Result Bool BoolError → ℕ
+    form r = by_form (eqb (bool_refusal_of r) answered) (no_number d) (i64_answers d) (f64_counts d)
 
 -- ---- neither of the two words is a number
 

@@ -33,7 +33,9 @@ use Rattle.scalar.proofs.to_f64.Reads as to_f64
 use Rattle.scalar.proofs.kind.Reads as kind
 use Rattle.scalar.proofs.magnitude.Reads as magnitude
 use Rattle.scalar.proofs.pattern.Reads as pattern
-use Rattle.scalar.proofs.errors.ScalarErrorNumbered.number.Reads as scalar_error_number
+use Rattle.scalar.proofs.errors.BoolErrorNumbered.number.Reads as bool_error_number
+use Rattle.scalar.proofs.errors.DecimalErrorNumbered.number.Reads as decimal_error_number
+use Rattle.scalar.proofs.errors.WholeErrorNumbered.number.Reads as whole_error_number
 use Rattle.scalar.proofs.refusal.Reads as refusal_told
 use Rattle.scalar.specs.declared.errors.Numbered.{Ghosts}
 use denote.RattleType.{RattleType}
@@ -111,8 +113,8 @@ use Rattle.packed.proofs.numbers.put_number.Reads as put-number
 use Rattle.packed.proofs.tokens.bytes_for.Reads as bytes_for
 use Rattle.packed.proofs.tokens.token_of.Reads as packed_token_of
 use Rattle.packed.proofs.tokens.pack.Reads as pack
-use Rattle.packed.proofs.source.token_of.Reads as source_token_of
-use Rattle.packed.proofs.source.holds.Reads as source_holds
+use Rattle.packed.proofs.source.Source.token.Reads as source_token_of
+use Rattle.packed.proofs.source.Source.holds.Reads as source_holds
 use Rattle.sheet.proofs.check.Reads as check
 use Rattle.sheet.proofs.check_packed.Reads as check_packed
 use Rattle.sheet.proofs.check_onto.Reads as check-onto
@@ -305,7 +307,9 @@ pub record Scalar : Type 0 where
   pub digits_at : OneResult digits_at.Post
   pub magnitude : OneResult magnitude.Post
   pub pattern : OneResult pattern.Post
-  pub scalar_error_number : OneResult scalar_error_number.Post
+  pub bool_error_number : OneResult bool_error_number.Post
+  pub whole_error_number : OneResult whole_error_number.Post
+  pub decimal_error_number : OneResult decimal_error_number.Post
   pub f64_value : OneResult f64_value.Post
   pub kind_number : OneResult kind_number.Post
 
@@ -322,7 +326,9 @@ scalar_calls =
       digits_at = by_definition _ _;
       magnitude = by_definition _ _;
       pattern = by_definition _ _;
-      scalar_error_number = by_definition _ _;
+      bool_error_number = by_definition _ _;
+      whole_error_number = by_definition _ _;
+      decimal_error_number = by_definition _ _;
       f64_value = by_definition _ _;
       kind_number = by_definition _ _;
     }

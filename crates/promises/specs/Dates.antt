@@ -5,7 +5,7 @@ use Prim.Native.String.{String}
 use Rattle.data.specs.Bytes.{point, digit_zero}
 use Rattle.data.specs.Reasons.{Reason, if_so}
 use Rattle.scalar.specs.Digits.{digit_first, value, digits_in}
-use Rattle.scalar.specs.Numbers.{answered, scalar_refusal}
+use Rattle.scalar.specs.Numbers.{answered, whole_refusal_of}
 use Rattle.scalar.specs.Whole.{i64_number, i64_rest}
 use Rattle.date.specs.Calendar.{date, month_days, together, months, year_days, days_in, most_year, in_range, Ranged, days_of, last_day, date_at}
 use Rattle.date.specs.Reading.{parts, is_part, all_parts, right_number, shaped, numbers, told_by, out_of_range, date_read}
@@ -146,7 +146,7 @@ pub record OnLeadingNumber (d : List ℕ) : Type 0 where
   pub end : (digits_in d 0).end + length (i64_rest d) ≡ length d
 
 abbrev pub OnLeadingNumbers : Type 0
-OnLeadingNumbers = (d : List ℕ) → digit_first d ≡ true → scalar_refusal (i64_number d) ≡ answered → OnLeadingNumber d
+OnLeadingNumbers = (d : List ℕ) → digit_first d ≡ true → whole_refusal_of (i64_number d) ≡ answered → OnLeadingNumber d
 
 -- ---- both sides of each edge: a scalar, its refusal, its date and its day count
 

@@ -7,11 +7,11 @@ use Rattle.data.specs.Bytes.{plus, minus}
 use Rattle.data.specs.Reasons.{Reason, if_so, first_of}
 use Rattle.scalar.specs.Digits.{digits_alone, digit_first, digit_run, value}
 use Rattle.scalar.specs.Float.{rest}
-use Rattle.scalar.specs.Numbers.{answered, all_digits, overflow, scalar_refusal}
+use Rattle.scalar.specs.Numbers.{answered, all_digits, overflow, whole_refusal_of}
 use Rattle.scalar.specs.Whole.{most_i64, signed, i64_number, i64_rest, i64_read}
 use Rattle.std.specs.Prelude.{Result, Ok, Err}
-use Rattle.scalar.specs.declared.errors.ScalarError.TheVariants.{AllDigits}
-use Rattle.scalar.specs.declared.errors.ScalarError.{ScalarError}
+use Rattle.scalar.specs.declared.errors.WholeError.TheVariants.{AllDigits}
+use Rattle.scalar.specs.declared.errors.WholeError.{WholeError}
 use Rattle.scalar.proofs.to_i64.Reads as whole-call
 use Rattle.scalar.proofs.to_i64_t.Reads as number-call
 use Rattle.scalar.proofs.to_i64_rest.Reads as rest-call
@@ -86,19 +86,19 @@ first_number rs = first_of (λ (n : ℕ). n) answered rs
 -- ---- what is promised
 
 -- what is read where nothing is left over of a scalar, and AllDigits where something is
-abbrev pub whole_of : Result ℤ ScalarError → List ℕ → Result ℤ ScalarError
+abbrev pub whole_of : Result ℤ WholeError → List ℕ → Result ℤ WholeError
 whole_of r [] = r
 whole_of r (b ∷ left) = Err AllDigits
 
 pub record Leading (d : List ℕ) : Type 0 where
   -- each refusal is the first reason's
-  pub number_refusal : scalar_refusal (i64_number d) ≡ first_number (number_reasons (no_number d) (too_large d))
-  pub whole_refusal : scalar_refusal (i64_read d) ≡ first_number (whole_reasons (no_number d) (too_large d) (left_over d))
+  pub number_refusal : whole_refusal_of (i64_number d) ≡ first_number (number_reasons (no_number d) (too_large d))
+  pub whole_refusal : whole_refusal_of (i64_read d) ≡ first_number (whole_reasons (no_number d) (too_large d) (left_over d))
   -- the number is the one that the digits write, under the sign, and the rest is what stands after them
-  pub number : scalar_refusal (i64_number d) ≡ answered → result_unwrap_or (i64_number d) (pos 0) ≡ signed (has_minus d) (value 0 (digits_of d))
-  pub rest_of : scalar_refusal (i64_number d) ≡ answered → i64_rest d ≡ after_digits d
+  pub number : whole_refusal_of (i64_number d) ≡ answered → result_unwrap_or (i64_number d) (pos 0) ≡ signed (has_minus d) (value 0 (digits_of d))
+  pub rest_of : whole_refusal_of (i64_number d) ≡ answered → i64_rest d ≡ after_digits d
   -- no rest is told after a refusal
-  pub no_rest : (scalar_refusal (i64_number d) ≡ answered → ⊥) → i64_rest d ≡ []
+  pub no_rest : (whole_refusal_of (i64_number d) ≡ answered → ⊥) → i64_rest d ≡ []
   -- the reading as a whole accepts only an empty rest
   pub whole : i64_read d ≡ whole_of (i64_number d) (i64_rest d)
 
@@ -109,8 +109,8 @@ LoneSign = (b : ℕ) (d : List ℕ) → is_sign b ≡ true → digit_first d ≡
 
 -- so what the three calls answer of one scalar, by their own contracts, belongs together
 abbrev pub CallsTogether : Type 0
-CallsTogether = (κs : _) (args : _) (whole : Result ℤ ScalarError) (xs : _) → whole-call.Post κs args whole xs
-    → (κt : _) (again : _) (number : Result ℤ ScalarError) (ys : _) → number-call.Post κt again number ys → again.0.now ≡ args.0.now
+CallsTogether = (κs : _) (args : _) (whole : Result ℤ WholeError) (xs : _) → whole-call.Post κs args whole xs
+    → (κt : _) (again : _) (number : Result ℤ WholeError) (ys : _) → number-call.Post κt again number ys → again.0.now ≡ args.0.now
     → (κu : _) (third : _) (left : _) (zs : _) → rest-call.Post κu third left zs → third.0.now ≡ args.0.now
     → whole ≡ whole_of number left.now
 
@@ -146,7 +146,7 @@ edges =
 
 -- what is told of a scalar
 abbrev pub told : List ℕ → ℕ × ℤ × List ℕ
-told d = (scalar_refusal (i64_number d), result_unwrap_or (i64_number d) (pos 0), i64_rest d)
+told d = (whole_refusal_of (i64_number d), result_unwrap_or (i64_number d) (pos 0), i64_rest d)
 
 -- what is promised: each line holds
 abbrev pub EdgesHold : Type 0

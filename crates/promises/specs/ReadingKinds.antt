@@ -7,13 +7,15 @@ use Rattle.data.specs.Bytes.{point, letter_f}
 use Rattle.scalar.specs.Digits.{is_digit}
 use Rattle.scalar.specs.Float.{f64_read}
 use Rattle.scalar.specs.Kind.{kind_of}
-use Rattle.scalar.specs.Numbers.{answered, precision_loss, scalar_refusal}
+use Rattle.scalar.specs.Numbers.{answered, precision_loss, bool_refusal_of, whole_refusal_of, f64_refusal_of}
 use Rattle.scalar.specs.Numbers.{kind_bool, kind_whole, kind_decimal, kind_name, kind_number_of}
 use Rattle.scalar.specs.Truth.{bool_read}
 use Rattle.scalar.specs.Whole.{i64_read}
 use Rattle.std.specs.Prelude.{Result, Ok, Err}
-use Rattle.scalar.specs.declared.errors.ScalarError.TheVariants.{AllDigits, Overflow, InvalidBool, PrecisionLoss}
-use Rattle.scalar.specs.declared.errors.ScalarError.{ScalarError}
+use Rattle.scalar.specs.declared.errors.BoolError.{BoolError}
+use Rattle.scalar.specs.declared.errors.DecimalError.TheVariants.{AllDigits, Overflow, PrecisionLoss}
+use Rattle.scalar.specs.declared.errors.DecimalError.{DecimalError}
+use Rattle.scalar.specs.declared.errors.WholeError.{WholeError}
 use Rattle.scalar.specs.declared.kinds.ReadingKind.TheVariants as Kind
 use Rattle.scalar.specs.declared.kinds.ReadingKind.{ReadingKind}
 use Rattle.promises.specs.Cases.{bytes}
@@ -21,20 +23,19 @@ use Rattle.promises.specs.Cases.{bytes}
 -- ---- document 01's kind
 
 -- a decimal where the f64 answers or loses precision, else a name
-abbrev pub kind_by_f64 : Result Float ScalarError → ReadingKind
+abbrev pub kind_by_f64 : Result Float DecimalError → ReadingKind
 kind_by_f64 (Ok x) = Kind.Decimal
 kind_by_f64 (Err (PrecisionLoss x)) = Kind.Decimal
 kind_by_f64 (Err AllDigits) = Kind.Name
 kind_by_f64 (Err Overflow) = Kind.Name
-kind_by_f64 (Err InvalidBool) = Kind.Name
 
 -- whole where the i64 answers
-abbrev pub kind_by_i64 : Result Float ScalarError → Result ℤ ScalarError → ReadingKind
+abbrev pub kind_by_i64 : Result Float DecimalError → Result ℤ WholeError → ReadingKind
 kind_by_i64 x (Ok n) = Kind.Whole
 kind_by_i64 x (Err e) = kind_by_f64 x
 
 -- a truth where it is `yes` or `no`
-abbrev pub kind_by_bool : Result Float ScalarError → Result ℤ ScalarError → Result Bool ScalarError → ReadingKind
+abbrev pub kind_by_bool : Result Float DecimalError → Result ℤ WholeError → Result Bool BoolError → ReadingKind
 kind_by_bool x w (Ok b) = Kind.Bool
 kind_by_bool x w (Err e) = kind_by_i64 x w
 
@@ -58,15 +59,15 @@ is_number k = eqb k kind_whole || eqb k kind_decimal
 
 -- whether yes or no is answered
 abbrev pub bool_answers : List ℕ → Bool
-bool_answers d = eqb (scalar_refusal (bool_read d)) answered
+bool_answers d = eqb (bool_refusal_of (bool_read d)) answered
 
 -- whether the i64 answers
 abbrev pub i64_answers : List ℕ → Bool
-i64_answers d = eqb (scalar_refusal (i64_read d)) answered
+i64_answers d = eqb (whole_refusal_of (i64_read d)) answered
 
 -- whether the f64 answers or gives 24
 abbrev pub f64_counts : List ℕ → Bool
-f64_counts d = eqb (scalar_refusal (f64_read d)) answered || eqb (scalar_refusal (f64_read d)) precision_loss
+f64_counts d = eqb (f64_refusal_of (f64_read d)) answered || eqb (f64_refusal_of (f64_read d)) precision_loss
 
 -- ---- what stands in a scalar
 

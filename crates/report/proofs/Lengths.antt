@@ -22,13 +22,17 @@ use Rattle.date.proofs.Readings.{by-date}
 use Rattle.scalar.specs.Digits.{digit_run, value, most_u64}
 use Rattle.scalar.specs.Float.{f64_read, pattern_of}
 use Rattle.scalar.specs.Kind.{kind_of}
-use Rattle.scalar.specs.Numbers.{error_number_of, kind_number_of}
+use Rattle.scalar.specs.Numbers.{whole_error_number, decimal_error_number, kind_number_of}
 use Rattle.scalar.specs.Truth.{bool_read}
 use Rattle.scalar.specs.Whole.{most_i64, has_tail, u64_digits, u64_read, signed, i64_part, whole_only, i64_read, number_of, i64_number, i64_rest}
 use Rattle.std.specs.Prelude.{Result, Ok, Err, Float}
 use Rattle.std.specs.Result.{result_unwrap_or}
-use Rattle.scalar.specs.declared.errors.ScalarError.TheVariants.{AllDigits, Overflow, InvalidBool, PrecisionLoss}
-use Rattle.scalar.specs.declared.errors.ScalarError.{ScalarError}
+use Rattle.scalar.specs.declared.errors.BoolError.TheVariants.{InvalidBool}
+use Rattle.scalar.specs.declared.errors.BoolError.{BoolError}
+use Rattle.scalar.specs.declared.errors.DecimalError.TheVariants as Decimal
+use Rattle.scalar.specs.declared.errors.DecimalError.{DecimalError}
+use Rattle.scalar.specs.declared.errors.WholeError.TheVariants.{AllDigits, Overflow}
+use Rattle.scalar.specs.declared.errors.WholeError.{WholeError}
 use Rattle.scalar.specs.declared.kinds.ReadingKind.TheVariants as Kind
 use Rattle.scalar.specs.declared.kinds.ReadingKind.{ReadingKind}
 use Rattle.scalar.proofs.Wholes.{Part, by_part, by_size, rest-within}
@@ -66,15 +70,18 @@ hex_bytes-short [] = omega arith
 hex_bytes-short (b ∷ bs) = rw (hex_bytes, length-append) (omega (arith, hex-short 2 b, hex_bytes-short bs))
 
 -- ---- the readings, each by what it answers
-error-short : (e : ScalarError) → length (decimal (error_number_of e)) ≤ 2
-error-short AllDigits = two_short 21 (omega arith)
-error-short Overflow = two_short 22 (omega arith)
-error-short InvalidBool = two_short 23 (omega arith)
-error-short (PrecisionLoss x) = two_short 24 (omega arith)
+whole_error-short : (e : WholeError) → length (decimal (whole_error_number e)) ≤ 2
+whole_error-short AllDigits = two_short 21 (omega arith)
+whole_error-short Overflow = two_short 22 (omega arith)
 
-bool-short : (r : Result Bool ScalarError) → length (bool_text r) ≤ 2
+decimal_error-short : (e : DecimalError) → length (decimal (decimal_error_number e)) ≤ 2
+decimal_error-short Decimal.AllDigits = two_short 21 (omega arith)
+decimal_error-short Decimal.Overflow = two_short 22 (omega arith)
+decimal_error-short (Decimal.PrecisionLoss x) = two_short 24 (omega arith)
+
+bool-short : (r : Result Bool BoolError) → length (bool_text r) ≤ 2
 bool-short (Ok b) = omega (arith, bit-short b)
-bool-short (Err e) = error-short e
+bool-short (Err InvalidBool) = two_short 23 (omega arith)
 
 u64_digits-short : (s : List ℕ) → length (u64_text (u64_digits s)) ≤ 21
 unfolding u64_digits
@@ -116,7 +123,7 @@ i64_part-short d =
 -- the number that a scalar begins with, and one that is all of it
 number_of-short : (p : Part) → PartShort p → length (i64_text (number_of p)) ≤ 22
 number_of-short (Ok (i, rest)) h = omega arith
-number_of-short (Err e) h = omega (arith, error-short e)
+number_of-short (Err e) h = omega (arith, whole_error-short e)
 
 kept-short : (tail : Bool) (i : ℤ) → length (integer i) ≤ 21 → length (i64_text (elim tail [ true ↦ Err AllDigits | false ↦ Ok i ])) ≤ 22
 kept-short true i h = number_of-short (Err AllDigits) tt
@@ -131,19 +138,18 @@ unfolding i64_read
 i64-short d = whole-short (length d) (i64_part d) (i64_part-short d)
 
 -- and how many bytes are left over
-left-short : (r : Result ℤ ScalarError) (left : ℕ) → left < 2 ^ 64 → length (left_text r left) ≤ 21
+left-short : (r : Result ℤ WholeError) (left : ℕ) → left < 2 ^ 64 → length (left_text r left) ≤ 21
 left-short (Ok i) left h = omega (arith, number_short left h)
 left-short (Err e) left h = omega arith
 
-carried-short : (e : ScalarError) → length (carried_text e) ≤ 17
-carried-short AllDigits = omega arith
-carried-short Overflow = omega arith
-carried-short InvalidBool = omega arith
-carried-short (PrecisionLoss x) = omega (arith, hex-short 16 (pattern_of x))
+carried-short : (e : DecimalError) → length (carried_text e) ≤ 17
+carried-short Decimal.AllDigits = omega arith
+carried-short Decimal.Overflow = omega arith
+carried-short (Decimal.PrecisionLoss x) = omega (arith, hex-short 16 (pattern_of x))
 
-f64_short : (r : Result Float ScalarError) → length (f64_text r) ≤ 19
+f64_short : (r : Result Float DecimalError) → length (f64_text r) ≤ 19
 f64_short (Ok x) = omega (arith, hex-short 16 (pattern_of x))
-f64_short (Err e) = simp length-append (omega (arith, error-short e, carried-short e))
+f64_short (Err e) = simp length-append (omega (arith, decimal_error-short e, carried-short e))
 
 kind-short : (k : ReadingKind) → length (decimal (kind_number_of k)) ≤ 1
 kind-short Kind.Bool = decimal-short 0 1 (omega arith)

@@ -3,11 +3,13 @@ use Rattle.std.specs.Prelude.{Result, Ok, Err, Bool, Float, ℕ, suc, List, [], 
 use Rattle.data.specs.Bytes.{space, line_feed, equals, minus}
 use Rattle.scalar.specs.Float.{f64_read, pattern_of}
 use Rattle.scalar.specs.Kind.{kind_of}
-use Rattle.scalar.specs.Numbers.{error_number_of, kind_number_of}
+use Rattle.scalar.specs.Numbers.{bool_error_number, whole_error_number, decimal_error_number, kind_number_of}
 use Rattle.scalar.specs.Truth.{bool_read}
 use Rattle.scalar.specs.Whole.{u64_read, i64_read, i64_number, i64_rest}
-use Rattle.scalar.specs.declared.errors.ScalarError.TheVariants.{AllDigits, Overflow, InvalidBool, PrecisionLoss}
-use Rattle.scalar.specs.declared.errors.ScalarError.{ScalarError}
+use Rattle.scalar.specs.declared.errors.BoolError.{BoolError}
+use Rattle.scalar.specs.declared.errors.DecimalError.TheVariants.{AllDigits, Overflow, PrecisionLoss}
+use Rattle.scalar.specs.declared.errors.DecimalError.{DecimalError}
+use Rattle.scalar.specs.declared.errors.WholeError.{WholeError}
 use Rattle.report.specs.Digits.{decimal, hex}
 use Rattle.parse.specs.Told.{bit}
 
@@ -21,29 +23,28 @@ integer (pos n) = decimal n
 integer (negsuc n) = minus ∷ [] ++ decimal (suc n)
 
 -- yes or no: 1 or 0
-abbrev pub bool_text : Result Bool ScalarError → List ℕ
+abbrev pub bool_text : Result Bool BoolError → List ℕ
 bool_text (Ok b) = equals ∷ [] ++ decimal (bit b)
-bool_text (Err e) = decimal (error_number_of e)
+bool_text (Err e) = decimal (bool_error_number e)
 
-abbrev pub u64_text : Result ℕ ScalarError → List ℕ
+abbrev pub u64_text : Result ℕ WholeError → List ℕ
 u64_text (Ok n) = equals ∷ [] ++ decimal n
-u64_text (Err e) = decimal (error_number_of e)
+u64_text (Err e) = decimal (whole_error_number e)
 
-abbrev pub i64_text : Result ℤ ScalarError → List ℕ
+abbrev pub i64_text : Result ℤ WholeError → List ℕ
 i64_text (Ok i) = equals ∷ [] ++ integer i
-i64_text (Err e) = decimal (error_number_of e)
+i64_text (Err e) = decimal (whole_error_number e)
 
 -- what a refusal carries: the 16 hexadecimal digits of the f64's bits, behind its number
-abbrev pub carried_text : ScalarError → List ℕ
+abbrev pub carried_text : DecimalError → List ℕ
 carried_text AllDigits = []
 carried_text Overflow = []
-carried_text InvalidBool = []
 carried_text (PrecisionLoss x) = (colon ∷ []) ++ hex 16 (pattern_of x)
 
 -- the 16 hexadecimal digits of the f64's bits, also of those that 24 carries
-abbrev pub f64_text : Result Float ScalarError → List ℕ
+abbrev pub f64_text : Result Float DecimalError → List ℕ
 f64_text (Ok x) = equals ∷ [] ++ hex 16 (pattern_of x)
-f64_text (Err e) = decimal (error_number_of e) ++ carried_text e
+f64_text (Err e) = decimal (decimal_error_number e) ++ carried_text e
 
 -- yes/no, u64, i64, f64, kind, separated by a space
 unfoldable pub exact_of : List ℕ → List ℕ
@@ -54,7 +55,7 @@ readings_of d =
     exact_of d ++ (space ∷ []) ++ f64_text (f64_read d) ++ (space ∷ []) ++ decimal (kind_number_of (kind_of d)) ++ (line_feed ∷ [])
 
 -- how many bytes are left over after a number, behind a space; a refusal leaves none
-abbrev pub left_text : Result ℤ ScalarError → ℕ → List ℕ
+abbrev pub left_text : Result ℤ WholeError → ℕ → List ℕ
 left_text (Ok i) left = (space ∷ []) ++ decimal left
 left_text (Err e) left = []
 

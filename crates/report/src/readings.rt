@@ -8,7 +8,7 @@ ghost use Rattle.report.specs.Readings.{bool_text, u64_text, i64_text, carried_t
 
 use crate::numbers::{put_decimal, put_hex, put_integer};
 use put::put_byte;
-use scalar::{Numbered, ScalarError};
+use scalar::{BoolError, DecimalError, Numbered, WholeError};
 
 // Puts an `=` and a number.
 pub(crate) fn put_value(out: &mut [u8], at: usize, n: u64) -> usize
@@ -19,7 +19,7 @@ pub(crate) fn put_value(out: &mut [u8], at: usize, n: u64) -> usize
 }
 
 // Puts what bytes say as yes or no.
-pub fn put_bool(out: &mut [u8], at: usize, r: Result<bool, ScalarError>) -> usize
+pub fn put_bool(out: &mut [u8], at: usize, r: Result<bool, BoolError>) -> usize
     ensures { wrote result out.new ≡ append out.old at (bool_text r) }
 {
     match r {
@@ -29,7 +29,7 @@ pub fn put_bool(out: &mut [u8], at: usize, r: Result<bool, ScalarError>) -> usiz
 }
 
 // Puts what bytes say as a number without a minus.
-pub fn put_u64(out: &mut [u8], at: usize, r: Result<u64, ScalarError>) -> usize
+pub fn put_u64(out: &mut [u8], at: usize, r: Result<u64, WholeError>) -> usize
     ensures { wrote result out.new ≡ append out.old at (u64_text r) }
 {
     match r {
@@ -39,7 +39,7 @@ pub fn put_u64(out: &mut [u8], at: usize, r: Result<u64, ScalarError>) -> usize
 }
 
 // Puts what bytes say as a number with a sign.
-pub fn put_i64(out: &mut [u8], at: usize, r: Result<i64, ScalarError>) -> usize
+pub fn put_i64(out: &mut [u8], at: usize, r: Result<i64, WholeError>) -> usize
     ensures { wrote result out.new ≡ append out.old at (i64_text r) }
 {
     match r {
@@ -52,11 +52,11 @@ pub fn put_i64(out: &mut [u8], at: usize, r: Result<i64, ScalarError>) -> usize
 }
 
 // Puts the f64 that a refusal carries, bit for bit, and nothing where it carries none.
-fn put_carried(out: &mut [u8], at: usize, e: ScalarError) -> usize
+fn put_carried(out: &mut [u8], at: usize, e: DecimalError) -> usize
     ensures { wrote result out.new ≡ append out.old at (carried_text e) }
 {
     match e {
-        ScalarError::PrecisionLoss(x) => {
+        DecimalError::PrecisionLoss(x) => {
             let next = put_byte(out, at, b':');
             put_hex(out, next, scalar::pattern(x), 16)
         }
@@ -65,7 +65,7 @@ fn put_carried(out: &mut [u8], at: usize, e: ScalarError) -> usize
 }
 
 // Puts what bytes say as an f64, bit for bit.
-pub fn put_f64(out: &mut [u8], at: usize, r: Result<f64, ScalarError>) -> usize
+pub fn put_f64(out: &mut [u8], at: usize, r: Result<f64, DecimalError>) -> usize
     ensures { wrote result out.new ≡ append out.old at (f64_text r) }
 {
     match r {
@@ -104,7 +104,7 @@ pub fn put_readings(out: &mut [u8], at: usize, d: &[u8]) -> usize
 }
 
 // Puts how many bytes are left over after a number, and nothing for a refusal.
-fn put_left(out: &mut [u8], at: usize, r: Result<i64, ScalarError>, left: usize) -> usize
+fn put_left(out: &mut [u8], at: usize, r: Result<i64, WholeError>, left: usize) -> usize
     ensures { wrote result out.new ≡ append out.old at (left_text r left) }
 {
     match r {

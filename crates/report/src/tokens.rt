@@ -9,7 +9,7 @@ ghost use Rattle.report.specs.Dump.{name_of, field, line_of, lines_from, header_
 use crate::numbers::put_decimal;
 use crate::refusals::put_refusal;
 use put::{put_byte, put_bytes};
-use tape::token::{ContainerKind, ScalarKind, Token};
+use tape::token::{ScalarKind, Token};
 use tape::{codes, token, words};
 
 // Puts the name of the scalars of a kind.
@@ -27,14 +27,15 @@ fn put_scalar_name(out: &mut [u8], at: usize, kind: ScalarKind) -> usize
     }
 }
 
-// Puts the name of the tokens that have a code, nothing for a code that none has.
+// Puts the name of the tokens that have a code, nothing for a code that none has. A match on the code was tried: its last arm's goal, that no name
+// is put, didn't close, since what the arms before it told of the code has no name there.
 pub fn put_name(out: &mut [u8], at: usize, code: u32) -> usize
     ensures { wrote result out.new ≡ append out.old at (name_of code) }
 {
-    if code == ContainerKind::Array as u32 {
+    if code == codes::ARRAY {
         return put_bytes(out, at, b"Array");
     }
-    if code == ContainerKind::Object as u32 {
+    if code == codes::OBJECT {
         return put_bytes(out, at, b"Object");
     }
     if code == codes::MIXED_CONTAINER {

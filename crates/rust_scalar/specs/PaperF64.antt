@@ -6,8 +6,8 @@ use Rattle.data.specs.Bytes.{plus, minus, point}
 use Rattle.scalar.specs.Digits.{is_digit, digit_run, value}
 use Rattle.scalar.specs.Float.{rest, tail_of, f64_read}
 use Rattle.scalar.specs.Whole.{signed}
-use Rattle.scalar.specs.declared.errors.ScalarError.TheVariants.{AllDigits, Overflow, PrecisionLoss}
-use Rattle.scalar.specs.declared.errors.ScalarError.{ScalarError}
+use Rattle.scalar.specs.declared.errors.DecimalError.TheVariants.{AllDigits, Overflow, PrecisionLoss}
+use Rattle.scalar.specs.declared.errors.DecimalError.{DecimalError}
 use Rattle.scalar.specs.declared.float.Tail.TheVariants.{End, Point, Other}
 
 -- its numbers
@@ -32,14 +32,14 @@ abbrev pub nearest_f64 : ℤ → Float
 nearest_f64 i = of_int binary64 i
 
 -- "above 9007199254740991 is 24 with the nearest f64 (negative and above 2^63 - 1: 22)"
-unfoldable pub paper_lossy : Bool → ℕ → Result Float ScalarError
+unfoldable pub paper_lossy : Bool → ℕ → Result Float DecimalError
 paper_lossy negative n = elim (negative && ltb (2 ^ 63 - 1) n) [ true ↦ Err Overflow | false ↦ Err (PrecisionLoss (nearest_f64 (signed negative n))) ]
 
-unfoldable pub paper_exact : Bool → ℕ → Result Float ScalarError
+unfoldable pub paper_exact : Bool → ℕ → Result Float DecimalError
 paper_exact negative n = elim (ltb most_exact n) [ true ↦ paper_lossy negative n | false ↦ Ok (nearest_f64 (signed negative n)) ]
 
 -- "Without a point: written digits (sign and `f` out) under 16 give the number. Otherwise above 2^64 - 1 is 22;"
-unfoldable pub paper_unpointed : Bool → List ℕ → Result Float ScalarError
+unfoldable pub paper_unpointed : Bool → List ℕ → Result Float DecimalError
 paper_unpointed negative digits =
     elim (ltb (length digits) few_digits) [
       | true ↦ Ok (nearest_f64 (signed negative (gathered_from 0 digits)))
@@ -52,13 +52,13 @@ paper_answer negative total places =
     mul binary64 (nearest_f64 (signed negative 1)) (div binary64 (nearest_f64 (pos total)) (nearest_f64 (pos (10 ^ places))))
 
 -- "over 22 fraction digits is 22"
-unfoldable pub paper_quotient : Bool → ℕ → ℕ → Result Float ScalarError
+unfoldable pub paper_quotient : Bool → ℕ → ℕ → Result Float DecimalError
 paper_quotient negative total places =
     elim (ltb most_fraction_digits places) [ true ↦ Err Overflow | false ↦ Ok (paper_answer negative total places) ]
 
 -- "With a point: let all be the bytes after the sign less one; from 19 up, carrying on from the gathered whole part through the fraction
 -- past 2^64 - 1 is 22;"
-unfoldable pub paper_pointed : Bool → ℕ → ℕ → List ℕ → Result Float ScalarError
+unfoldable pub paper_pointed : Bool → ℕ → ℕ → List ℕ → Result Float DecimalError
 paper_pointed negative all whole fraction =
     elim (leb many_bytes all && ltb (2 ^ 64 - 1) (value whole fraction)) [
       | true ↦ Err Overflow
@@ -66,11 +66,11 @@ paper_pointed negative all whole fraction =
     ]
 
 -- "Sign, digits, one point, one closing `f`; .. any other form is 21, before 22 and 24."
-unfoldable pub paper_fraction : Bool → ℕ → ℕ → List ℕ → Result Float ScalarError
+unfoldable pub paper_fraction : Bool → ℕ → ℕ → List ℕ → Result Float DecimalError
 paper_fraction negative all whole s =
     elim (tail_of (rest s)) [ End ↦ paper_pointed negative all whole (digit_run s) | Point ↦ Err AllDigits | Other ↦ Err AllDigits ]
 
-unfoldable pub paper_digits : Bool → List ℕ → Result Float ScalarError
+unfoldable pub paper_digits : Bool → List ℕ → Result Float DecimalError
 paper_digits negative s =
     elim (tail_of (rest s)) [
       | End ↦ paper_unpointed negative (digit_run s)
@@ -79,7 +79,7 @@ paper_digits negative s =
     ]
 
 -- "f64: empty is 21.", "the first byte must be a digit, `+`, `-` or `.`"
-unfoldable pub paper_f64 : List ℕ → Result Float ScalarError
+unfoldable pub paper_f64 : List ℕ → Result Float DecimalError
 paper_f64 [] = Err AllDigits
 paper_f64 (b ∷ d) =
     elim (eqb b minus) [

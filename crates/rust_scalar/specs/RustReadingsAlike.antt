@@ -3,11 +3,12 @@ use Rattle.std.specs.Result.{result_unwrap_or}
 use Rattle.std.specs.Prelude.{Result, pos, ℕ, ◌^◌, ◌<◌, Bool, true, false, List, ◌≡◌, eqb, Float, ℤ, length}
 use Rattle.std.specs.Float.{nan}
 use Rattle.scalar.specs.Float.{f64_read}
-use Rattle.scalar.specs.Numbers.{answered, all_digits, overflow, invalid_bool, scalar_refusal}
-use Rattle.scalar.specs.Numbers.{scalar_refusal, f64_value_of}
+use Rattle.scalar.specs.Numbers.{answered, all_digits, overflow, invalid_bool, bool_refusal_of, whole_refusal_of, f64_refusal_of, f64_value_of}
 use Rattle.scalar.specs.Truth.{bool_read}
 use Rattle.scalar.specs.Whole.{u64_read, i64_number, i64_rest, i64_read}
-use Rattle.scalar.specs.declared.errors.ScalarError.{ScalarError as OurError}
+use Rattle.scalar.specs.declared.errors.BoolError.{BoolError}
+use Rattle.scalar.specs.declared.errors.DecimalError.{DecimalError}
+use Rattle.scalar.specs.declared.errors.WholeError.{WholeError}
 use Rattle.scalar.proofs.to_bool.Reads as bool-call
 use Rattle.scalar.proofs.to_u64.Reads as u64-call
 use Rattle.scalar.proofs.to_i64_t.Reads as i64-number-call
@@ -39,21 +40,21 @@ reading_as_rust refusal value carried = elim (eqb refusal answered) [ true ↦ O
 abbrev pub nothing_carried : Float
 nothing_carried = nan
 
-abbrev pub rust_bool : Result Bool OurError → Outcome Bool
-rust_bool r = reading_as_rust (scalar_refusal r) (result_unwrap_or r false) nothing_carried
+abbrev pub rust_bool : Result Bool BoolError → Outcome Bool
+rust_bool r = reading_as_rust (bool_refusal_of r) (result_unwrap_or r false) nothing_carried
 
-abbrev pub rust_u64 : Result ℕ OurError → Outcome ℕ
-rust_u64 r = reading_as_rust (scalar_refusal r) (result_unwrap_or r 0) nothing_carried
+abbrev pub rust_u64 : Result ℕ WholeError → Outcome ℕ
+rust_u64 r = reading_as_rust (whole_refusal_of r) (result_unwrap_or r 0) nothing_carried
 
-abbrev pub rust_i64 : Result ℤ OurError → Outcome ℤ
-rust_i64 r = reading_as_rust (scalar_refusal r) (result_unwrap_or r (pos 0)) nothing_carried
+abbrev pub rust_i64 : Result ℤ WholeError → Outcome ℤ
+rust_i64 r = reading_as_rust (whole_refusal_of r) (result_unwrap_or r (pos 0)) nothing_carried
 
-abbrev pub rust_f64 : Result Float OurError → Outcome Float
-rust_f64 r = reading_as_rust (scalar_refusal r) (f64_value_of r) (f64_value_of r)
+abbrev pub rust_f64 : Result Float DecimalError → Outcome Float
+rust_f64 r = reading_as_rust (f64_refusal_of r) (f64_value_of r) (f64_value_of r)
 
 -- of a number with whatever stands after it, the Rust answers both at once, and we each by a call
-abbrev pub rust_i64_part : Result ℤ OurError → List ℕ → Outcome (ℤ × List ℕ)
-rust_i64_part r rest = reading_as_rust (scalar_refusal r) (result_unwrap_or r (pos 0), rest) nothing_carried
+abbrev pub rust_i64_part : Result ℤ WholeError → List ℕ → Outcome (ℤ × List ℕ)
+rust_i64_part r rest = reading_as_rust (whole_refusal_of r) (result_unwrap_or r (pos 0), rest) nothing_carried
 
 -- ---- what is promised
 
@@ -79,11 +80,11 @@ pub record Unpanicked (d : List ℕ) : Type 0 where
 
 -- so what each call answers, by its own contract, is the Rust's
 pub record CallsAlike : Type 0 where
-  pub bool_called : (κs : _) (args : _) (r : Result Bool OurError) (xs : _) → bool-call.Post κs args r xs → to_bool args.0.now ≡ rust_bool r
-  pub u64_called : (κs : _) (args : _) (r : Result ℕ OurError) (xs : _) → u64-call.Post κs args r xs → to_u64 args.0.now ≡ rust_u64 r
-  pub i64_part_called : (κs : _) (args : _) (r : Result ℤ OurError) (xs : _) → i64-number-call.Post κs args r xs
+  pub bool_called : (κs : _) (args : _) (r : Result Bool BoolError) (xs : _) → bool-call.Post κs args r xs → to_bool args.0.now ≡ rust_bool r
+  pub u64_called : (κs : _) (args : _) (r : Result ℕ WholeError) (xs : _) → u64-call.Post κs args r xs → to_u64 args.0.now ≡ rust_u64 r
+  pub i64_part_called : (κs : _) (args : _) (r : Result ℤ WholeError) (xs : _) → i64-number-call.Post κs args r xs
       → (κt : _) (again : _) (rest : _) (ys : _) → i64-rest-call.Post κt again rest ys → again.0.now ≡ args.0.now
       → to_i64_t args.0.now ≡ rust_i64_part r rest.now
-  pub i64_called : (κs : _) (args : _) (r : Result ℤ OurError) (xs : _) → i64-call.Post κs args r xs → to_i64 args.0.now ≡ rust_i64 r
-  pub f64_called : (κs : _) (args : _) (r : Result Float OurError) (xs : _) → f64-call.Post κs args r xs → Slice args.0.now
+  pub i64_called : (κs : _) (args : _) (r : Result ℤ WholeError) (xs : _) → i64-call.Post κs args r xs → to_i64 args.0.now ≡ rust_i64 r
+  pub f64_called : (κs : _) (args : _) (r : Result Float DecimalError) (xs : _) → f64-call.Post κs args r xs → Slice args.0.now
       → to_f64 args.0.now ≡ rust_f64 r

@@ -11,7 +11,7 @@ use Rattle.scalar.specs.Float.{f64_read}
 use Rattle.scalar.specs.Whole.{signed, most_i64}
 use Rattle.scalar.specs.declared.digits.Gathered.{Gathered}
 use Rattle.std.specs.Prelude.{Ok, Err}
-use Rattle.scalar.specs.declared.errors.ScalarError.TheVariants.{AllDigits, Overflow, PrecisionLoss}
+use Rattle.scalar.specs.declared.errors.DecimalError.TheVariants.{AllDigits, Overflow, PrecisionLoss}
 use Rattle.scalar.specs.declared.float.Tail.TheVariants.{End, Point, Other}
 use Rattle.scalar.specs.declared.float.Tail.{Tail}
 use Rattle.scalar.proofs.Gathers.{place_is}

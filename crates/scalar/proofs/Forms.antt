@@ -17,7 +17,7 @@ use Rattle.scalar.specs.declared.kinds.ReadingKind.TheVariants.{Bool as Truth, W
 use Rattle.scalar.specs.declared.kinds.ReadingKind.{ReadingKind}
 use Rattle.std.specs.Prelude.{Ok, Err, is_ok}
 use mathlib.Core.Bool.{false≢true}
-use Rattle.scalar.specs.declared.errors.ScalarError.{ScalarError}
+use Rattle.scalar.specs.declared.errors.BoolError.{BoolError}
 
 -- ---- without a point
 
@@ -190,7 +190,7 @@ truth d b e =
     (λ t. rw (kind_of, f, t))
     (λ g. absurd (false≢true (ap is_ok (rw (bool_read, f, g) at e)))))
 
-pub no_truth : (d : List ℕ) (e : ScalarError) → bool_read d ≡ Err e → kind_of d ≡ number_or_name d
+pub no_truth : (d : List ℕ) (e : BoolError) → bool_read d ≡ Err e → kind_of d ≡ number_or_name d
 unfolding bool_read kind_of
 no_truth d e told =
     by_bool (same d yes)

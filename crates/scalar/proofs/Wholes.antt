@@ -10,13 +10,13 @@ use Rattle.scalar.specs.Digits.{is_digit, digit_run, value, most_u64}
 use Rattle.scalar.specs.Whole.{has_tail, u64_digits, u64_read, signed, most_i64, i64_digits, i64_part, whole_only, i64_read}
 use Rattle.scalar.specs.Whole.{starts_number, sign_width, number_of, left_of, i64_number, i64_rest, place_of_rest}
 use Rattle.std.specs.Prelude.{Result, Ok, Err}
-use Rattle.scalar.specs.declared.errors.ScalarError.TheVariants.{AllDigits, Overflow}
-use Rattle.scalar.specs.declared.errors.ScalarError.{ScalarError}
+use Rattle.scalar.specs.declared.errors.WholeError.TheVariants.{AllDigits, Overflow}
+use Rattle.scalar.specs.declared.errors.WholeError.{WholeError}
 use Rattle.scalar.proofs.Runs.{digit_in, digit_out, run_length}
 
 -- what a number in front is answered as: it, and the place after it
 abbrev pub Part : Type 0
-Part = Result (ℤ × ℕ) ScalarError
+Part = Result (ℤ × ℕ) WholeError
 
 abbrev part_to : ℤ → ℕ → Part
 part_to i n = Ok (i, n)
@@ -223,7 +223,7 @@ pub read_is : (d : List ℕ) (i : ℤ) (rest : ℕ) → i64_part d ≡ Ok (i, re
 unfolding i64_read
 read_is d i rest e h = ap (whole_only (length d)) e ∙ rw (whole_only, le-ltb rest (length d) h)
 
-pub read_refused : (d : List ℕ) (e : ScalarError) → i64_part d ≡ Err e → i64_read d ≡ Err e
+pub read_refused : (d : List ℕ) (e : WholeError) → i64_part d ≡ Err e → i64_read d ≡ Err e
 unfolding i64_read
 read_refused d e told = rw (i64_read, told)
 

@@ -6,7 +6,7 @@ use Rattle.std.specs.Prelude.{Ok, Err}
 use Rattle.data.proofs.Cases.{by_bool}
 use Rattle.data.specs.Bytes.{letter_e, letter_n, letter_o, letter_s, letter_y}
 use Rattle.scalar.specs.Truth.{yes, no, same, bool_read}
-use Rattle.scalar.specs.declared.errors.ScalarError.TheVariants.{InvalidBool}
+use Rattle.scalar.specs.declared.errors.BoolError.TheVariants.{InvalidBool}
 
 -- runs of bytes that the definition calls the same are one
 one_run : (s t : List ℕ) → same s t ≡ true → s ≡ t

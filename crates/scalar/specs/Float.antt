@@ -5,8 +5,8 @@ use Rattle.std.specs.Float.Ieee.{of_int, mul, div}
 use Rattle.data.specs.Bytes.{plus, minus, point, letter_f}
 use Rattle.scalar.specs.Digits.{is_digit, digit_run, value, most_u64}
 use Rattle.scalar.specs.Whole.{signed, most_i64}
-use Rattle.scalar.specs.declared.errors.ScalarError.TheVariants.{AllDigits, Overflow, PrecisionLoss}
-use Rattle.scalar.specs.declared.errors.ScalarError.{ScalarError}
+use Rattle.scalar.specs.declared.errors.DecimalError.TheVariants.{AllDigits, Overflow, PrecisionLoss}
+use Rattle.scalar.specs.declared.errors.DecimalError.{DecimalError}
 use Rattle.scalar.specs.declared.float.Tail.TheVariants.{End, Point, Other}
 use Rattle.scalar.specs.declared.float.Tail.{Tail}
 
@@ -33,12 +33,12 @@ tail_of [] = End
 tail_of (b ∷ d) = elim (b == point) [ true ↦ Point | false ↦ elim (b == letter_f) [ true ↦ after_f d | false ↦ Other ] ]
 
 -- a number above 2^53 - 1: the nearest f64, handed over as one that lost precision; refused where it is negative and above 2^63 - 1
-unfoldable pub lossy : Bool → ℕ → Result Float ScalarError
+unfoldable pub lossy : Bool → ℕ → Result Float DecimalError
 lossy false n = Err (PrecisionLoss (of_int binary64 (pos n)))
 lossy true n = elim (nat_lt most_i64 n) [ true ↦ Err Overflow | false ↦ Err (PrecisionLoss (of_int binary64 (signed true n))) ]
 
 -- a number without a point: above 2^64 - 1 is refused, above 2^53 - 1 loses precision, and any other is an f64
-unfoldable pub unpointed : Bool → ℕ → Result Float ScalarError
+unfoldable pub unpointed : Bool → ℕ → Result Float DecimalError
 unfolding lossy
 unpointed negative n =
     elim (nat_lt most_u64 n) [
@@ -57,24 +57,24 @@ unfolding factor
 divided negative total places = mul binary64 (factor negative) (div binary64 (of_int binary64 (pos total)) (of_int binary64 (pos (10 ^ places))))
 
 -- a total with so many fraction digits: over 22 are refused
-unfoldable pub quotient : Bool → ℕ → ℕ → Result Float ScalarError
+unfoldable pub quotient : Bool → ℕ → ℕ → Result Float DecimalError
 unfolding divided
 quotient negative total places = elim (nat_lt most_places places) [ true ↦ Err Overflow | false ↦ Ok (divided negative total places) ]
 
 -- a number with a point: refused where the gathered whole part is carried through the fraction past 2^64 - 1
-unfoldable pub pointed : Bool → ℕ → List ℕ → Result Float ScalarError
+unfoldable pub pointed : Bool → ℕ → List ℕ → Result Float DecimalError
 unfolding value quotient
 pointed negative whole fraction =
     elim (nat_lt most_u64 (value whole fraction)) [ true ↦ Err Overflow | false ↦ quotient negative (value whole fraction) (length fraction) ]
 
 -- after a point: digits and at most a closing `f`
-unfoldable pub after_point : Bool → ℕ → List ℕ → Result Float ScalarError
+unfoldable pub after_point : Bool → ℕ → List ℕ → Result Float DecimalError
 unfolding digit_run tail_of pointed
 after_point negative whole s =
     elim (tail_of (rest s)) [ End ↦ pointed negative whole (digit_run s) | Point ↦ Err AllDigits | Other ↦ Err AllDigits ]
 
 -- after the sign: digits, gathered modulo 2^64 where a point follows, and at most a closing `f`
-unfoldable pub f64_digits : Bool → List ℕ → Result Float ScalarError
+unfoldable pub f64_digits : Bool → List ℕ → Result Float DecimalError
 unfolding digit_run value tail_of unpointed after_point
 f64_digits negative s =
     elim (tail_of (rest s)) [
@@ -89,7 +89,7 @@ unfolding is_digit
 begins b = elim (is_digit b) [ true ↦ true | false ↦ nat_eq b point ]
 
 -- the first byte must be a sign, a digit or a point; nothing at all is refused
-unfoldable pub f64_read : List ℕ → Result Float ScalarError
+unfoldable pub f64_read : List ℕ → Result Float DecimalError
 unfolding f64_digits begins
 f64_read [] = Err AllDigits
 f64_read (b ∷ d) =

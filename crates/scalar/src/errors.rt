@@ -1,28 +1,31 @@
 // Why a reading refuses some bytes, with document 01's number of each refusal, and what a refusal carries.
 ghost use Rattle.std.specs.Prelude.{◌≡◌, ℕ};
-ghost use Rattle.scalar.specs.Numbers.{error_number_of, refusal_of, f64_value_of};
+ghost use Rattle.scalar.specs.Numbers.{bool_error_number, whole_error_number, decimal_error_number, refusal_of, f64_value_of};
 
 // No refusal: there is an answer.
 pub const ANSWERED: u8 = 0;
 
-// Bytes that are no number.
-pub const ALL_DIGITS: u8 = 21;
-
-// A number too large.
-pub const OVERFLOW: u8 = 22;
-
-// Neither yes nor no.
-pub const INVALID_BOOL: u8 = 23;
-
 // A number that its f64 does not hold exactly.
 pub const PRECISION_LOSS: u8 = 24;
 
-// Why a reading refuses some bytes. A number that an f64 cannot hold comes with the nearest that can.
+// Why bytes are no truth: they are neither yes nor no.
+#[derive(Clone, Copy, PartialEq, Eq)]
+pub enum BoolError {
+    InvalidBool = 23,
+}
+
+// Why bytes are no whole number, or begin with none: they do not write one, or one too large.
+#[derive(Clone, Copy, PartialEq, Eq)]
+pub enum WholeError {
+    AllDigits = 21,
+    Overflow = 22,
+}
+
+// Why bytes are no decimal. A number that an f64 cannot hold comes with the nearest that can.
 #[derive(Clone, Copy)]
-pub enum ScalarError {
+pub enum DecimalError {
     AllDigits,
     Overflow,
-    InvalidBool,
     PrecisionLoss(f64),
 }
 
@@ -35,15 +38,30 @@ pub trait Numbered: Drop {
         ensures { result ≡ number_of self };
 }
 
-impl Numbered for ScalarError {
-    ghost number_of = { error_number_of };
+impl Numbered for BoolError {
+    ghost number_of = { bool_error_number };
+
+    fn number(self) -> u8 {
+        self as u8
+    }
+}
+
+impl Numbered for WholeError {
+    ghost number_of = { whole_error_number };
+
+    fn number(self) -> u8 {
+        self as u8
+    }
+}
+
+impl Numbered for DecimalError {
+    ghost number_of = { decimal_error_number };
 
     fn number(self) -> u8 {
         match self {
-            ScalarError::AllDigits => ALL_DIGITS,
-            ScalarError::Overflow => OVERFLOW,
-            ScalarError::InvalidBool => INVALID_BOOL,
-            ScalarError::PrecisionLoss(_) => PRECISION_LOSS,
+            DecimalError::AllDigits => WholeError::AllDigits as u8,
+            DecimalError::Overflow => WholeError::Overflow as u8,
+            DecimalError::PrecisionLoss(_) => PRECISION_LOSS,
         }
     }
 }
@@ -59,11 +77,11 @@ pub fn refusal<T: Drop, E: Numbered>(read: Result<T, E>) -> u8
 }
 
 // The answer of a decimal, or what a loss of precision carries, and 0 where there is none.
-pub fn f64_value(read: Result<f64, ScalarError>) -> f64
+pub fn f64_value(read: Result<f64, DecimalError>) -> f64
     ensures { result ≡ f64_value_of read }
 {
     match read {
-        Ok(x) | Err(ScalarError::PrecisionLoss(x)) => x,
+        Ok(x) | Err(DecimalError::PrecisionLoss(x)) => x,
         Err(_) => 0.0,
     }
 }

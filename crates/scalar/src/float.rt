@@ -7,7 +7,7 @@ ghost use Rattle.scalar.specs.Float.{most_places, tail_of, lossy as lossy-of, un
 ghost use Rattle.scalar.specs.Float.{quotient as quotient-of, after_point, f64_digits, f64_read, pattern_of};
 
 use crate::digits::{Gathered, OVERFLOW_CUTOFF, exceeds, gather, overflows};
-use crate::errors::ScalarError;
+use crate::errors::DecimalError;
 use crate::whole::{MOST_I64, under_sign};
 
 // Up to this one a power of ten is an f64 of its own.
@@ -35,19 +35,19 @@ pub enum Tail {
 
 // Reads a sign, digits, a point and a closing `f`.
 #[tactic(auto, using(crate::proofs::Floats::read_minus, crate::proofs::Floats::read_plus, crate::proofs::Floats::read_digit, crate::proofs::Floats::read_point, crate::proofs::Floats::read_other))]
-pub fn to_f64(d: &[u8]) -> Result<f64, ScalarError>
+pub fn to_f64(d: &[u8]) -> Result<f64, DecimalError>
     ensures { result ≡ f64_read d.now }
 {
     match d {
         [b'-', ..] => f64_digits(d, 1, true),
         [b'+', ..] => f64_digits(d, 1, false),
         [b'0'..=b'9' | b'.', ..] => f64_digits(d, 0, false),
-        _ => Err(ScalarError::AllDigits),
+        _ => Err(DecimalError::AllDigits),
     }
 }
 
 // Reads what stands after a sign of `sign` bytes.
-fn f64_digits(d: &[u8], sign: usize, negative: bool) -> Result<f64, ScalarError>
+fn f64_digits(d: &[u8], sign: usize, negative: bool) -> Result<f64, DecimalError>
     ensures { result ≡ f64_digits negative (drop sign d.now) }
 {
     let whole = gather(d, sign, 0);
@@ -55,7 +55,7 @@ fn f64_digits(d: &[u8], sign: usize, negative: bool) -> Result<f64, ScalarError>
     match tail_at(d, at) {
         Tail::End => unpointed(d, sign, negative, whole),
         Tail::Point => pointed(d, sign, negative, whole),
-        Tail::Other => Err(ScalarError::AllDigits),
+        Tail::Other => Err(DecimalError::AllDigits),
     }
 }
 
@@ -82,12 +82,12 @@ pub(crate) fn tail_at(d: &[u8], at: usize) -> Tail
 }
 
 // A number without a point, from its gathered digits.
-fn unpointed(d: &[u8], sign: usize, negative: bool, whole: Gathered) -> Result<f64, ScalarError>
+fn unpointed(d: &[u8], sign: usize, negative: bool, whole: Gathered) -> Result<f64, DecimalError>
     requires { whole ≡ gathered d.now sign 0 }
     ensures { result ≡ unpointed-of negative (value 0 (digit_run (drop sign d.now))) }
 {
     if exceeds(d, sign) {
-        return Err(ScalarError::Overflow);
+        return Err(DecimalError::Overflow);
     }
     let total = whole.total;
     if total > SAFE_INTEGER {
@@ -97,20 +97,20 @@ fn unpointed(d: &[u8], sign: usize, negative: bool, whole: Gathered) -> Result<f
 }
 
 // A number above SAFE_INTEGER. A negative one goes by way of an i64, which may not hold it.
-fn lossy(negative: bool, total: u64) -> Result<f64, ScalarError>
+fn lossy(negative: bool, total: u64) -> Result<f64, DecimalError>
     ensures { result ≡ lossy-of negative total }
 {
     if !negative {
-        return Err(ScalarError::PrecisionLoss(std::num::nearest_u64_to_f64(total)));
+        return Err(DecimalError::PrecisionLoss(std::num::nearest_u64_to_f64(total)));
     }
     if total > MOST_I64 {
-        return Err(ScalarError::Overflow);
+        return Err(DecimalError::Overflow);
     }
-    Err(ScalarError::PrecisionLoss(std::num::nearest_i64_to_f64(under_sign(true, total))))
+    Err(DecimalError::PrecisionLoss(std::num::nearest_i64_to_f64(under_sign(true, total))))
 }
 
 // A number with a point, from its gathered whole part on.
-fn pointed(d: &[u8], sign: usize, negative: bool, whole: Gathered) -> Result<f64, ScalarError>
+fn pointed(d: &[u8], sign: usize, negative: bool, whole: Gathered) -> Result<f64, DecimalError>
     requires { (whole ≡ gathered d.now sign 0) × (whole.at < length d.now) }
     ensures { result ≡ after_point negative whole.total (drop (whole.at + 1) d.now) }
 {
@@ -120,12 +120,12 @@ fn pointed(d: &[u8], sign: usize, negative: bool, whole: Gathered) -> Result<f64
     match tail_at(d, end) {
         Tail::End => {
             if carries_past(d, sign, whole) {
-                Err(ScalarError::Overflow)
+                Err(DecimalError::Overflow)
             } else {
                 quotient(negative, all.total, end - at)
             }
         }
-        Tail::Point | Tail::Other => Err(ScalarError::AllDigits),
+        Tail::Point | Tail::Other => Err(DecimalError::AllDigits),
     }
 }
 
@@ -139,11 +139,11 @@ pub(crate) fn carries_past(d: &[u8], sign: usize, whole: Gathered) -> bool
 }
 
 // A total with `places` fraction digits.
-fn quotient(negative: bool, total: u64, places: usize) -> Result<f64, ScalarError>
+fn quotient(negative: bool, total: u64, places: usize) -> Result<f64, DecimalError>
     ensures { result ≡ quotient-of negative total places }
 {
     if places > MOST_PLACES {
-        return Err(ScalarError::Overflow);
+        return Err(DecimalError::Overflow);
     }
     Ok(divided(negative, total, places))
 }

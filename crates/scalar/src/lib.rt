@@ -11,8 +11,7 @@ mod whole;
 
 pub use digits::{Digits, digits_at};
 pub use errors::{
-    ALL_DIGITS, ANSWERED, INVALID_BOOL, Numbered, OVERFLOW, PRECISION_LOSS, ScalarError, f64_value,
-    refusal,
+    ANSWERED, BoolError, DecimalError, Numbered, PRECISION_LOSS, WholeError, f64_value, refusal,
 };
 pub use float::{pattern, to_f64};
 pub use kinds::{ReadingKind, kind, kind_number};

@@ -3,7 +3,7 @@
 #![tactic(auto)]
 
 use input::read_full;
-use scalar::{Numbered, ScalarError};
+use scalar::{BoolError, DecimalError, Numbered, WholeError};
 use std::io;
 
 // How many bytes of the text count.
@@ -38,7 +38,7 @@ fn write_readings(rt: &impl Print, d: &[u8]) -> io::Result<()> {
 }
 
 // A truth is 1 or 0.
-fn write_bool(rt: &impl Print, r: Result<bool, ScalarError>) -> io::Result<()> {
+fn write_bool(rt: &impl Print, r: Result<bool, BoolError>) -> io::Result<()> {
     match r {
         Ok(yes) => print!(rt; "={}", yes as u8),
         Err(e) => print!(rt; "{}", e.number()),
@@ -46,7 +46,7 @@ fn write_bool(rt: &impl Print, r: Result<bool, ScalarError>) -> io::Result<()> {
 }
 
 // A number without a minus, in decimal.
-fn write_u64(rt: &impl Print, r: Result<u64, ScalarError>) -> io::Result<()> {
+fn write_u64(rt: &impl Print, r: Result<u64, WholeError>) -> io::Result<()> {
     match r {
         Ok(n) => print!(rt; "={n}"),
         Err(e) => print!(rt; "{}", e.number()),
@@ -54,7 +54,7 @@ fn write_u64(rt: &impl Print, r: Result<u64, ScalarError>) -> io::Result<()> {
 }
 
 // A number with a sign, in decimal.
-fn write_i64(rt: &impl Print, r: Result<i64, ScalarError>) -> io::Result<()> {
+fn write_i64(rt: &impl Print, r: Result<i64, WholeError>) -> io::Result<()> {
     match r {
         Ok(n) => print!(rt; "={n}"),
         Err(e) => print!(rt; "{}", e.number()),
@@ -62,10 +62,10 @@ fn write_i64(rt: &impl Print, r: Result<i64, ScalarError>) -> io::Result<()> {
 }
 
 // An f64 is its bits in hex; a loss of precision is its number and the bits that it carries.
-fn write_f64(rt: &impl Print, r: Result<f64, ScalarError>) -> io::Result<()> {
+fn write_f64(rt: &impl Print, r: Result<f64, DecimalError>) -> io::Result<()> {
     match r {
         Ok(x) => print!(rt; "={:016x}", scalar::pattern(x)),
-        Err(ScalarError::PrecisionLoss(x)) => {
+        Err(DecimalError::PrecisionLoss(x)) => {
             print!(rt; "{}:{:016x}", scalar::PRECISION_LOSS, scalar::pattern(x))
         }
         Err(e) => print!(rt; "{}", e.number()),

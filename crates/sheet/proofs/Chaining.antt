@@ -1,4 +1,4 @@
--- What laying a token down and giving it another link do to the tokens on some words, and what a token's code tells of one in its form.
+-- What laying a token down and giving it another link do to the tokens on some words.
 -- Assumes nothing.
 use mathlib.Core.Path.{◌≡◌, refl, sym, ◌∙◌, ap, subst}
 use mathlib.Core.Bool.{true, false, false≢true}
@@ -6,21 +6,15 @@ use mathlib.Core.List.{List}
 use mathlib.Core.Logic.{◌↔◌}
 use Prim.Native.Nat.{ℕ, ◌+◌, ◌≤◌, ◌<◌}
 use native.Mathlib.Omega.{arith}
-use borrow.Author.Tests.{eq-eqb, eqb-true}
-use lib.Dec.{eqb}
 use lib.ListN.{length, get_or, set, length-set}
 use lib.Seq.{set-get_or, set-set, get_or-set_same, get_or-set_other}
 use Rattle.tape.specs.declared.token.Token.{Token}
-use Rattle.tape.specs.declared.token.ContainerKind.{ContainerKind}
-use Rattle.tape.specs.declared.token.ContainerKind.TheVariants.{Array, Object}
-use Rattle.tape.specs.declared.token.ScalarKind.{ScalarKind}
-use Rattle.tape.specs.declared.token.ScalarKind.TheVariants.{Unquoted, Quoted, Parameter, UndefinedParameter, Header, QuotedEscape}
-use Rattle.tape.specs.Token.{array_code, object_code, end_code, container_code, scalar_code, end_of, no_token}
+use Rattle.tape.specs.Token.{end_of, no_token}
 use Rattle.tape.specs.Shape.{Opens}
 use Rattle.tape.specs.Words.{words_for, code_word, a_word, b_word, last_word, greatest_word, tokens_in, token_in, put_words}
 use Rattle.tape.proofs.Views.{token_from, tokens-at, tokens-counted, put-fits, put-length, put_changed}
-use Rattle.sheet.specs.Sound.{nth, Nested, Form, container, mixed_container, scalar, operator, closing}
-use Rattle.sheet.proofs.Links.{told-yes, told-no}
+use Rattle.sheet.specs.Sound.{nth, Nested, Form}
+use Rattle.sheet.proofs.Links.{told-no}
 use Rattle.sheet.specs.Steps.{Layable}
 use Rattle.sheet.proofs.Chain.{with_link, Chain, chain-none, chain-opener, chain-other, innermost, chain_crossed, chain-end, chain-laid, chain-nested}
 
@@ -40,55 +34,6 @@ module _ (ws : List ℕ) (n i : ℕ) (below : i < n) (fits : last_word i < lengt
       ∙ set-get_or (set ws (a_word i) link) (b_word i) 0 in
       ap (λ (us : List ℕ). tokens_in us n) (sym put) ∙ put_changed ws n i (with_link t link)
       ∙ ap (λ (x : Token). set (tokens_in ws n) i (with_link x link)) (sym (tokens-at ws n i below fits))
-
--- ---- the codes
-code_of : {t u : Token} → t ≡ u → t.code ≡ u.code
-code_of e = ap (λ (x : Token). x.code) e
-
--- no two of them have one code
-container-codes : (kind : ContainerKind) → (0 < container_code kind) × (container_code kind < 3)
-container-codes Array = (omega arith, omega arith)
-container-codes Object = (omega arith, omega arith)
-
-scalar-codes : (kind : ScalarKind) → (3 < scalar_code kind) × (scalar_code kind ≡ end_code → ⊥)
-scalar-codes Unquoted = (omega arith, λ e. omega arith)
-scalar-codes Quoted = (omega arith, λ e. omega arith)
-scalar-codes Parameter = (omega arith, λ e. omega arith)
-scalar-codes UndefinedParameter = (omega arith, λ e. omega arith)
-scalar-codes Header = (omega arith, λ e. omega arith)
-scalar-codes QuotedEscape = (omega arith, λ e. omega arith)
-
--- a token in its form opens a container where its code is that of one
-opens-low : (t : Token) → Form t → t.code < 3 → Opens t t.a
-opens-low t (container end o) h = subst (λ (k : ℕ). Opens t k) (sym (ap (λ (x : Token). x.a) o.2)) o
-opens-low t (mixed_container e) h = absurd (omega (arith, code_of e))
-opens-low t (scalar offset size v) h = absurd (omega (arith, code_of v.1, (scalar-codes v.0).0))
-opens-low t (operator number low high e) h = absurd (omega (arith, code_of e))
-opens-low t (closing opener e) h = absurd (omega (arith, code_of e))
-
-pub opens-array : (t : Token) → Form t → t.code ≡ array_code → (true ≡ true) ↔ Opens t t.a
-opens-array t f e = told-yes (opens-low t f (omega arith))
-
-pub opens-object : (t : Token) → Form t → (t.code ≡ array_code → ⊥) → (eqb t.code object_code ≡ true) ↔ Opens t t.a
-opens-object t f n = (
-  λ e. opens-low t f (omega (arith, eqb-true t.code object_code e)),
-  λ o. eq-eqb t.code object_code (other o.0 (code_of o.2)),
-)
-  where
-    other : (kind : ContainerKind) → t.code ≡ container_code kind → t.code ≡ object_code
-    other Array e = absurd (n e)
-    other Object e = e
-
--- and is an End where its code is that of one
-ends-code : (t : Token) → Form t → t.code ≡ end_code → t ≡ end_of t.a
-ends-code t (container end o) h = absurd (omega (arith, code_of o.2, (container-codes o.0).1))
-ends-code t (mixed_container e) h = absurd (omega (arith, code_of e))
-ends-code t (scalar offset size v) h = absurd ((scalar-codes v.0).1 (sym (code_of v.1) ∙ h))
-ends-code t (operator number low high e) h = absurd (omega (arith, code_of e))
-ends-code t (closing opener e) h = e ∙ ap end_of (sym (ap (λ (x : Token). x.a) e))
-
-pub ends-told : (t : Token) → Form t → (eqb t.code end_code ≡ true) ↔ (t ≡ end_of t.a)
-ends-told t f = (λ e. ends-code t f (eqb-true t.code end_code e), λ e. eq-eqb t.code end_code (code_of e))
 
 -- ---- a token laid down on words, from the chain before it to the one behind it
 -- what holds of the words before token i, which are as many as at first

@@ -1,9 +1,8 @@
 -- What reading a token's link tells of openers and Ends.
 -- Assumes nothing.
 use Rattle.std.specs.Prelude.{Option, Some, None}
-use mathlib.Core.Path.{◌≡◌, refl, sym, ◌∙◌, ap, subst}
+use mathlib.Core.Path.{◌≡◌, refl, sym, ◌∙◌, subst}
 use mathlib.Core.Bool.{Bool, true, false, false≢true}
-use mathlib.Core.List.{List}
 use mathlib.Core.Logic.{◌↔◌}
 use Prim.Native.Nat.{ℕ, ◌≤◌, ◌<◌}
 use native.Mathlib.Omega.{arith}
@@ -14,9 +13,7 @@ use Rattle.tape.specs.declared.shape.Link.{Link}
 use Rattle.tape.specs.declared.shape.Link.TheVariants.{ToEnd, ToOpener}
 use Rattle.tape.specs.Token.{end_of}
 use Rattle.tape.specs.Shape.{link_of, Opens}
-use Rattle.tape.specs.Words.{tokens_in, token_in}
 use Rattle.tape.proofs.Shapes.{opens-link, end-link, link-made}
-use Rattle.sheet.specs.Sound.{nth}
 
 -- ---- an answer that tells
 pub told-yes : {P : Type 0} → P → (true ≡ true) ↔ P
@@ -35,10 +32,8 @@ pub told-equal : (a b : ℕ) {P : Type 0} → (a ≡ b → P) → (P → a ≡ b
 told-equal a b yes-case back = (λ e. yes-case (eqb-true a b e), λ p. eq-eqb a b (back p))
 
 -- ---- the link that was read is that of the token
-pub read-link : (ws : List ℕ) (n i : ℕ) {t : Token} {r l : Option Link} → t ≡ token_in ws n i → r ≡ link_of t → r ≡ l
-    → link_of (nth (tokens_in ws n) i) ≡ l
-unfolding token_in
-read-link ws n i e f g = ap link_of (sym e) ∙ sym f ∙ g
+pub read_link : {x r l : Option Link} → r ≡ x → r ≡ l → x ≡ l
+read_link e f = sym e ∙ f
 
 -- ---- no token names in two ways
 pub end_not_none : {l : Option Link} {end : ℕ} → l ≡ Some (ToEnd end) → l ≡ None → ⊥
@@ -68,14 +63,14 @@ end-opens_not t o e = end_not_opener (opens-link t o) (end-link t e)
 pub closes_late : (t : Token) (i end : ℕ) → end ≤ i → (false ≡ true) ↔ ((i < end) × (t ≡ end_of i))
 closes_late t i end h = told-no (λ p. let (l, e) = p in omega arith)
 
-pub closes-opener : (t : Token) (i end : ℕ) {other : ℕ} → link_of t ≡ Some (ToEnd other) → (false ≡ true) ↔ ((i < end) × (t ≡ end_of i))
-closes-opener t i end l = told-no (λ p. end_not_opener l (end-link t p.1))
+pub closes_opener : (t : Token) (i end : ℕ) {other : ℕ} → link_of t ≡ Some (ToEnd other) → (false ≡ true) ↔ ((i < end) × (t ≡ end_of i))
+closes_opener t i end l = told-no (λ p. end_not_opener l (end-link t p.1))
 
-pub closes-none : (t : Token) (i end : ℕ) → link_of t ≡ None → (false ≡ true) ↔ ((i < end) × (t ≡ end_of i))
-closes-none t i end l = told-no (λ p. opener_not_none (end-link t p.1) l)
+pub closes_none : (t : Token) (i end : ℕ) → link_of t ≡ None → (false ≡ true) ↔ ((i < end) × (t ≡ end_of i))
+closes_none t i end l = told-no (λ p. opener_not_none (end-link t p.1) l)
 
-pub closes-end : (t : Token) (i end opener : ℕ) → i < end → link_of t ≡ Some (ToOpener opener) → (eqb opener i ≡ true) ↔ ((i < end) × (t ≡ end_of i))
-closes-end t i end opener h l =
+pub closes_end : (t : Token) (i end opener : ℕ) → i < end → link_of t ≡ Some (ToOpener opener) → (eqb opener i ≡ true) ↔ ((i < end) × (t ≡ end_of i))
+closes_end t i end opener h l =
     told-equal opener i
     (λ e. (h, subst (λ (k : ℕ). t ≡ end_of k) e (link-made t l)))
     (λ p. same-opener l (end-link t p.1))
@@ -84,24 +79,24 @@ closes-end t i end opener h l =
 pub opened_late : (t : Token) (i opener : ℕ) → i ≤ opener → (false ≡ true) ↔ ((opener < i) × Opens t i)
 opened_late t i opener h = told-no (λ p. let (l, e) = p in omega arith)
 
-pub opened-opener : (t : Token) (i opener end : ℕ) → opener < i → link_of t ≡ Some (ToEnd end) → (eqb end i ≡ true) ↔ ((opener < i) × Opens t i)
-opened-opener t i opener end h l =
+pub opened_opener : (t : Token) (i opener end : ℕ) → opener < i → link_of t ≡ Some (ToEnd end) → (eqb end i ≡ true) ↔ ((opener < i) × Opens t i)
+opened_opener t i opener end h l =
     told-equal end i
     (λ e. (h, subst (λ (k : ℕ). Opens t k) e (link-made t l)))
     (λ p. same_end l (opens-link t p.1))
 
-pub opened-end : (t : Token) (i opener : ℕ) {other : ℕ} → link_of t ≡ Some (ToOpener other) → (false ≡ true) ↔ ((opener < i) × Opens t i)
-opened-end t i opener l = told-no (λ p. end_not_opener (opens-link t p.1) l)
+pub opened_end : (t : Token) (i opener : ℕ) {other : ℕ} → link_of t ≡ Some (ToOpener other) → (false ≡ true) ↔ ((opener < i) × Opens t i)
+opened_end t i opener l = told-no (λ p. end_not_opener (opens-link t p.1) l)
 
-pub opened-none : (t : Token) (i opener : ℕ) → link_of t ≡ None → (false ≡ true) ↔ ((opener < i) × Opens t i)
-opened-none t i opener l = told-no (λ p. end_not_none (opens-link t p.1) l)
+pub opened_none : (t : Token) (i opener : ℕ) → link_of t ≡ None → (false ≡ true) ↔ ((opener < i) × Opens t i)
+opened_none t i opener l = told-no (λ p. end_not_none (opens-link t p.1) l)
 
 -- ---- whether a container opens
-pub opens-opener : (t : Token) {end : ℕ} → link_of t ≡ Some (ToEnd end) → (true ≡ true) ↔ ((end : ℕ) × Opens t end)
-opens-opener t {end} l = told-yes (end, link-made t l)
+pub opens_opener : (t : Token) {end : ℕ} → link_of t ≡ Some (ToEnd end) → (true ≡ true) ↔ ((end : ℕ) × Opens t end)
+opens_opener t {end} l = told-yes (end, link-made t l)
 
-pub opens-end : (t : Token) {other : ℕ} → link_of t ≡ Some (ToOpener other) → (false ≡ true) ↔ ((end : ℕ) × Opens t end)
-opens-end t l = told-no (λ p. end_not_opener (opens-link t p.1) l)
+pub opens_end : (t : Token) {other : ℕ} → link_of t ≡ Some (ToOpener other) → (false ≡ true) ↔ ((end : ℕ) × Opens t end)
+opens_end t l = told-no (λ p. end_not_opener (opens-link t p.1) l)
 
-pub opens-none : (t : Token) → link_of t ≡ None → (false ≡ true) ↔ ((end : ℕ) × Opens t end)
-opens-none t l = told-no (λ p. end_not_none (opens-link t p.1) l)
+pub opens_none : (t : Token) → link_of t ≡ None → (false ≡ true) ↔ ((end : ℕ) × Opens t end)
+opens_none t l = told-no (λ p. end_not_none (opens-link t p.1) l)

@@ -133,15 +133,15 @@ pub record NestedFrom (ts : List Token) (i : ℕ) : Type 0 where
   pub each : (k : ℕ) → i ≤ k → Nested ts k
 
 -- past the tokens there are none
-pub nested-past : (ws : List ℕ) (n : ℕ) → NestedFrom (tokens_in ws n) n
-nested-past ws n = record { each = λ k h end j inner o. absurd (omega (arith, h, opener_in (tokens_in ws n) k o, tokens-length ws n)) }
+pub nested_past : (ws : List ℕ) (n : ℕ) → NestedFrom (tokens_in ws n) n
+nested_past ws n = record { each = λ k h end j inner o. absurd (omega (arith, h, opener_in (tokens_in ws n) k o, tokens-length ws n)) }
 
-pub nested-all : (ts : List Token) {i : ℕ} → NestedFrom ts i → i ≤ 0 → (true ≡ true) ↔ ((k : ℕ) → Nested ts k)
-nested-all ts {i} f z = told-yes (λ k. f.each k (omega arith))
+pub nested_all : (ts : List Token) {i : ℕ} → NestedFrom ts i → i ≤ 0 → (true ≡ true) ↔ ((k : ℕ) → Nested ts k)
+nested_all ts {i} f z = told-yes (λ k. f.each k (omega arith))
 
 module _ (ts : List Token) (i : ℕ) (some : 0 < i) (from : NestedFrom ts i) where
-  pub nested-more : Nested ts (i - 1) → NestedFrom ts (i - 1)
-  nested-more here =
+  pub nested_more : Nested ts (i - 1) → NestedFrom ts (i - 1)
+  nested_more here =
       record {
         each = λ k h.
             by_order k i
@@ -151,11 +151,11 @@ module _ (ts : List Token) (i : ℕ) (some : 0 < i) (from : NestedFrom ts i) whe
       }
 
   -- a token that opens nothing
-  pub nested-end : {opener : ℕ} → link_of (nth ts (i - 1)) ≡ Some (ToOpener opener) → NestedFrom ts (i - 1)
-  nested-end l = nested-more (λ end j inner o. absurd (end-opens_not (nth ts (i - 1)) o (link-made (nth ts (i - 1)) l)))
+  pub nested_end : {opener : ℕ} → link_of (nth ts (i - 1)) ≡ Some (ToOpener opener) → NestedFrom ts (i - 1)
+  nested_end l = nested_more (λ end j inner o. absurd (end-opens_not (nth ts (i - 1)) o (link-made (nth ts (i - 1)) l)))
 
-  pub nested-none : link_of (nth ts (i - 1)) ≡ None → NestedFrom ts (i - 1)
-  nested-none l = nested-more (λ end j inner o. absurd (unlinked-opens (nth ts (i - 1)) l o))
+  pub nested_none : link_of (nth ts (i - 1)) ≡ None → NestedFrom ts (i - 1)
+  nested_none l = nested_more (λ end j inner o. absurd (unlinked-opens (nth ts (i - 1)) l o))
 
   -- one that does can be walked
   pub walkable : {end : ℕ} → Linked ts → link_of (nth ts (i - 1)) ≡ Some (ToEnd end) → Walkable ts (i - 1) end

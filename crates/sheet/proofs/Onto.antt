@@ -12,7 +12,7 @@ use lib.Dec.{leb}
 use lib.ListN.{length, replicate}
 use Rattle.data.proofs.Cases.{by_bool}
 use Rattle.packed.specs.Packed.{words_packed, behind}
-use Rattle.packed.proofs.Packing.{behind-none}
+use Rattle.packed.proofs.Packing.{behind_none}
 use Rattle.tape.specs.declared.token.Token.{Token}
 use Rattle.tape.specs.Words.{words_for, greatest_word, room_of, tokens_in, words_of, padded, cleared}
 use Rattle.tape.proofs.Views.{tokens-counted}
@@ -20,24 +20,24 @@ use Rattle.sheet.specs.Sound.{Nested, Sound}
 use Rattle.sheet.specs.Steps.{AllStand, Layable}
 use Rattle.sheet.specs.Onto.{kept, laid_onto}
 use Rattle.sheet.proofs.Tokens.{opener_in}
-use Rattle.sheet.proofs.Whole.{standing-linked, check-short, check_fallen, check-nested}
+use Rattle.sheet.proofs.Whole.{standing_linked, check_short, check_fallen, check_nested}
 use Rattle.sheet.proofs.Chaining.{Ready}
 
 -- ---- whether there is room
 module _ (ws : List ℕ) (n : ℕ) where
-  pub room-over : greatest_word < n → false ≡ leb n (room_of ws)
+  pub room_over : greatest_word < n → false ≡ leb n (room_of ws)
   unfolding room_of
-  room-over h = sym (lt-leb n (room_of ws) (omega arith))
+  room_over h = sym (lt-leb n (room_of ws) (omega arith))
 
-  pub room-held : {r : Bool} → n ≤ greatest_word → r ≡ leb (words_for n) (length ws) → r ≡ leb n (room_of ws)
+  pub room_held : {r : Bool} → n ≤ greatest_word → r ≡ leb (words_for n) (length ws) → r ≡ leb n (room_of ws)
   unfolding room_of
-  room-held {r} h e =
+  room_held {r} h e =
       by_bool (leb n (room_of ws))
       (λ t. e ∙ le-leb (words_for n) (length ws) (omega (arith, leb-true n (room_of ws) t)) ∙ sym t)
       (λ t. e ∙ lt-leb (words_for n) (length ws) (omega (arith, leb-false n (room_of ws) t)) ∙ sym t)
 
-  pub room-there : {r : Bool} → r ≡ leb n (room_of ws) → r ≡ true → n ≤ room_of ws
-  room-there e t = leb-true n (room_of ws) (sym e ∙ t)
+  pub room_there : {r : Bool} → r ≡ leb n (room_of ws) → r ≡ true → n ≤ room_of ws
+  room_there e t = leb-true n (room_of ws) (sym e ∙ t)
 
   pub room_most : n ≤ room_of ws → n ≤ greatest_word
   unfolding room_of
@@ -47,7 +47,7 @@ module _ (ws : List ℕ) (n : ℕ) where
 pub standing_layable : (L : ℕ) (ts : List Token) → AllStand L ts → Layable ts
 standing_layable L ts s =
     record {
-      linked = standing-linked L ts s;
+      linked = standing_linked L ts s;
       forms = λ i h. (s.held i h).form;
       top = λ end o. (s.held 0 (opener_in ts 0 o)).top refl end o;
     }
@@ -55,7 +55,7 @@ standing_layable L ts s =
 module _ (L : ℕ) (bytes ws : List ℕ) (n : ℕ) where
   -- without words the bytes are read
   from_bytes : (P : List ℕ → Type 0) → P (behind [] bytes) → P (words_packed bytes)
-  from_bytes P p = subst P (behind-none bytes) p
+  from_bytes P p = subst P (behind_none bytes) p
 
   module _ (fits : words_for n ≤ length (behind [] bytes)) (stand : AllStand L (tokens_in (behind [] bytes) n)) where
     there : words_for n ≤ length (words_packed bytes)
@@ -68,17 +68,17 @@ module _ (L : ℕ) (bytes ws : List ℕ) (n : ℕ) where
     unfolding room_of
     onto_ready room = (standing_layable L _ stood, tokens-counted (words_packed bytes) n there, omega arith, omega arith)
 
-    pub onto-nested : {r : Bool} → (r ≡ true) ↔ ((i : ℕ) → Nested (tokens_in (words_packed bytes) n) i)
+    pub onto_nested : {r : Bool} → (r ≡ true) ↔ ((i : ℕ) → Nested (tokens_in (words_packed bytes) n) i)
         → (r ≡ true) ↔ Sound L (words_packed bytes) n
-    onto-nested t = check-nested L (words_packed bytes) n there stood t
+    onto_nested t = check_nested L (words_packed bytes) n there stood t
 
-  pub onto_fallen : {r : Bool} → (r ≡ true) ↔ AllStand L (tokens_in (behind [] bytes) n) → r ≡ false
-      → (false ≡ true) ↔ Sound L (words_packed bytes) n
-  onto_fallen t f = from_bytes (λ (bs : List ℕ). (false ≡ true) ↔ Sound L bs n) (check_fallen L (behind [] bytes) n t f)
+  pub onto_fallen : {r : Bool} → (r ≡ true) ↔ AllStand L (tokens_in (behind [] bytes) n) → r ≡ false → (r ≡ true) ↔ Sound L (words_packed bytes) n
+  onto_fallen {r} t f =
+      rw f (from_bytes (λ (bs : List ℕ). (false ≡ true) ↔ Sound L bs n) (check_fallen L (behind [] bytes) n t f))
 
-  pub onto-short : {r : Bool} → r ≡ leb (words_for n) (length (behind [] bytes)) → r ≡ false
+  pub onto_short : {r : Bool} → r ≡ leb (words_for n) (length (behind [] bytes)) → r ≡ false
       → (false ≡ true) ↔ Sound L (words_packed bytes) n
-  onto-short e f = from_bytes (λ (bs : List ℕ). (false ≡ true) ↔ Sound L bs n) (check-short L (behind [] bytes) n e f)
+  onto_short e f = from_bytes (λ (bs : List ℕ). (false ≡ true) ↔ Sound L bs n) (check_short L (behind [] bytes) n e f)
 
 -- ---- what is left of the words: they are cleared behind the tokens that are kept
 pub onto-left : (sound : Bool) (ws vs : List ℕ) (n : ℕ) (ts : List Token) {after : List ℕ}
@@ -87,29 +87,29 @@ unfolding laid_onto cleared
 onto-left sound ws vs n ts size tokens e = e ∙ rw (cleared, laid_onto, size, tokens)
 
 -- none where they are not sound
-pub onto-unsound : (ws vs : List ℕ) (ts : List Token) {after : List ℕ} → length vs ≡ length ws → after ≡ cleared vs 0
+pub onto_unsound : (ws vs : List ℕ) (ts : List Token) {after : List ℕ} → length vs ≡ length ws → after ≡ cleared vs 0
     → after ≡ laid_onto false ws ts
 unfolding tokens_in
-onto-unsound ws vs ts size e = onto-left false ws vs 0 ts size refl e
+onto_unsound ws vs ts size e = onto-left false ws vs 0 ts size refl e
 
 module _ (L : ℕ) (bs ws : List ℕ) (n : ℕ) where
   counted : Sound L bs n → length (tokens_in bs n) ≡ n
   counted s = tokens-counted bs n s.fits
 
   -- none where they find no room
-  pub onto-no_room : (sound : Bool) {r : Bool} {after : List ℕ} → r ≡ leb n (room_of ws) → r ≡ false → (sound ≡ true) ↔ Sound L bs n
+  pub onto_no_room : (sound : Bool) {r : Bool} {after : List ℕ} → r ≡ leb n (room_of ws) → r ≡ false → (sound ≡ true) ↔ Sound L bs n
       → after ≡ cleared ws 0 → after ≡ laid_onto sound ws (tokens_in bs n)
   unfolding tokens_in
-  onto-no_room true e f t g =
+  onto_no_room true e f t g =
       let over : leb (length (tokens_in bs n)) (room_of ws) ≡ false =
       ap (λ (k : ℕ). leb k (room_of ws)) (counted (t.0 refl)) ∙ sym e ∙ f in
       onto-left true ws ws 0 (tokens_in bs n) refl (rw (kept, over)) g
-  onto-no_room false e f t g = onto-unsound ws ws (tokens_in bs n) refl g
+  onto_no_room false e f t g = onto_unsound ws ws (tokens_in bs n) refl g
 
   -- all else
-  pub onto-laid : (vs : List ℕ) {after : List ℕ} → n ≤ room_of ws → Sound L bs n → tokens_in vs n ≡ tokens_in bs n → length vs ≡ length ws
+  pub onto_laid : (vs : List ℕ) {after : List ℕ} → n ≤ room_of ws → Sound L bs n → tokens_in vs n ≡ tokens_in bs n → length vs ≡ length ws
       → after ≡ cleared vs n → after ≡ laid_onto true ws (tokens_in bs n)
-  onto-laid vs room s tokens size g =
+  onto_laid vs room s tokens size g =
       let fit : leb (length (tokens_in bs n)) (room_of ws) ≡ true = le-leb (length (tokens_in bs n)) (room_of ws) (omega (arith, counted s)) in
       onto-left true ws vs n (tokens_in bs n) size (tokens ∙ rw (kept, fit)) g
 

@@ -3,20 +3,19 @@
 use Rattle.std.specs.Prelude.{Option, Some, None}
 use mathlib.Core.Path.{◌≡◌, refl, sym, ◌∙◌, ap}
 use mathlib.Core.Bool.{Bool, true, false}
-use mathlib.Core.List.{List, []}
-use Prim.Native.Nat.{ℕ, ◌+◌, ◌-◌, ◌≤◌, ◌<◌}
-use native.Mathlib.Nat.{add_comm}
+use mathlib.Core.List.{List}
+use Prim.Native.Nat.{ℕ, ◌+◌, ◌≤◌, ◌<◌}
 use native.Mathlib.Omega.{arith}
 use borrow.Author.Tests.{lt-ltb, le-ltb, ltb-false}
 use lib.Dec.{leb, ltb}
-use lib.ListN.{length, take, drop}
+use lib.ListN.{length}
 use Rattle.data.proofs.Cases.{by_bool}
 use Rattle.tape.specs.declared.token.Token.{Token}
 use Rattle.tape.specs.declared.shape.Shape.{Shape}
 use Rattle.tape.specs.declared.shape.Shape.TheVariants.{Opener, MixedContainer, Scalar, Operator, End}
 use Rattle.tape.specs.Shape.{shape_of}
 use Rattle.tape.specs.Words.{words_for, token_in}
-use Rattle.sheet.specs.Views.{past_text, placed, viewed, part_of, place_of, seen}
+use Rattle.sheet.specs.Views.{past_text, placed, viewed, seen}
 use Rattle.sheet.specs.declared.views.Viewed.{Viewed}
 
 refused_not : {r : Option Viewed} {offset size : ℕ} → r ≡ None → r ≡ seen offset size → ⊥
@@ -43,38 +42,27 @@ placed-within L None e = absurd (refused_not refl e)
 
 module _ (L : ℕ) (ws : List ℕ) (n i : ℕ) where
   -- ---- the answer, by the tests that lead to it
-  pub view-past : n ≤ i → None ≡ viewed L ws n i
+  pub view_past : n ≤ i → None ≡ viewed L ws n i
   unfolding viewed
-  view-past h = rw (viewed, le-ltb i n h)
+  view_past h = rw (viewed, le-ltb i n h)
 
-  pub view-short : {r : Bool} → i < n → r ≡ leb (words_for n) (length ws) → r ≡ false → None ≡ viewed L ws n i
+  pub view_short : {r : Bool} → i < n → r ≡ leb (words_for n) (length ws) → r ≡ false → None ≡ viewed L ws n i
   unfolding viewed
-  view-short h e f = rw (viewed, lt-ltb i n h, sym e ∙ f)
+  view_short h e f = rw (viewed, lt-ltb i n h, sym e ∙ f)
 
-  pub view-placed : {r : Bool} {t : Token} {s : Option Shape} → i < n → r ≡ leb (words_for n) (length ws) → r ≡ true
+  pub view_placed : {r : Bool} {t : Token} {s : Option Shape} → i < n → r ≡ leb (words_for n) (length ws) → r ≡ true
       → t ≡ token_in ws n i → s ≡ shape_of t → placed L s ≡ viewed L ws n i
   unfolding viewed
-  view-placed h e f g k =
+  view_placed h e f g k =
       rw (viewed, lt-ltb i n h, sym e ∙ f)
       (ap (λ (x : Option Shape). placed L x) k ∙ ap (λ (x : Token). placed L (shape_of x)) g)
 
   -- ---- it lies in the text
-  pub viewed-within : {offset size : ℕ} → viewed L ws n i ≡ seen offset size → offset + size ≤ L
+  pub viewed_within : {offset size : ℕ} → viewed L ws n i ≡ seen offset size → offset + size ≤ L
   unfolding viewed
-  viewed-within e =
+  viewed_within e =
       by_bool (ltb i n)
       (λ t. by_bool (leb (words_for n) (length ws))
       (λ f. placed-within L (shape_of (token_in ws n i)) (rw (viewed, t, f) at e))
       (λ f. absurd (refused_not {r = viewed L ws n i} (rw (viewed, t, f)) e)))
       (λ t. absurd (refused_not {r = viewed L ws n i} (rw (viewed, t)) e))
-
--- ---- the part that an answer names, by its bytes and by its place
-module _ (text : List ℕ) (start : ℕ × ℕ) where
-  pub part-here : {r : Option Viewed} {offset size : ℕ} → r ≡ seen offset size
-      → (take (offset + size - offset) (drop offset text) ≡ part_of text r) × ((start.0, offset + start.1) ≡ place_of start r)
-  part-here {r} {offset} {size} e =
-      let whole : offset + size - offset ≡ size = omega arith in
-      (rw (e, whole), rw e (ap (λ (n : ℕ). (start.0, n)) (add_comm offset start.1)))
-
-  pub part_none : {r : Option Viewed} → r ≡ None → ([] ≡ part_of text r) × (start ≡ place_of start r)
-  part_none e = (rw e, rw e)

@@ -8,7 +8,7 @@ use mathlib.Core.List.{List}
 use mathlib.Core.Logic.{◌⊎◌, inl, inr, ◌↔◌}
 use Prim.Native.Nat.{ℕ, ◌+◌, ◌≤◌, ◌<◌}
 use native.Mathlib.Omega.{arith}
-use borrow.Author.Count.{below_none, below_more}
+use borrow.Author.Count.{below_more}
 use borrow.Author.Tests.{ltb-true, ltb-false, eqb-true, eqb-false}
 use lib.Dec.{eqb, ltb}
 use lib.ListN.{length}
@@ -86,9 +86,6 @@ pub record Scanned (text_length : ℕ) (ts : List Token) (j floor : ℕ) : Type 
   pub spaced : (i : ℕ) → i < j → Spaced ts i
   pub under : (i : ℕ) → i < j → Under ts floor i
   pub floored : Floored ts j floor
-
-pub scanned_none : (L : ℕ) (ts : List Token) → Scanned L ts 0 0
-scanned_none L ts = record { held = below_none (Held L ts); spaced = below_none (Spaced ts); under = below_none (Under ts 0); floored = inl refl }
 
 pub scanned_all : (L : ℕ) (ts : List Token) {j floor : ℕ} → Scanned L ts j floor → length ts ≤ j → AllStand L ts
 scanned_all L ts s h = record { held = λ i k. s.held i (omega arith); spaced = λ i k. s.spaced i (omega arith) }

@@ -2,10 +2,10 @@
 -- Assumes nothing.
 use Rattle.std.specs.Prelude.{Option, Some, None}
 use mathlib.Core.Path.{◌≡◌, sym, ◌∙◌, ap, subst}
-use mathlib.Core.Bool.{Bool, true, false, false≢true}
+use mathlib.Core.Bool.{Bool, true, false}
 use mathlib.Core.List.{List}
 use mathlib.Core.Logic.{◌↔◌}
-use Prim.Native.Nat.{ℕ, ◌+◌, ◌≤◌, ◌<◌}
+use Prim.Native.Nat.{ℕ, ◌+◌, ◌<◌}
 use native.Mathlib.Omega.{arith}
 use borrow.Author.Tests.{ltb-true, ltb-false}
 use lib.Dec.{ltb}
@@ -176,31 +176,31 @@ module _ (L : ℕ) (ts : List Token) (i : ℕ) where
       }
 
   -- ---- the answer for each shape tells whether the token holds
-  pub first-opens : {end : ℕ} → shape_of (nth ts i) ≡ Some (Opener end) → i ≡ 0 → (false ≡ true) ↔ Held L ts i
-  first-opens {end} e z = told-no (λ h. h.top z end (shape-made (nth ts i) e))
+  pub first_opens : {end : ℕ} → shape_of (nth ts i) ≡ Some (Opener end) → i ≡ 0 → (false ≡ true) ↔ Held L ts i
+  first_opens {end} e z = told-no (λ h. h.top z end (shape-made (nth ts i) e))
 
-  pub opener-held : {r : Bool} {end : ℕ} → shape_of (nth ts i) ≡ Some (Opener end) → (i ≡ 0 → ⊥)
+  pub opener_held : {r : Bool} {end : ℕ} → shape_of (nth ts i) ≡ Some (Opener end) → (i ≡ 0 → ⊥)
       → (r ≡ true) ↔ ((i < end) × (nth ts end ≡ end_of i)) → (r ≡ true) ↔ Held L ts i
-  opener-held {r} {end} e n c =
+  opener_held {r} {end} e n c =
       told_through c
       (held-opener e n)
       (λ h. let links = h.closed end (shape-made (nth ts i) e) in (links.0, links.2))
 
-  pub mixed_container-held : shape_of (nth ts i) ≡ (Some MixedContainer) → (true ≡ true) ↔ Held L ts i
-  mixed_container-held e = told-yes (held_plain e (mixed_container (shape-made (nth ts i) e)) tt tt tt)
+  pub mixed_container_held : shape_of (nth ts i) ≡ (Some MixedContainer) → (true ≡ true) ↔ Held L ts i
+  mixed_container_held e = told-yes (held_plain e (mixed_container (shape-made (nth ts i) e)) tt tt tt)
 
-  pub operator-held : {number : ℕ} → shape_of (nth ts i) ≡ Some (Operator number) → (true ≡ true) ↔ Held L ts i
-  operator-held {number} e =
+  pub operator_held : {number : ℕ} → shape_of (nth ts i) ≡ Some (Operator number) → (true ≡ true) ↔ Held L ts i
+  operator_held {number} e =
       let m = shape-made (nth ts i) e in
       told-yes (held_plain e (operator number m.0 m.1 m.2) tt tt tt)
 
-  pub end-held : {r : Bool} {opener : ℕ} → shape_of (nth ts i) ≡ Some (End opener) → (r ≡ true) ↔ ((opener < i) × Opens (nth ts opener) i)
+  pub end_held : {r : Bool} {opener : ℕ} → shape_of (nth ts i) ≡ Some (End opener) → (r ≡ true) ↔ ((opener < i) × Opens (nth ts opener) i)
       → (r ≡ true) ↔ Held L ts i
-  end-held {r} {opener} e c = told_through c (held-end e) (λ h. h.opened opener (shape-made (nth ts i) e))
+  end_held {r} {opener} e c = told_through c (held-end e) (λ h. h.opened opener (shape-made (nth ts i) e))
 
-  pub scalar-held : {r : Bool} {kind : ScalarKind} {offset size : ℕ} → shape_of (nth ts i) ≡ Some (Scalar kind offset size)
+  pub scalar_held : {r : Bool} {kind : ScalarKind} {offset size : ℕ} → shape_of (nth ts i) ≡ Some (Scalar kind offset size)
       → (r ≡ true) ↔ Suited L ts (i + 1) kind offset size → (r ≡ true) ↔ Held L ts i
-  scalar-held {r} {kind} {offset} {size} e c =
+  scalar_held {r} {kind} {offset} {size} e c =
       told_through c
       (held-scalar e)
       (λ h.
@@ -211,32 +211,5 @@ module _ (L : ℕ) (ts : List Token) (i : ℕ) where
         headed = λ q. h.headed offset size (made ∙ ap (λ (k : ScalarKind). scalar_of k offset size) (header-told kind q));
       })
 
-  pub nothing-held : shape_of (nth ts i) ≡ None → (false ≡ true) ↔ Held L ts i
-  nothing-held e = told-no (λ h. formless (nth ts i) e h.form)
-
--- ---- whether a scalar may be as long as it is
-pub fills_empty : {r : Bool} (kind : ScalarKind) {size : ℕ} → size ≡ 0 → r ≡ may_be_empty kind
-    → (r ≡ true) ↔ (size ≡ 0 → may_be_empty kind ≡ true)
-fills_empty kind z e = (λ t n. sym e ∙ t, λ f. e ∙ f z)
-
-pub fills_some : (kind : ScalarKind) {size : ℕ} → (size ≡ 0 → ⊥) → (true ≡ true) ↔ (size ≡ 0 → may_be_empty kind ≡ true)
-fills_some kind n = told-yes (λ z. absurd (n z))
-
--- ---- what a scalar owes
-module _ (L : ℕ) (ts : List Token) (next : ℕ) (kind : ScalarKind) (offset size : ℕ) where
-  pub suits_out : L < offset + size → (false ≡ true) ↔ Suited L ts next kind offset size
-  suits_out h = told-no (λ s. omega (arith, s.within))
-
-  pub suits_empty : {r : Bool} → (r ≡ true) ↔ (size ≡ 0 → may_be_empty kind ≡ true) → r ≡ false
-      → (false ≡ true) ↔ Suited L ts next kind offset size
-  suits_empty t f = told-no (λ s. false≢true (sym f ∙ t.1 s.filled))
-
-  module _ (in-text : offset + size ≤ L) (fills : size ≡ 0 → may_be_empty kind ≡ true) where
-    pub suits_header : {r : Bool} → is_header kind ≡ true → (r ≡ true) ↔ ((end : ℕ) × Opens (nth ts next) end)
-        → (r ≡ true) ↔ Suited L ts next kind offset size
-    suits_header e c =
-        told_through c (λ o. record { within = in-text; filled = fills; headed = λ h. o }) (λ s. s.headed e)
-
-    pub suits_other : is_header kind ≡ false → (true ≡ true) ↔ Suited L ts next kind offset size
-    suits_other e =
-        told-yes (record { within = in-text; filled = fills; headed = λ h. absurd (false≢true (sym e ∙ h)) })
+  pub nothing_held : shape_of (nth ts i) ≡ None → (false ≡ true) ↔ Held L ts i
+  nothing_held e = told-no (λ h. formless (nth ts i) e h.form)

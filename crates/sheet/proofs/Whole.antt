@@ -22,8 +22,8 @@ use Rattle.sheet.proofs.Scan.{ScalarOr, scalar_or}
 use Rattle.sheet.proofs.Nesting.{by_order}
 
 -- ---- of tokens that stand, all but the nesting holds
-pub standing-linked : (L : ℕ) (ts : List Token) → AllStand L ts → Linked ts
-standing-linked L ts s =
+pub standing_linked : (L : ℕ) (ts : List Token) → AllStand L ts → Linked ts
+standing_linked L ts s =
     record {
       closed = λ i end o. (s.held i (opener_in ts i o)).closed end o;
       opened = λ i opener e. (s.held i (end_in ts i e)).opened opener e;
@@ -33,8 +33,8 @@ pub standing-sheet : (L : ℕ) (ts : List Token) → AllStand L ts → ((i : ℕ
 standing-sheet L ts s n =
     record {
       forms = λ i h. (s.held i h).form;
-      closed = (standing-linked L ts s).closed;
-      opened = (standing-linked L ts s).opened;
+      closed = (standing_linked L ts s).closed;
+      opened = (standing_linked L ts s).opened;
       nested = n;
       within = λ i offset size v. (s.held i (view_in ts i v)).within offset size v;
       rising = λ i j o l p m h v w. (s.spaced j (view_in ts j w) i o l p m h v w).0;
@@ -87,17 +87,17 @@ sheet-standing L ts s =
     }
 
 -- ---- what the check answers
-pub check-fits : (ws : List ℕ) (n : ℕ) {r : Bool} → r ≡ leb (words_for n) (length ws) → r ≡ true → words_for n ≤ length ws
-check-fits ws n e f = leb-true (words_for n) (length ws) (sym e ∙ f)
+pub check_fits : (ws : List ℕ) (n : ℕ) {r : Bool} → r ≡ leb (words_for n) (length ws) → r ≡ true → words_for n ≤ length ws
+check_fits ws n e f = leb-true (words_for n) (length ws) (sym e ∙ f)
 
 module _ (L : ℕ) (ws : List ℕ) (n : ℕ) where
-  pub check-short : {r : Bool} → r ≡ leb (words_for n) (length ws) → r ≡ false → (false ≡ true) ↔ Sound L ws n
-  check-short e f = told-no (λ s. absurd (omega (arith, leb-false (words_for n) (length ws) (sym e ∙ f), s.fits)))
+  pub check_short : {r : Bool} → r ≡ leb (words_for n) (length ws) → r ≡ false → (false ≡ true) ↔ Sound L ws n
+  check_short e f = told-no (λ s. absurd (omega (arith, leb-false (words_for n) (length ws) (sym e ∙ f), s.fits)))
 
   pub check_fallen : {r : Bool} → (r ≡ true) ↔ AllStand L (tokens_in ws n) → r ≡ false → (false ≡ true) ↔ Sound L ws n
   check_fallen t f = told-no (λ s. false≢true (sym f ∙ t.1 (sheet-standing L (tokens_in ws n) s.tokens)))
 
-  pub check-nested : {r : Bool} → words_for n ≤ length ws → AllStand L (tokens_in ws n)
+  pub check_nested : {r : Bool} → words_for n ≤ length ws → AllStand L (tokens_in ws n)
       → (r ≡ true) ↔ ((i : ℕ) → Nested (tokens_in ws n) i) → (r ≡ true) ↔ Sound L ws n
-  check-nested fits stand t =
+  check_nested fits stand t =
       told_through t (λ nest. record { fits = fits; tokens = standing-sheet L (tokens_in ws n) stand nest }) (λ s. s.tokens.nested)

@@ -10,7 +10,7 @@ ghost use Rattle.sheet.specs.Sound.{Form, Nested};
 ghost use Rattle.sheet.specs.Steps.{Layable};
 
 use packed::tokens;
-use tape::token::{ContainerKind, Token};
+use tape::token::Token;
 use tape::{codes, words};
 
 // Whether a token in its form opens a container: its code tells.
@@ -18,7 +18,7 @@ fn opens(t: Token) -> bool
     requires { Form t }
     ensures { (result ≡ true) ↔ Opens t t.a }
 {
-    t.code == ContainerKind::Array as u32 || t.code == ContainerKind::Object as u32
+    t.code == codes::ARRAY || t.code == codes::OBJECT
 }
 
 // Whether a token in its form is an End.

@@ -4,23 +4,22 @@
 // it meets is another container's. No token is walked twice, on no sheet: when a container is walked, those after it
 // are known to nest, so the walk goes over each of them whole, and a token that it stands on lies in none of them.
 ghost use Rattle.std.specs.Prelude.{◌≡◌, true, ◌↔◌, ℕ};
-ghost use Rattle.packed.specs.Packed.{behind};
-ghost use Rattle.tape.specs.Words.{tokens_in};
+ghost use Rattle.packed.specs.Source.{tokens};
 ghost use Rattle.sheet.specs.Sound.{Nested};
 ghost use Rattle.sheet.specs.Steps.{Linked, Walkable, Walked};
 
-use packed::source;
-use tape::shape;
+use crate::source::link_at;
+use packed::source::Source;
 use tape::shape::Link;
 
 // Whether the walk from the opener at i comes out at its End.
-fn walk(words: &[u32], bytes: &[u8], count: usize, i: usize, end: usize) -> bool
-    requires { Walkable (tokens_in (behind words.now bytes.now) count) i end }
-    ensures { Walked (tokens_in (behind words.now bytes.now) count) i result }
+fn walk(source: Source<'_>, i: usize, end: usize) -> bool
+    requires { Walkable (tokens source) i end }
+    ensures { Walked (tokens source.entry) i result }
 {
     let mut at = i + 1;
     while at < end {
-        match shape::link_of(source::token_of(words, bytes, count, at)) {
+        match link_at(source, at) {
             Some(Link::ToEnd(inner)) => at = (inner as usize) + 1,
             Some(Link::ToOpener(_)) => return false,
             None => at += 1,
@@ -30,14 +29,14 @@ fn walk(words: &[u32], bytes: &[u8], count: usize, i: usize, end: usize) -> bool
 }
 
 // Whether every container that opens in another ends in it.
-pub(crate) fn nest(words: &[u32], bytes: &[u8], count: usize) -> bool
-    requires { Linked (tokens_in (behind words.now bytes.now) count) }
-    ensures { (result ≡ true) ↔ ((i : ℕ) → Nested (tokens_in (behind words.now bytes.now) count) i) }
+pub(crate) fn nest(source: Source<'_>) -> bool
+    requires { Linked (tokens source) }
+    ensures { (result ≡ true) ↔ ((i : ℕ) → Nested (tokens source.entry) i) }
 {
-    for i in (0..count).rev() {
-        match shape::link_of(source::token_of(words, bytes, count, i)) {
+    for i in (0..source.count).rev() {
+        match link_at(source, i) {
             Some(Link::ToEnd(end)) => {
-                if !walk(words, bytes, count, i, end as usize) {
+                if !walk(source, i, end as usize) {
                     return false;
                 }
             }

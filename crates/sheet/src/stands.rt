@@ -1,26 +1,28 @@
 // Whether the tokens of a sheet stand as they should, looked at one by one from the first: each in its form, openers and
 // Ends naming each other, each view in the text and past the one before it. The tokens stand in words or in bytes (see `packed::source`).
 ghost use Rattle.std.specs.Prelude.{◌≡◌, true, ◌↔◌, ℕ, ◌≤◌, ◌<◌, length};
-ghost use Rattle.packed.specs.Packed.{behind};
-ghost use Rattle.tape.specs.Words.{words_for, tokens_in};
+ghost use Rattle.packed.specs.Source.{words, tokens};
+ghost use Rattle.tape.specs.Words.{words_for};
 ghost use Rattle.tape.specs.Token.{may_be_empty, end_of, nth};
 ghost use Rattle.tape.specs.Shape.{Opens, shape_of};
 ghost use Rattle.sheet.specs.Steps.{Suited, Held, AllStand, floor_after};
 
-use packed::source;
+use crate::source::link_at;
+use packed::source::Source;
 use tape::shape::{Link, Shape};
 use tape::token::ScalarKind;
 use tape::{shape, token};
 
 // Whether the End of an opener at i stands after it and names it.
-fn closes(words: &[u32], bytes: &[u8], count: usize, i: usize, end: u32) -> bool
-    ensures { (result ≡ true) ↔ ((i < end) × (nth (tokens_in (behind words.now bytes.now) count) end ≡ end_of i)) }
+#[tactic(auto, using(crate::proofs::Links::closes_late, crate::proofs::Links::closes_end))]
+fn closes(source: Source<'_>, i: usize, end: u32) -> bool
+    ensures { (result ≡ true) ↔ ((i < end) × (nth (tokens source.entry) end ≡ end_of i)) }
 {
     let at = end as usize;
     if at <= i {
         return false;
     }
-    match shape::link_of(source::token_of(words, bytes, count, at)) {
+    match link_at(source, at) {
         Some(Link::ToOpener(opener)) => (opener as usize) == i,
         Some(Link::ToEnd(_)) => false,
         None => false,
@@ -28,14 +30,15 @@ fn closes(words: &[u32], bytes: &[u8], count: usize, i: usize, end: u32) -> bool
 }
 
 // Whether the opener of an End at i stands before it and names it.
-fn opened(words: &[u32], bytes: &[u8], count: usize, i: usize, opener: u32) -> bool
-    ensures { (result ≡ true) ↔ ((opener < i) × Opens (nth (tokens_in (behind words.now bytes.now) count) opener) i) }
+#[tactic(auto, using(crate::proofs::Links::opened_late, crate::proofs::Links::opened_opener))]
+fn opened(source: Source<'_>, i: usize, opener: u32) -> bool
+    ensures { (result ≡ true) ↔ ((opener < i) × Opens (nth (tokens source.entry) opener) i) }
 {
     let at = opener as usize;
     if i <= at {
         return false;
     }
-    match shape::link_of(source::token_of(words, bytes, count, at)) {
+    match link_at(source, at) {
         Some(Link::ToEnd(end)) => (end as usize) == i,
         Some(Link::ToOpener(_)) => false,
         None => false,
@@ -43,14 +46,11 @@ fn opened(words: &[u32], bytes: &[u8], count: usize, i: usize, opener: u32) -> b
 }
 
 // Whether a container opens at a place.
-fn opens(words: &[u32], bytes: &[u8], count: usize, at: usize) -> bool
-    ensures { (result ≡ true) ↔ ((end : ℕ) × Opens (nth (tokens_in (behind words.now bytes.now) count) at) end) }
+#[tactic(auto, using(crate::proofs::Links::opens_opener, crate::proofs::Links::opens_end, crate::proofs::Links::opens_none))]
+fn opens(source: Source<'_>, at: usize) -> bool
+    ensures { (result ≡ true) ↔ ((end : ℕ) × Opens (nth (tokens source.entry) at) end) }
 {
-    match shape::link_of(source::token_of(words, bytes, count, at)) {
-        Some(Link::ToEnd(_)) => true,
-        Some(Link::ToOpener(_)) => false,
-        None => false,
-    }
+    matches!(link_at(source, at), Some(Link::ToEnd(_)))
 }
 
 // Whether a scalar of a kind may be as long as it is.
@@ -63,15 +63,13 @@ fn fills(kind: ScalarKind, length: u32) -> bool
 // Whether a scalar's view ends within the text, whether it may be as long as it is, and whether what follows suits it.
 fn suits(
     text_length: usize,
-    words: &[u32],
-    bytes: &[u8],
-    count: usize,
+    source: Source<'_>,
     next: usize,
     kind: ScalarKind,
     offset: u32,
     length: u32,
 ) -> bool
-    ensures { (result ≡ true) ↔ Suited text_length (tokens_in (behind words.now bytes.now) count) next kind offset length }
+    ensures { (result ≡ true) ↔ Suited text_length (tokens source.entry) next kind offset length }
 {
     if text_length < (offset as usize) + (length as usize) {
         return false;
@@ -80,43 +78,26 @@ fn suits(
         return false;
     }
     if token::is_header(kind) {
-        return opens(words, bytes, count, next);
+        return opens(source, next);
     }
     true
 }
 
 // Whether token i, of a shape, stands as it should by itself.
-fn token_stands(
-    text_length: usize,
-    words: &[u32],
-    bytes: &[u8],
-    count: usize,
-    i: usize,
-    shape: Option<Shape>,
-) -> bool
-    requires { (words_for count ≤ length (behind words.now bytes.now)) × (i < count)
-        × (shape ≡ shape_of (nth (tokens_in (behind words.now bytes.now) count) i)) }
-    ensures { (result ≡ true) ↔ Held text_length (tokens_in (behind words.now bytes.now) count) i }
+fn token_stands(text_length: usize, source: Source<'_>, i: usize, shape: Option<Shape>) -> bool
+    requires { (words_for source.count ≤ length (words source)) × (i < source.count) × (shape ≡ shape_of (nth (tokens source) i)) }
+    ensures { (result ≡ true) ↔ Held text_length (tokens source.entry) i }
 {
     match shape {
-        Some(Shape::Opener { end }) => i != 0 && closes(words, bytes, count, i, end),
+        Some(Shape::Opener { end }) => i != 0 && closes(source, i, end),
         Some(
             Shape::Scalar {
                 kind,
                 offset,
                 length,
             },
-        ) => suits(
-            text_length,
-            words,
-            bytes,
-            count,
-            i + 1,
-            kind,
-            offset,
-            length,
-        ),
-        Some(Shape::End { opener }) => opened(words, bytes, count, i, opener),
+        ) => suits(text_length, source, i + 1, kind, offset, length),
+        Some(Shape::End { opener }) => opened(source, i, opener),
         Some(Shape::MixedContainer) => true,
         Some(Shape::Operator { .. }) => true,
         None => false,
@@ -139,14 +120,14 @@ fn raised(shape: Option<Shape>, floor: usize) -> Option<usize>
 }
 
 // Whether every token stands as it should, but for how containers nest.
-pub(crate) fn all_stand(text_length: usize, words: &[u32], bytes: &[u8], count: usize) -> bool
-    requires { words_for count ≤ length (behind words.now bytes.now) }
-    ensures { (result ≡ true) ↔ AllStand text_length (tokens_in (behind words.now bytes.now) count) }
+pub(crate) fn all_stand(text_length: usize, source: Source<'_>) -> bool
+    requires { words_for source.count ≤ length (words source) }
+    ensures { (result ≡ true) ↔ AllStand text_length (tokens source.entry) }
 {
     let mut floor: usize = 0;
-    for i in 0..count {
-        let shape = shape::shape_of(source::token_of(words, bytes, count, i));
-        if !token_stands(text_length, words, bytes, count, i, shape) {
+    for i in 0..source.count {
+        let shape = shape::shape_of(source.token(i));
+        if !token_stands(text_length, source, i, shape) {
             return false;
         }
         let Some(next) = raised(shape, floor) else {

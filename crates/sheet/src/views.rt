@@ -64,6 +64,7 @@ fn place(text_length: usize, shape: Option<Shape>) -> Option<Viewed>
 }
 
 // Whether token `index` has a view, and where it lies.
+#[tactic(auto, using(crate::proofs::Parts::view_past, crate::proofs::Parts::view_short, crate::proofs::Parts::view_placed))]
 pub fn view_of(text: &[u8], words: &[u32], count: usize, index: usize) -> Option<Viewed>
     ensures { result ≡ viewed (length text.now) words.now count index }
 {

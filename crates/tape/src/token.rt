@@ -41,7 +41,8 @@ pub struct Container {
     pub mixed: bool,
 }
 
-// What a token is to a brace or an operator that follows it.
+// What a token is to a brace or an operator that follows it: one of three, or anything else. No variant carries a value, so an option of
+// three would have two matches for the one.
 #[derive(Clone, Copy)]
 pub enum Standing {
     Unquoted,
@@ -56,23 +57,6 @@ pub const NO_TOKEN: Token = Token {
     a: 0,
     b: 0,
 };
-
-// The codes of the kinds, as a `match` names them.
-const ARRAY: u32 = ContainerKind::Array as u32;
-
-const OBJECT: u32 = ContainerKind::Object as u32;
-
-const UNQUOTED: u32 = ScalarKind::Unquoted as u32;
-
-const QUOTED: u32 = ScalarKind::Quoted as u32;
-
-const PARAMETER: u32 = ScalarKind::Parameter as u32;
-
-const UNDEFINED_PARAMETER: u32 = ScalarKind::UndefinedParameter as u32;
-
-const HEADER: u32 = ScalarKind::Header as u32;
-
-const QUOTED_ESCAPE: u32 = ScalarKind::QuotedEscape as u32;
 
 // The two numbers of an opener's second word.
 const UNMIXED: u32 = 0;
@@ -99,12 +83,12 @@ pub fn scalar_named(code: u32) -> Option<ScalarKind>
     ensures { result ≡ scalar_named code }
 {
     match code {
-        UNQUOTED => Some(ScalarKind::Unquoted),
-        QUOTED => Some(ScalarKind::Quoted),
-        PARAMETER => Some(ScalarKind::Parameter),
-        UNDEFINED_PARAMETER => Some(ScalarKind::UndefinedParameter),
-        HEADER => Some(ScalarKind::Header),
-        QUOTED_ESCAPE => Some(ScalarKind::QuotedEscape),
+        codes::UNQUOTED => Some(ScalarKind::Unquoted),
+        codes::QUOTED => Some(ScalarKind::Quoted),
+        codes::PARAMETER => Some(ScalarKind::Parameter),
+        codes::UNDEFINED_PARAMETER => Some(ScalarKind::UndefinedParameter),
+        codes::HEADER => Some(ScalarKind::Header),
+        codes::QUOTED_ESCAPE => Some(ScalarKind::QuotedEscape),
         _ => None,
     }
 }
@@ -115,8 +99,8 @@ fn container_named(code: u32) -> Option<ContainerKind>
     ensures { result ≡ container_named code }
 {
     match code {
-        ARRAY => Some(ContainerKind::Array),
-        OBJECT => Some(ContainerKind::Object),
+        codes::ARRAY => Some(ContainerKind::Array),
+        codes::OBJECT => Some(ContainerKind::Object),
         _ => None,
     }
 }
@@ -250,7 +234,7 @@ impl Token {
         ensures { result ≡ standing_of self }
     {
         let code = self.code;
-        if code == UNQUOTED {
+        if code == codes::UNQUOTED {
             return Standing::Unquoted;
         }
         if is_scalar_code(code) {

@@ -35,15 +35,13 @@ pub fn capacity(words: &[u32]) -> usize
 pub fn token_of(words: &[u32], count: usize, i: usize) -> Token
     ensures { result ≡ token_in words.now count i }
 {
-    if i < count {
-        if i < words.len() / WORDS_PER_TOKEN {
-            let at = i * WORDS_PER_TOKEN;
-            return Token {
-                code: words[at],
-                a: words[at + A_WORD],
-                b: words[at + B_WORD],
-            };
-        }
+    if i < count && i < words.len() / WORDS_PER_TOKEN {
+        let at = i * WORDS_PER_TOKEN;
+        return Token {
+            code: words[at],
+            a: words[at + A_WORD],
+            b: words[at + B_WORD],
+        };
     }
     token::NO_TOKEN
 }

@@ -22,7 +22,7 @@ use Rattle.tape.proofs.Makers.{scalar_coded}
 use Rattle.sheet.specs.Sound.{Views, Sheet}
 use Rattle.sheet.specs.Steps.{Held}
 use Rattle.sheet.proofs.Links.{told-yes}
-use Rattle.sheet.proofs.Tokens.{opener_in, opener-held, mixed_container-held, operator-held, end-held, scalar-held}
+use Rattle.sheet.proofs.Tokens.{opener_in, opener_held, mixed_container_held, operator_held, end_held, scalar_held}
 use Rattle.sheet.proofs.Nesting.{by_order}
 use Rattle.sheet.proofs.Whole.{standing-sheet}
 use Rattle.writer.proofs.Forms.{both, first_of, second_of}
@@ -102,19 +102,19 @@ module _ (L : ℕ) (ts : List Token) where
   held i (Some (Opener end)) e h =
       let g = second_of (ltb 0 i) _ h in
       let named : (i < end) × (nth ts end ≡ end_of i) = (ltb-true i end (first_of _ _ g), ends_at-told (nth ts end) i (second_of (ltb i end) _ g)) in
-      (opener-held L ts i e (λ z. omega (arith, ltb-true 0 i (first_of _ _ h))) (told-yes named)).0 refl
-  held i (Some MixedContainer) e h = (mixed_container-held L ts i e).0 refl
+      (opener_held L ts i e (λ z. omega (arith, ltb-true 0 i (first_of _ _ h))) (told-yes named)).0 refl
+  held i (Some MixedContainer) e h = (mixed_container_held L ts i e).0 refl
   held i (Some (Scalar kind offset size)) e h =
       let g = second_of (leb (offset + size) L) _ h in
       let headed = second_of (not (eqb size 0) || may_be_empty kind) _ g in
-      (scalar-held L ts i e (told-yes record {
+      (scalar_held L ts i e (told-yes record {
         within = leb-true _ _ (first_of _ _ h);
         filled = λ z. if_then (eqb size 0) _ (first_of _ _ g) (eq-eqb size 0 z);
         headed = λ k. opens-told (nth ts (i + 1)) _ refl (if_then (is_header kind) _ headed k);
       })).0 refl
-  held i (Some (Operator number)) e h = (operator-held L ts i e).0 refl
+  held i (Some (Operator number)) e h = (operator_held L ts i e).0 refl
   held i (Some (End opener)) e h =
-      (end-held L ts i e (told-yes (ltb-true opener i (first_of _ _ h), opens_to-told (nth ts opener) i (second_of (ltb opener i) _ h)))).0 refl
+      (end_held L ts i e (told-yes (ltb-true opener i (first_of _ _ h), opens_to-told (nth ts opener) i (second_of (ltb opener i) _ h)))).0 refl
   held i None e h = absurd (false≢true h)
 
   -- ---- the test

@@ -15,11 +15,7 @@ use Rattle.parse.proofs.run.Goals as goal
 pub loop-after-init : goal.loop-after-init
 loop-after-init c =
     let a = c.args in
-    (refl, c.character_class-table.ensures, run-enough a.text.now _ _ a.from _ (within-enough a.text.now a.from) (omega arith))
-
-pub turn-requires : goal.turn-requires
-turn-requires c =
-    (c.requires, c.character_class-table.ensures)
+    (refl, run-enough a.text.bytes.now _ _ a.from _ (within-enough a.text.bytes.now a.from) (omega arith))
 
 pub loop-after-smaller : goal.loop-after-smaller
 loop-after-smaller c =
@@ -28,16 +24,15 @@ loop-after-smaller c =
 pub loop-after-preserved : goal.loop-after-preserved
 loop-after-preserved c = (
   c.turn.auto.tape ∙ c.loop-after.invariant.0,
-  c.loop-after.invariant.1,
-  c.loop-after.invariant.2
+  c.loop-after.invariant.1
       ∙ goes_on _ _ _ _ _ _ _ c.turn.ensures (c.in_ok-after.was ∙ ap (λ (t : Turn). Ok t) c.in-Next.is) c.past_equals-m.ensures,
 )
 
 pub returns-in-Done : goal.returns-in-Done
 returns-in-Done c =
-    let text = c.args.text.now in
+    let text = c.args.text.bytes.now in
     let m = c.loop-after.m in
-    sym (c.loop-after.invariant.2
+    sym (c.loop-after.invariant.1
     ∙ rw (
       run-turn text (left text m.at m.state) m (view c.loop-after.tape m.count),
       ← c.turn.ensures,
@@ -47,10 +42,10 @@ returns-in-Done c =
 
 pub returns-in_err-after : goal.returns-in_err-after
 returns-in_err-after c =
-    let text = c.args.text.now in
+    let text = c.args.text.bytes.now in
     let m = c.loop-after.m in
     let e : c.from_residual.result ≡ Err c.in_err-after.field-0.0 = search rules in
-    rw e (sym (c.loop-after.invariant.2
+    rw e (sym (c.loop-after.invariant.1
     ∙ rw (
       run-turn text (left text m.at m.state) m (view c.loop-after.tape m.count),
       ← c.turn.ensures,

@@ -2,7 +2,6 @@
 use Prim.Native.Nat.{suc}
 use lib.ListN.{length}
 use mathlib.Core.Path.{◌≡◌}
-use Rattle.data.specs.Classes.{classes}
 use Rattle.tape.specs.Tape.{view}
 use Rattle.parse.specs.After.{next}
 use Rattle.parse.specs.Parse.{run, enough}
@@ -12,9 +11,8 @@ use Rattle.parse.proofs.run.Given as goal
 abbrev pub invariant-loop-after : goal.invariant-loop-after
 invariant-loop-after l =
     (length l.tape ≡ length l.initial.tape)
-    × (l.table ≡ classes)
-    × (run l.text (enough l.text) (next l.initial.m (view l.initial.tape l.initial.m.count))
-    ≡ run l.text (suc (left l.text l.m.at l.m.state)) (next l.m (view l.tape l.m.count)))
+    × (run l.text.bytes.now (enough l.text.bytes.now) (next l.initial.m (view l.initial.tape l.initial.m.count))
+    ≡ run l.text.bytes.now (suc (left l.text.bytes.now l.m.at l.m.state)) (next l.m (view l.tape l.m.count)))
 
 abbrev pub decreases-loop-after : goal.decreases-loop-after
-decreases-loop-after l = left l.text l.m.at l.m.state
+decreases-loop-after l = left l.text.bytes.now l.m.at l.m.state

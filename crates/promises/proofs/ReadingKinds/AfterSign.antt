@@ -17,8 +17,8 @@ use Rattle.scalar.specs.declared.float.Tail.TheVariants.{End, Point, Other}
 use Rattle.scalar.specs.declared.kinds.ReadingKind.TheVariants as Kind
 use Rattle.scalar.specs.declared.kinds.ReadingKind.{ReadingKind}
 use Rattle.std.specs.Prelude.{ℤ, Result, Ok, Err}
-use Rattle.scalar.specs.declared.errors.ScalarError.TheVariants.{AllDigits, Overflow}
-use Rattle.scalar.specs.declared.errors.ScalarError.{ScalarError}
+use Rattle.scalar.specs.declared.errors.WholeError.TheVariants.{AllDigits, Overflow}
+use Rattle.scalar.specs.declared.errors.WholeError.{WholeError}
 use Rattle.scalar.proofs.Floats.{unpointed-past, unpointed-lossy, lossy-plain, lossy-past, quotient-past, quotient_is}
 use Rattle.scalar.proofs.Floats.{pointed-past as f64-past, pointed-is as f64-is}
 use Rattle.scalar.proofs.Floats.{after_point-end, after_point-point, after_point-other, digits_end, digits-point, digits-other}
@@ -30,7 +30,7 @@ use Rattle.promises.proofs.ReadingKinds.Tails.{by_tail, tail_number, untailed_en
 
 -- ---- the i64 reading, after a sign
 
-abbrev pub i64_after : Bool → List ℕ → Result ℤ ScalarError
+abbrev pub i64_after : Bool → List ℕ → Result ℤ WholeError
 i64_after negative s =
     elim (ltb most_i64 (value 0 (digit_run s))) [
       | true ↦ Err Overflow

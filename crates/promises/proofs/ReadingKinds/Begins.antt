@@ -13,11 +13,12 @@ use Rattle.data.specs.Bytes.{plus, minus, point}
 use Rattle.scalar.specs.Digits.{is_digit, digit_run, value}
 use Rattle.scalar.specs.Float.{rest, tail_of, f64_digits, f64_read, begins}
 use Rattle.scalar.specs.Kind.{kind_after_sign, number_or_name}
-use Rattle.scalar.specs.Numbers.{answered, scalar_refusal}
+use Rattle.scalar.specs.Numbers.{answered, whole_refusal_of}
 use Rattle.scalar.specs.Whole.{most_i64, has_tail, i64_read}
 use Rattle.std.specs.Prelude.{ℤ, Result, Err}
-use Rattle.scalar.specs.declared.errors.ScalarError.TheVariants.{AllDigits}
-use Rattle.scalar.specs.declared.errors.ScalarError.{ScalarError}
+use Rattle.scalar.specs.declared.errors.DecimalError.TheVariants as Decimal
+use Rattle.scalar.specs.declared.errors.WholeError.TheVariants.{AllDigits}
+use Rattle.scalar.specs.declared.errors.WholeError.{WholeError}
 use Rattle.scalar.specs.declared.kinds.ReadingKind.TheVariants as Kind
 use Rattle.scalar.proofs.Floats.{f64_none, f64_minus, f64_plus, f64_bare, f64_other}
 use Rattle.scalar.proofs.Forms.{unpointed_tail, sign-end, sign-other, nothing, after_minus, after_plus, unsigned}
@@ -44,7 +45,7 @@ pub record Begun (d : List ℕ) : Type 0 where
 -- or as none does
 pub record Alien (d : List ℕ) : Type 0 where
   pub whole : i64_read d ≡ Err AllDigits
-  pub float : f64_read d ≡ Err AllDigits
+  pub float : f64_read d ≡ Err Decimal.AllDigits
   pub form : number_or_name d ≡ Kind.Name
 
 minus-begins : (b : ℕ) (s : List ℕ) → b ≡ minus → Begun (b ∷ s)
@@ -139,12 +140,12 @@ answered-plain d (inl b) e =
     (λ t. absurd (refused t))
     (λ f. b.bare ∙ plain b.after f)
   where
-    told : eqb (scalar_refusal (i64_after b.negative b.after)) answered ≡ true
-    told = ap (λ (r : Result ℤ ScalarError). eqb (scalar_refusal r) answered) (sym b.whole) ∙ e
+    told : eqb (whole_refusal_of (i64_after b.negative b.after)) answered ≡ true
+    told = ap (λ (r : Result ℤ WholeError). eqb (whole_refusal_of r) answered) (sym b.whole) ∙ e
 
     refused : has_tail b.after ≡ true → ⊥
     refused t =
         by_bool (ltb most_i64 (value 0 (digit_run b.after)))
-        (λ u. false≢true (ap (λ (r : Result ℤ ScalarError). eqb (scalar_refusal r) answered) (sym (past_is b.negative b.after u)) ∙ told))
-        (λ v. false≢true (ap (λ (r : Result ℤ ScalarError). eqb (scalar_refusal r) answered) (sym (tail_is b.negative b.after v t)) ∙ told))
-answered-plain d (inr a) e = absurd (false≢true (ap (λ (r : Result ℤ ScalarError). eqb (scalar_refusal r) answered) (sym a.whole) ∙ e))
+        (λ u. false≢true (ap (λ (r : Result ℤ WholeError). eqb (whole_refusal_of r) answered) (sym (past_is b.negative b.after u)) ∙ told))
+        (λ v. false≢true (ap (λ (r : Result ℤ WholeError). eqb (whole_refusal_of r) answered) (sym (tail_is b.negative b.after v t)) ∙ told))
+answered-plain d (inr a) e = absurd (false≢true (ap (λ (r : Result ℤ WholeError). eqb (whole_refusal_of r) answered) (sym a.whole) ∙ e))

@@ -17,7 +17,7 @@ use Rattle.data.specs.Bytes.{plus, minus}
 use Rattle.scalar.specs.Digits.{is_digit, digit_run, value, most_u64}
 use Rattle.scalar.specs.Float.{rest}
 use Rattle.scalar.specs.Whole.{has_tail, u64_digits, u64_read, most_i64, signed, i64_digits, i64_part, number_of, left_of, i64_number, i64_rest, i64_read}
-use Rattle.scalar.specs.declared.errors.ScalarError.TheVariants as Why
+use Rattle.scalar.specs.declared.errors.WholeError.TheVariants as Why
 use Rattle.std.specs.declared.result.Result.TheVariants as Read
 use Rattle.scalar.proofs.Gathers.{tail_on, tail_here}
 use Rattle.scalar.proofs.Runs.{digit_bounds, number-below}
@@ -237,5 +237,3 @@ i64-same d = rw (part_same d) (go (i64_part d) refl)
         (λ f. ap (answered i) (used_up d at (ltb-false at (length d) f)) ∙ ap rust_i64 (sym (read_is d i at e (ltb-false at (length d) f))))
     go (Read.Err Why.AllDigits) e = ap rust_i64 (sym (read_refused d Why.AllDigits e))
     go (Read.Err Why.Overflow) e = ap rust_i64 (sym (read_refused d Why.Overflow e))
-    go (Read.Err Why.InvalidBool) e = ap rust_i64 (sym (read_refused d Why.InvalidBool e))
-    go (Read.Err (Why.PrecisionLoss x)) e = ap rust_i64 (sym (read_refused d (Why.PrecisionLoss x) e))

@@ -1,8 +1,8 @@
 -- `report::readings::put_carried` meets its contract, by whether the refusal carries an f64.
 -- Assumes nothing.
 use Rattle.std.specs.Prelude.{Float}
-use Rattle.scalar.specs.declared.errors.ScalarError.TheVariants.{AllDigits, Overflow, InvalidBool, PrecisionLoss}
-use Rattle.scalar.specs.declared.errors.ScalarError.{ScalarError}
+use Rattle.scalar.specs.declared.errors.DecimalError.TheVariants.{AllDigits, Overflow, PrecisionLoss}
+use Rattle.scalar.specs.declared.errors.DecimalError.{DecimalError}
 use Rattle.report.specs.Readings.{carried_text}
 use Rattle.put.proofs.Append.{chain, same_bytes, put-empty}
 use Rattle.report.specs.Digits.{hex}
@@ -11,10 +11,9 @@ use mathlib.Core.Path.{◌≡◌, refl, sym, ap}
 use Rattle.report.proofs.readings.put_carried.Goals as goal
 
 -- any other refusal carries nothing
-carries_none : (e : ScalarError) → ((x : Float) → e ≡ PrecisionLoss x → ⊥) → carried_text e ≡ []
+carries_none : (e : DecimalError) → ((x : Float) → e ≡ PrecisionLoss x → ⊥) → carried_text e ≡ []
 carries_none AllDigits h = refl
 carries_none Overflow h = refl
-carries_none InvalidBool h = refl
 carries_none (PrecisionLoss x) h = absurd (h x refl)
 
 pub returns-in-PrecisionLoss : goal.returns-in-PrecisionLoss

@@ -13,13 +13,13 @@ use Rattle.report.specs.Dump.{name_of, named}
 use Rattle.put.proofs.Append.{put-empty}
 use Rattle.report.proofs.tokens.put_name.Goals as goal
 
-pub returns-then-code : goal.returns-then-code
+pub returns-then-code-eq-ARRAY : goal.returns-then-code-eq-ARRAY
 unfolding name_of named
-returns-then-code c = rw c.if-code.true c.put_bytes.ensures
+returns-then-code-eq-ARRAY c = rw c.if-code-eq-ARRAY.true c.put_bytes.ensures
 
-pub returns-then-code-2 : goal.returns-then-code-2
+pub returns-then-code-eq-OBJECT : goal.returns-then-code-eq-OBJECT
 unfolding name_of named
-returns-then-code-2 c = rw c.if-code-2.true c.put_bytes-then-code-2.ensures
+returns-then-code-eq-OBJECT c = rw c.if-code-eq-OBJECT.true c.put_bytes-then-code-eq-OBJECT.ensures
 
 pub returns-then-code-eq-MIXED_CONTAINER : goal.returns-then-code-eq-MIXED_CONTAINER
 unfolding name_of named
@@ -45,8 +45,8 @@ returns-in-None c =
     rw (
       name_of,
       named,
-      ne_eqb _ _ c.if-code.false,
-      ne_eqb _ _ c.if-code-2.false,
+      ne_eqb _ _ c.if-code-eq-ARRAY.false,
+      ne_eqb _ _ c.if-code-eq-OBJECT.false,
       ne_eqb _ _ c.if-code-eq-MIXED_CONTAINER.false,
       none Unquoted,
       none Quoted,

@@ -4,7 +4,7 @@ use Rattle.std.proofs.Common.{sym, ap, ◌∙◌, w64}
 use lib.Ieee.{binary64, of_int}
 use mir.ValLaws.{to_z-of_z}
 use Rattle.std.specs.Prelude.{Err, Float}
-use Rattle.scalar.specs.declared.errors.ScalarError.TheVariants.{PrecisionLoss}
+use Rattle.scalar.specs.declared.errors.DecimalError.TheVariants.{PrecisionLoss}
 use Rattle.scalar.proofs.Floats.{lossy-plain, lossy-past, lossy-negative}
 use Rattle.scalar.proofs.float.lossy.Goals as goal
 

@@ -1,6 +1,5 @@
 -- `sheet::lays::nest_onto` meets its contract. The invariant: the tokens before i hang in the chain.
 -- Assumes nothing.
-use native.Mathlib.Omega.{arith}
 use Rattle.sheet.proofs.Links.{told_not}
 use Rattle.sheet.proofs.Chaining.{run_none, run-done, run-form, run-other, run-opener}
 use Rattle.sheet.proofs.Chaining.{run_crossed, run_end}
@@ -9,9 +8,6 @@ use Rattle.sheet.proofs.lays.nest_onto.Goals.{then-opens, else-opens+then-ends+e
 
 pub loop-i-init : goal.loop-i-init
 loop-i-init c = run_none _ _ _ c.requires
-
-pub overflow_cast-n : goal.overflow_cast-n
-overflow_cast-n c = omega arith
 
 pub opens-requires : goal.opens-requires
 opens-requires c =
@@ -22,19 +18,6 @@ pub ends-requires : goal.ends-requires
 ends-requires c =
     run-form _ _ _ _ _ _ c.requires c.loop-i.invariant c.loop-i-test.true
     c.token_of-t.ensures
-
-pub shape_of-words-then-t-inner : goal.shape_of-words-then-t-inner
-shape_of-words-then-t-inner c =
-    (run_crossed _ _ _ _ _ _ c.requires c.loop-i.invariant c.loop-i-test.true
-    c.token_of-t.ensures _ c.put_words.ensures
-    (c.ends.ensures.0 c.if-ends.true) c.if-t-inner.true).2
-
-pub returns-then-t-inner : goal.returns-then-t-inner
-returns-then-t-inner c =
-    let told = run_crossed _ _ _ _ _ _ c.requires c.loop-i.invariant c.loop-i-test.true
-    c.token_of-t.ensures _ c.put_words.ensures
-    (c.ends.ensures.0 c.if-ends.true) c.if-t-inner.true in
-    record { nests = told.0; laid = told.1; size = told.2 }
 
 pub loop-i-preserved : goal.loop-i-preserved
 loop-i-preserved c =
@@ -51,10 +34,14 @@ loop-i-preserved c =
           (told_not c.opens.ensures w.if-opens.false) (told_not w.ends.ensures w.if-ends.false))
     ]
 
-pub shape_of-words : goal.shape_of-words
-shape_of-words c = c.loop-i.invariant.1
+pub returns-then-t-inner-clause-nests : goal.returns-then-t-inner-clause-nests
+returns-then-t-inner-clause-nests c =
+    (run_crossed _ _ _ _ _ _ c.requires c.loop-i.invariant c.loop-i-test.true
+    c.token_of-t.ensures _ c.put_words.ensures
+    (c.ends.ensures.0 c.if-ends.true) c.if-t-inner.true).0
 
-pub returns : goal.returns
-returns c =
-    let told = run-done _ _ _ _ _ _ c.requires c.loop-i.invariant c.loop-i-test.false in
-    record { nests = told.0; laid = told.1; size = told.2 }
+pub returns-clause-nests : goal.returns-clause-nests
+returns-clause-nests c = (run-done _ _ _ _ _ _ c.requires c.loop-i.invariant c.loop-i-test.false).0
+
+pub returns-clause-laid : goal.returns-clause-laid
+returns-clause-laid c = (run-done _ _ _ _ _ _ c.requires c.loop-i.invariant c.loop-i-test.false).1
