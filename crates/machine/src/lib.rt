@@ -22,8 +22,8 @@ pub enum State {
 }
 
 // In which state the parser is, whether mixed is in force, how many tokens stand on the tape, where the text goes on, and
-// inside which opener (0 for none). The fields' order lays the place over a refusal's place in a `Turn`, which then passes
-// from turn to turn in registers.
+// inside which opener (0 for none). The fields' order lays the place over a refusal's place in a `Result<Turn, Refusal>`,
+// which then passes from turn to turn in registers.
 #[derive(Clone, Copy)]
 pub struct Machine {
     pub state: State,

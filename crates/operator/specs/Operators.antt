@@ -4,6 +4,7 @@ use Rattle.data.specs.Bytes.{less_than, greater_than, exclamation, question, equ
 use Rattle.operator.specs.declared.Operator.{Operator}
 use Rattle.operator.specs.declared.Operator.TheVariants.{LessThan, LessThanEqual, GreaterThan, GreaterThanEqual, NotEqual, Exact, Equal, Exists}
 use Rattle.operator.specs.declared.Sighted.{Sighted}
+use Rattle.operator.specs.declared.Symbol.{Symbol}
 
 -- document 01's number for each operator
 abbrev pub number_of : Operator → ℕ
@@ -40,16 +41,33 @@ is_equal Exact = false
 is_equal Equal = true
 is_equal Exists = false
 
--- the bytes by which each operator is written
-abbrev pub symbol_of : Operator → List ℕ
-symbol_of LessThan = less_than ∷ []
-symbol_of LessThanEqual = less_than ∷ equals ∷ []
-symbol_of GreaterThan = greater_than ∷ []
-symbol_of GreaterThanEqual = greater_than ∷ equals ∷ []
-symbol_of NotEqual = exclamation ∷ equals ∷ []
-symbol_of Exact = equals ∷ equals ∷ []
-symbol_of Equal = equals ∷ []
-symbol_of Exists = question ∷ equals ∷ []
+abbrev one_byte : ℕ → Symbol
+one_byte b = record { first = b; second = 0 }
+
+abbrev with_equals : ℕ → Symbol
+with_equals b = record { first = b; second = equals }
+
+-- how each operator is written; a second byte of 0 is none
+abbrev pub symbol_of : Operator → Symbol
+symbol_of LessThan = one_byte less_than
+symbol_of LessThanEqual = with_equals less_than
+symbol_of GreaterThan = one_byte greater_than
+symbol_of GreaterThanEqual = with_equals greater_than
+symbol_of NotEqual = with_equals exclamation
+symbol_of Exact = with_equals equals
+symbol_of Equal = one_byte equals
+symbol_of Exists = with_equals question
+
+-- and the bytes alone
+abbrev pub symbol_bytes : Operator → List ℕ
+symbol_bytes LessThan = less_than ∷ []
+symbol_bytes LessThanEqual = less_than ∷ equals ∷ []
+symbol_bytes GreaterThan = greater_than ∷ []
+symbol_bytes GreaterThanEqual = greater_than ∷ equals ∷ []
+symbol_bytes NotEqual = exclamation ∷ equals ∷ []
+symbol_bytes Exact = equals ∷ equals ∷ []
+symbol_bytes Equal = equals ∷ []
+symbol_bytes Exists = question ∷ equals ∷ []
 
 -- an operator that stands, with its width
 abbrev pub sign : Operator → ℕ → Option Sighted

@@ -2,7 +2,7 @@
 #![tactic(auto)]
 
 ghost use Rattle.std.specs.Prelude.{◌≡◌};
-ghost use Rattle.operator.specs.Operators.{number_of, numbered, is_equal, symbol_of, sighted};
+ghost use Rattle.operator.specs.Operators.{number_of, numbered, is_equal, symbol_of, symbol_bytes, sighted};
 
 // The operators, each with the number that stands for it on the tape.
 #[derive(Clone, Copy, PartialEq, Eq)]
@@ -24,6 +24,13 @@ pub struct Sighted {
     pub width: usize,
 }
 
+// An operator's sign: one byte, or two where second is not 0.
+#[derive(Clone, Copy)]
+pub struct Symbol {
+    pub first: u8,
+    pub second: u8,
+}
+
 impl Operator {
     // The number that stands for an operator on the tape.
     pub fn number(self) -> u32
@@ -39,9 +46,49 @@ impl Operator {
         self == Operator::Equal
     }
 
+    // The two bytes by which an operator is written, by value.
+    pub fn symbol(self) -> Symbol
+        ensures { result ≡ symbol_of self }
+    {
+        match self {
+            Operator::LessThan => Symbol {
+                first: b'<',
+                second: 0,
+            },
+            Operator::LessThanEqual => Symbol {
+                first: b'<',
+                second: b'=',
+            },
+            Operator::GreaterThan => Symbol {
+                first: b'>',
+                second: 0,
+            },
+            Operator::GreaterThanEqual => Symbol {
+                first: b'>',
+                second: b'=',
+            },
+            Operator::NotEqual => Symbol {
+                first: b'!',
+                second: b'=',
+            },
+            Operator::Exact => Symbol {
+                first: b'=',
+                second: b'=',
+            },
+            Operator::Equal => Symbol {
+                first: b'=',
+                second: 0,
+            },
+            Operator::Exists => Symbol {
+                first: b'?',
+                second: b'=',
+            },
+        }
+    }
+
     // The bytes by which an operator is written.
-    pub fn symbol(self) -> &'static [u8]
-        ensures { result.now ≡ symbol_of self }
+    pub fn spelling(self) -> &'static [u8]
+        ensures { result.now ≡ symbol_bytes self }
     {
         match self {
             Operator::LessThan => b"<",

@@ -21,6 +21,7 @@ use Rattle.data.proofs.may_be_sign.Reads as may_be_sign
 use Rattle.operator.proofs.Operator.number.Reads as operator_number
 use Rattle.operator.proofs.Operator.is_equal.Reads as operator_is_equal
 use Rattle.operator.proofs.Operator.symbol.Reads as operator_symbol
+use Rattle.operator.proofs.Operator.spelling.Reads as operator_spelling
 use Rattle.operator.proofs.operator_at.Reads as operator_at
 use Rattle.operator.proofs.operator_numbered.Reads as operator_numbered
 use Rattle.scalar.proofs.to_bool.Reads as to_bool
@@ -282,7 +283,8 @@ put_calls =
 pub record Operator : Type 0 where
   pub operator_number : OneResult operator_number.Post
   pub operator_is_equal : OneResult operator_is_equal.Post
-  pub operator_symbol : OneRun operator_symbol.Post (λ κs r. r.now)
+  pub operator_symbol : OneResult operator_symbol.Post
+  pub operator_spelling : OneRun operator_spelling.Post (λ κs r. r.now)
   pub operator_at : OneResult operator_at.Post
   pub operator_numbered : OneResult operator_numbered.Post
 
@@ -291,7 +293,8 @@ operator_calls =
     record {
       operator_number = by_definition _ _;
       operator_is_equal = by_definition _ _;
-      operator_symbol = λ κs args r s xs ys p q. p ∙ sym q;
+      operator_symbol = by_definition _ _;
+      operator_spelling = λ κs args r s xs ys p q. p ∙ sym q;
       operator_at = by_definition _ _;
       operator_numbered = by_definition _ _;
     }

@@ -9,7 +9,7 @@ use lib.ListN.{length, drop, length-append, length-take}
 use Rattle.data.specs.Bytes.{quote}
 use Rattle.operator.specs.declared.Operator.{Operator}
 use Rattle.operator.specs.declared.Operator.TheVariants.{LessThan, LessThanEqual, GreaterThan, GreaterThanEqual, NotEqual, Exact, Equal, Exists}
-use Rattle.operator.specs.Operators.{symbol_of}
+use Rattle.operator.specs.Operators.{symbol_bytes}
 use Rattle.writer.specs.declared.dues.Due.{Due}
 use Rattle.writer.specs.declared.dues.Due.TheVariants.{Entry, Key, AfterKey, Value}
 use Rattle.put.specs.Parts.{view_of}
@@ -30,7 +30,7 @@ lead_short true = omega arith
 lead_short false = omega arith
 
 -- ---- a sign has two bytes at most
-pub symbol-short : (o : Operator) → length (symbol_of o) ≤ 2
+pub symbol-short : (o : Operator) → length (symbol_bytes o) ≤ 2
 symbol-short LessThan = omega arith
 symbol-short LessThanEqual = omega arith
 symbol-short GreaterThan = omega arith

@@ -3,7 +3,7 @@ use Rattle.std.specs.Prelude.{ℕ, Bool, true, false, List, [], ◌∷◌, ◌++
 use Rattle.data.specs.Bytes.{quote}
 use Rattle.put.specs.Parts.{view_of}
 use Rattle.operator.specs.declared.Operator.{Operator}
-use Rattle.operator.specs.Operators.{symbol_of, numbered}
+use Rattle.operator.specs.Operators.{symbol_bytes, numbered}
 use Rattle.tape.specs.declared.token.Token.{Token}
 use Rattle.tape.specs.declared.token.ScalarKind.{ScalarKind}
 use Rattle.tape.specs.declared.token.ScalarKind.TheVariants.{Unquoted, Quoted, Parameter, UndefinedParameter, Header, QuotedEscape}
@@ -60,7 +60,7 @@ quote_if false bytes = bytes
 
 -- an operator's sign, or no byte where there is no operator
 abbrev pub numbered_bytes : Option Operator → List ℕ
-numbered_bytes (Some operator) = symbol_of operator
+numbered_bytes (Some operator) = symbol_bytes operator
 numbered_bytes None = []
 
 unfoldable pub sign_bytes : ℕ → List ℕ

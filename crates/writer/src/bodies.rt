@@ -37,7 +37,7 @@ fn put_sign(out: &mut [u8], at: usize, number: u32) -> usize
     ensures { wrote result out.new ≡ append out.old at (sign_bytes number) }
 {
     match operator::operator_numbered(number) {
-        Some(operator) => put_bytes(out, at, operator.symbol()),
+        Some(operator) => put_bytes(out, at, operator.spelling()),
         None => at,
     }
 }

@@ -30,7 +30,7 @@ fn sign_size(number: u32) -> usize
     ensures small { result ≤ 2 }
 {
     match operator::operator_numbered(number) {
-        Some(operator) => operator.symbol().len(),
+        Some(operator) => operator.spelling().len(),
         None => 0,
     }
 }
