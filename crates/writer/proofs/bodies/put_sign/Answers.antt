@@ -6,7 +6,7 @@ use Rattle.writer.proofs.bodies.put_sign.Goals as goal
 
 pub returns-in-Some : goal.returns-in-Some
 unfolding sign_bytes
-returns-in-Some c = rw (sign_bytes, ← c.operator_numbered.ensures, c.in-Some.is, ← c.symbol.ensures) c.put_bytes.ensures
+returns-in-Some c = rw (sign_bytes, ← c.operator_numbered.ensures, c.in-Some.is, ← c.spelling.ensures) c.put_bytes.ensures
 
 pub returns-in-None : goal.returns-in-None
 unfolding sign_bytes

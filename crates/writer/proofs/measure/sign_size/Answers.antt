@@ -9,8 +9,8 @@ pub returns-in-Some : goal.returns-in-Some
 unfolding sign_bytes
 returns-in-Some c =
     record {
-      exact = rw (sign_bytes, ← c.operator_numbered.ensures, c.in-Some.is, ← c.symbol.ensures);
-      small = rw c.symbol.ensures (symbol-short _);
+      exact = rw (sign_bytes, ← c.operator_numbered.ensures, c.in-Some.is, ← c.spelling.ensures);
+      small = rw c.spelling.ensures (symbol-short _);
     }
 
 pub returns-in-None : goal.returns-in-None
