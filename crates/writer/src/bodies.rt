@@ -100,15 +100,15 @@ fn opens(piece: Piece) -> bool
 fn put_inside(
     out: &mut [u8],
     at: usize,
-    source: Source<'_>,
+    source: &Source<'_>,
     from: usize,
     first: bool,
     due: Due,
     piece: Piece,
 ) -> usize
-    requires { Inside (tokens source) from piece }
+    requires { Inside (tokens source.now) from piece }
     ensures { wrote result out.new ≡ append out.old at
-        (inside_text source.entry.text.now (tokens source.entry) from first due piece) }
+        (inside_text source.now.text.now (tokens source.now) from first due piece) }
 {
     let Piece::Opener { kind, end } = piece else {
         return at;
@@ -132,14 +132,14 @@ fn put_inside(
 fn put_entries(
     out: &mut [u8],
     at: usize,
-    source: Source<'_>,
+    source: &Source<'_>,
     from: usize,
     end: usize,
     alone: bool,
 ) -> usize
-    requires { Range (tokens source) from end }
+    requires { Range (tokens source.now) from end }
     ensures { wrote result out.new ≡ append out.old at
-        (body_text (stretch (tokens source.entry) from end) source.entry.text.now alone due.Entry) }
+        (body_text (stretch (tokens source.now) from end) source.now.text.now alone due.Entry) }
 {
     // Counted by hand: the walk goes on behind the End of what opened, which no range gives.
     let mut i = from;
@@ -163,13 +163,13 @@ fn put_entries(
 pub(crate) fn put_pairs(
     out: &mut [u8],
     at: usize,
-    source: Source<'_>,
+    source: &Source<'_>,
     from: usize,
     end: usize,
 ) -> usize
-    requires { Range (tokens source) from end }
+    requires { Range (tokens source.now) from end }
     ensures { wrote result out.new ≡ append out.old at
-        (body_text (stretch (tokens source.entry) from end) source.entry.text.now true due.Key) }
+        (body_text (stretch (tokens source.now) from end) source.now.text.now true due.Key) }
 {
     // Counted by hand: the walk goes on behind the End of what opened, which no range gives.
     let mut i = from;

@@ -98,7 +98,7 @@ fn write_fitting(source: Source<'_>, out: &mut [u8], scratch: &mut [u32]) -> Res
         ≡ read_back source.entry.text.now (tokens source.entry) (length out.old) (length scratch.old)
         (text_of source.entry.text.now (tokens source.entry)) }
 {
-    let size = put_pairs(out, 0, source, 0, source.count);
+    let size = put_pairs(out, 0, &source, 0, source.count);
     put::clear_from(out, size);
     let front = put::front(out, size);
     if alike::comes_back(source.text, source.words, source.count, front, scratch) {

@@ -19,7 +19,7 @@ use Rattle.writer.proofs.bodies.+put_entries_put_inside_put_pairs.Goals.{put_ent
 pub put_entries-loop-i-init : goal.put_entries-loop-i-init
 put_entries-loop-i-init t c =
     let args = c.args in
-    put-start _ args.source.text.now args.out.now args.at args.from args.end args.alone Entry c.requires
+    put-start _ args.source.now.text.now args.out.now args.at args.from args.end args.alone Entry c.requires
 
 pub put_entries-put_inside-next-requires : goal.put_entries-put_inside-next-requires
 put_entries-put_inside-next-requires t c =
@@ -38,7 +38,7 @@ put_entries-loop-i-preserved t c =
     let at-loop = c.loop-i in
     let told = c.opens.ensures in
     let met = read_met _ _ _ at-loop.invariant.range c.loop-i-test.true c.piece-piece.ensures in
-    let laid : Laid (tokens_in args.source.words.now args.source.count) args.source.text.now at-loop.out (at-loop.i + 1) at-loop.next at-loop.first Entry
+    let laid : Laid (tokens_in args.source.now.words.now args.source.now.count) args.source.now.text.now at-loop.out (at-loop.i + 1) at-loop.next at-loop.first Entry
     c.piece-piece.result c.if-opens.out c.if-opens.next =
     elim c.if-opens.branch [
       | put_entries-then-opens w ↦ laid-inside told w.put_inside-next.auto.out w.out-is w.next-is w.if-opens.true w.put_inside-next.ensures
@@ -54,28 +54,28 @@ put_entries-returns t c = put-done c.loop-i.invariant c.loop-i-test.false
 pub put_inside-returns-in_default : goal.put_inside-returns-in_default
 put_inside-returns-in_default t c =
     let args = c.args in
-    let ts : List Token = tokens_in args.source.words.now args.source.count in
+    let ts : List Token = tokens_in args.source.now.words.now args.source.now.count in
     let bare = not_opener args.piece c.in_default.not-Opener in
-    same_bytes args.out.now args.at _ _ (put-empty _ _) (sym (bare-within bare args.source.text.now ts args.from args.first args.due))
+    same_bytes args.out.now args.at _ _ (put-empty _ _) (sym (bare-within bare args.source.now.text.now ts args.from args.first args.due))
 
 pub put_inside-put_entries-close-requires : goal.put_inside-put_entries-close-requires
 put_inside-put_entries-close-requires t c =
     let args = c.args in
-    let ts : List Token = tokens_in args.source.words.now args.source.count in
+    let ts : List Token = tokens_in args.source.now.words.now args.source.now.count in
     (enters args.piece args.from c.in-Opener.is c.decreases, enters_range ts args.piece args.from c.in-Opener.is c.requires)
 
 pub put_inside-put_pairs-close-requires : goal.put_inside-put_pairs-close-requires
 put_inside-put_pairs-close-requires t c =
     let args = c.args in
-    let ts : List Token = tokens_in args.source.words.now args.source.count in
+    let ts : List Token = tokens_in args.source.now.words.now args.source.now.count in
     (enters args.piece args.from c.in-Opener.is c.decreases, enters_range ts args.piece args.from c.in-Opener.is c.requires)
 
 pub put_inside-returns-in-Array : goal.put_inside-returns-in-Array
 unfolding inside_text
 put_inside-returns-in-Array t c =
     let args = c.args in
-    let ts : List Token = tokens_in args.source.words.now args.source.count in
-    as_told (λ (p : Piece). append args.out.now args.at (inside_text args.source.text.now ts args.from args.first args.due p))
+    let ts : List Token = tokens_in args.source.now.words.now args.source.now.count in
+    as_told (λ (p : Piece). append args.out.now args.at (inside_text args.source.now.text.now ts args.from args.first args.due p))
     (put-braced args.out.now args.at _ _ c.put_lead-before.ensures c.put_byte-open.ensures c.put_entries-close.ensures c.put_byte.ensures)
     (opened_as c.in-Opener.is c.in-Array.is)
 
@@ -83,8 +83,8 @@ pub put_inside-returns-in-Object : goal.put_inside-returns-in-Object
 unfolding inside_text
 put_inside-returns-in-Object t c =
     let args = c.args in
-    let ts : List Token = tokens_in args.source.words.now args.source.count in
-    as_told (λ (p : Piece). append args.out.now args.at (inside_text args.source.text.now ts args.from args.first args.due p))
+    let ts : List Token = tokens_in args.source.now.words.now args.source.now.count in
+    as_told (λ (p : Piece). append args.out.now args.at (inside_text args.source.now.text.now ts args.from args.first args.due p))
     (put-braced args.out.now args.at _ _ c.put_lead-before.ensures c.put_byte-open.ensures c.put_pairs-close.ensures c.put_byte-in-Object.ensures)
     (opened_as c.in-Opener.is c.in-Object.is)
 
@@ -92,7 +92,7 @@ put_inside-returns-in-Object t c =
 pub put_pairs-loop-i-init : goal.put_pairs-loop-i-init
 put_pairs-loop-i-init t c =
     let args = c.args in
-    put-start _ args.source.text.now args.out.now args.at args.from args.end true Key c.requires
+    put-start _ args.source.now.text.now args.out.now args.at args.from args.end true Key c.requires
 
 pub put_pairs-put_entries-requires : goal.put_pairs-put_entries-requires
 put_pairs-put_entries-requires t c =
@@ -121,7 +121,7 @@ put_pairs-loop-i-preserved t c =
     let at-loop = c.loop-i in
     let told = c.opens.ensures in
     let met = read_met _ _ _ at-loop.invariant.range c.loop-i-test.true c.piece-piece.ensures in
-    let laid : Laid (tokens_in args.source.words.now args.source.count) args.source.text.now at-loop.out (at-loop.i + 1) at-loop.next at-loop.first at-loop.due
+    let laid : Laid (tokens_in args.source.now.words.now args.source.now.count) args.source.now.text.now at-loop.out (at-loop.i + 1) at-loop.next at-loop.first at-loop.due
     c.piece-piece.result c.if-opens.out c.if-opens.next =
     elim c.if-opens.branch [
       | put_pairs-then-opens w ↦ laid-inside told w.put_inside-next.auto.out w.out-is w.next-is w.if-opens.true w.put_inside-next.ensures
