@@ -58,16 +58,13 @@ symbol_of Exact = with_equals equals
 symbol_of Equal = one_byte equals
 symbol_of Exists = with_equals question
 
--- and the bytes alone
+-- the bytes of a sign alone: one, or two where the second is not 0
+abbrev pub bytes_of : Symbol → List ℕ
+bytes_of s = elim (eqb s.second 0) [ true ↦ s.first ∷ [] | false ↦ s.first ∷ s.second ∷ [] ]
+
+-- and so the bytes by which each operator is written
 abbrev pub symbol_bytes : Operator → List ℕ
-symbol_bytes LessThan = less_than ∷ []
-symbol_bytes LessThanEqual = less_than ∷ equals ∷ []
-symbol_bytes GreaterThan = greater_than ∷ []
-symbol_bytes GreaterThanEqual = greater_than ∷ equals ∷ []
-symbol_bytes NotEqual = exclamation ∷ equals ∷ []
-symbol_bytes Exact = equals ∷ equals ∷ []
-symbol_bytes Equal = equals ∷ []
-symbol_bytes Exists = question ∷ equals ∷ []
+symbol_bytes operator = bytes_of (symbol_of operator)
 
 -- an operator that stands, with its width
 abbrev pub sign : Operator → ℕ → Option Sighted
