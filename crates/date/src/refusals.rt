@@ -1,5 +1,6 @@
 // Why a reading or a count is refused, by request W8's numbers.
-ghost use Rattle.std.specs.Prelude.{◌≡◌, ℕ};
+ghost use Rattle.std.specs.Prelude.{◌≡◌, ◌<◌, ℕ};
+ghost use Rattle.std.proofs.Common.{rules};
 ghost use Rattle.date.specs.Refusals.{error_number_of};
 
 use scalar::Numbered;
@@ -13,6 +14,8 @@ pub enum DateError {
 
 impl Numbered for DateError {
     ghost number_of = { error_number_of };
+
+    ghost refuses = { Prim.search rules };
 
     fn number(self) -> u8 {
         self as u8

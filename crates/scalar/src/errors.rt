@@ -1,5 +1,6 @@
 // Why a reading refuses some bytes, with document 01's number of each refusal, and what a refusal carries.
-ghost use Rattle.std.specs.Prelude.{◌≡◌, ℕ};
+ghost use Rattle.std.specs.Prelude.{◌≡◌, ◌<◌, ℕ};
+ghost use Rattle.std.proofs.Common.{rules};
 ghost use Rattle.scalar.specs.Numbers.{bool_error_number, whole_error_number, decimal_error_number, refusal_of, f64_value_of};
 
 // No refusal: there is an answer.
@@ -36,10 +37,15 @@ pub trait Numbered: Drop {
     // The number of this refusal.
     fn number(self) -> u8
         ensures { result ≡ number_of self };
+
+    // It is never 0, which tells of an answer.
+    ghost refuses: { (e : Self) → 0 < number_of e };
 }
 
 impl Numbered for BoolError {
     ghost number_of = { bool_error_number };
+
+    ghost refuses = { Prim.search rules };
 
     fn number(self) -> u8 {
         self as u8
@@ -49,6 +55,8 @@ impl Numbered for BoolError {
 impl Numbered for WholeError {
     ghost number_of = { whole_error_number };
 
+    ghost refuses = { Prim.search rules };
+
     fn number(self) -> u8 {
         self as u8
     }
@@ -56,6 +64,8 @@ impl Numbered for WholeError {
 
 impl Numbered for DecimalError {
     ghost number_of = { decimal_error_number };
+
+    ghost refuses = { Prim.search rules };
 
     fn number(self) -> u8 {
         match self {
