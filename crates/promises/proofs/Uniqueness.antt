@@ -38,6 +38,7 @@ use Rattle.scalar.proofs.errors.BoolErrorNumbered.number.Reads as bool_error_num
 use Rattle.scalar.proofs.errors.DecimalErrorNumbered.number.Reads as decimal_error_number
 use Rattle.scalar.proofs.errors.WholeErrorNumbered.number.Reads as whole_error_number
 use Rattle.scalar.proofs.refusal.Reads as refusal_told
+use Rattle.std.proofs.result.Result.unwrap_or.Reads as value_told
 use Rattle.scalar.specs.declared.errors.Numbered.{Ghosts}
 use denote.RattleType.{RattleType}
 use denote.Param.Laws.{Laws}
@@ -339,6 +340,10 @@ scalar_calls =
 -- of the number of a refusal: whatever is answered, and whatever refuses
 pub refusal_calls : (T E : RattleType) (l : Laws T) (m : Laws E) (g : Ghosts E.Denot) (a b c : Dict) → OneResult (refusal_told.Post T E l m g a b c)
 refusal_calls T E l m g a b c = by_definition _ _
+
+-- and of its value, or of what stands for the value of a refusal: that is std's `unwrap_or`
+pub value_calls : (T E : RattleType) (l : Laws T) (m : Laws E) (a b : Dict) → OneResult (value_told.Post T E l m a b)
+value_calls T E l m a b = by_definition _ _
 
 pub record Dates : Type 0 where
   pub in_range : OneResult in_range.Post
