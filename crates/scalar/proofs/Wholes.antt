@@ -199,7 +199,8 @@ rest-within d = go (i64_part d)
   where
     go : (p : Part) → length (left_of d p) ≤ length d
     go (Ok (i, rest)) = rw length-drop (omega arith)
-    go (Err e) = omega arith
+    go (Err AllDigits) = omega arith
+    go (Err Overflow) = omega arith
 
 -- the part from a place on, where what is left over begins there: its bytes, and where it lies
 pub rest_from : (d : List ℕ) (start : ℕ × ℕ) (at : ℕ) → at ≤ length d → i64_rest d ≡ drop at d

@@ -1,7 +1,7 @@
 -- What the calls on the words leave, seen as a tape: the equation on the words says the equation on the tokens.
 -- Assumes nothing.
 use Rattle.std.specs.Prelude.{Option, Some, None}
-use mathlib.Core.Path.{◌≡◌, refl, sym, ◌∙◌, ap}
+use mathlib.Core.Path.{◌≡◌, refl, sym, ◌∙◌, ap, subst}
 use mathlib.Core.Bool.{Bool, true, false, false≢true}
 use mathlib.Core.List.{List, ◌++◌, append-nil}
 use Prim.Native.Nat.{ℕ, zero, suc, ◌+◌, ◌-◌, ◌^◌, ◌≤◌, ◌<◌, min}
@@ -60,6 +60,16 @@ zeros-past ws zs n {m} least e =
     let past : capacity (length ws) ≤ n = ltb-false n (capacity (length ws)) f in
     let whole : m ≡ capacity (length ws) = omega (arith, least) in
     rw whole (sym (ap (λ (ts : List Token). padded (length ws) ts) (tokens-whole ws n past))))
+
+-- and from whatever number is that of their words
+pub zeros_from : (ws zs : List ℕ) (n : ℕ) {m from : ℕ} → m ≡ min n (capacity (length ws)) → from ≡ words_for m
+    → zs ≡ replicate (length (mid_of from (length ws - from) ws)) 0
+    → put_mid from (length ws - from) ws zs ≡ cleared ws n
+zeros_from ws zs n least same =
+    subst
+    (λ (k : ℕ). zs ≡ replicate (length (mid_of k (length ws - k) ws)) 0 → put_mid k (length ws - k) ws zs ≡ cleared ws n)
+    (sym same)
+    (zeros-past ws zs n least)
 
 -- two tapes are equal by their room and their tokens
 same-tape : {k l : ℕ} {ts us : List Token} → k ≡ l → ts ≡ us
