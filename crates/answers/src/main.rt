@@ -34,6 +34,9 @@ const VIEW_HEAD: usize = 2 * WORD + PAIR;
 
 const WRITE_HEAD: usize = PAIR + WORD + PAIR;
 
+// The words begin at these bytes of the two bodies, whatever the heads are put together from.
+const _: () = prove!(VIEW_HEAD == 10 && WRITE_HEAD == 8);
+
 // The most bytes that are lent to write a sheet back or as a file, and the most words to write one back or to read one: no record needs
 // more, and one that asks for more gets so much.
 const MOST_BUFFER: usize = MOST_INPUT;

@@ -207,7 +207,9 @@ fn say_both_quoted(rt: &impl Print, text: &[u8]) -> io::Result<()> {
 
 // A text of so many bytes: full of the shape's first byte, ended by its second, with its others laid at a place. Past the end they are
 // laid too, where no cut may see them.
-fn shaped(shape: &[u8], n: usize, at: usize) -> Option<[u8; ROOM]> {
+fn shaped(shape: &[u8], n: usize, at: usize) -> Option<[u8; ROOM]>
+    requires { n ≤ 40 }
+{
     let [filler, last, laid @ ..] = shape else {
         return None;
     };

@@ -1,4 +1,5 @@
 // The numbers of a line, gathered byte by byte.
+ghost use Rattle.std.specs.Prelude.{◌≤◌, ◌-◌, length};
 
 // A line has at most so many numbers; what comes after them is left out.
 pub const MOST: usize = 256;
@@ -14,7 +15,7 @@ pub enum Kind {
 
 // What a line has given so far: its kind, the number that is being read, and the numbers that have been put away, of which the first
 // `count` are its own and those behind them are left from the lines before.
-#[derive(Drop)]
+#[derive(Clone, Copy)]
 pub struct Line {
     pub kind: Option<Kind>,
     reading: Option<u64>,
@@ -95,7 +96,9 @@ impl Line {
     }
 
     // The words of the line when its first numbers are something else, laid down in the room.
-    pub(crate) fn words<'a>(&self, first: usize, room: &'a mut [u32; MOST]) -> &'a [u32] {
+    pub(crate) fn words<'a>(&self, first: usize, room: &'a mut [u32; MOST]) -> &'a [u32]
+        ensures { length result.now ≤ self.now.count - first }
+    {
         let numbers = self.numbers.get(first..self.count).unwrap_or(&[]);
         for (slot, &number) in room.iter_mut().zip(numbers) {
             *slot = word(number);

@@ -5,6 +5,8 @@
 // The text of a view is the first LENGTH letters of the alphabet. Any other line is a remark, written as it stands.
 #![tactic(auto)]
 
+ghost use Rattle.std.specs.Prelude.{◌≡◌, length, min};
+
 use input::read_full;
 use sheet::views;
 use sheet::views::Viewed;
@@ -36,9 +38,11 @@ fn run_check(rt: &impl Print, line: &Line) -> io::Result<()> {
 }
 
 // The first bytes of the alphabet, or all of it.
-fn letters(length: usize) -> &'static [u8] {
+fn letters(count: usize) -> &'static [u8]
+    ensures { length result.now ≡ min count 26 }
+{
     let alphabet: &[u8] = b"abcdefghijklmnopqrstuvwxyz";
-    alphabet.get(..length).unwrap_or(alphabet)
+    alphabet.get(..count).unwrap_or(alphabet)
 }
 
 // view LENGTH COUNT INDEX WORD ..
