@@ -35,6 +35,14 @@ word_bytes = width_of Four
 abbrev pub word_in : List ℕ → ℕ → ℕ
 word_in bytes at = field bytes at word_bytes
 
+-- where the words begin in a view's body: behind an index, a count and how many words there are
+abbrev pub view_head : ℕ
+view_head = 10
+
+-- and in that of a sheet to be written back: behind its scratch's words, a count and how many words there are
+abbrev pub write_head : ℕ
+write_head = 8
+
 -- the most words that are lent to read a file: more than the file in any body needs
 abbrev pub most_words : ℕ
 most_words = 16384

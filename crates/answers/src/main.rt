@@ -3,10 +3,10 @@
 // write that fails ends all with its error.
 #![tactic(auto)]
 
-ghost use Rattle.std.specs.Prelude.{◌≡◌, ◌+◌, ◌≤◌, ◌<◌, length, IfOk, IfSome};
+ghost use Rattle.std.specs.Prelude.{◌≡◌, ◌+◌, ◌≤◌, ◌<◌, ◌⊎◌, length, IfOk, IfSome};
 ghost use Rattle.tape.specs.Words.{words_for};
 ghost use Rattle.report.specs.Room.{most_input, most_tokens};
-ghost use Rattle.answers.specs.Whole.{word_in, most_answer, stop_bytes, block_bytes, Whole};
+ghost use Rattle.answers.specs.Whole.{word_in, view_head, write_head, most_answer, stop_bytes, block_bytes, Whole};
 
 use input::read_full;
 use packed::numbers::{Width, number_at};
@@ -33,9 +33,6 @@ const CHECK_HEAD: usize = 2 * WORD;
 const VIEW_HEAD: usize = 2 * WORD + PAIR;
 
 const WRITE_HEAD: usize = PAIR + WORD + PAIR;
-
-// The words begin at these bytes of the two bodies, whatever the heads are put together from.
-const _: () = prove!(VIEW_HEAD == 10 && WRITE_HEAD == 8);
 
 // The most bytes that are lent to write a sheet back or as a file, and the most words to write one back or to read one: no record needs
 // more, and one that asks for more gets so much.
@@ -84,6 +81,7 @@ fn take_words(bytes: &[u8], words: &mut [u32]) -> usize
 
 // Where the words of a body end whose head says by its last two bytes how many there are, if they are all there.
 fn words_end(body: &[u8], head: usize) -> Option<usize>
+    requires { (head ≡ view_head) ⊎ (head ≡ write_head) }
     ensures { IfSome result (λ end. (head ≤ end) × (end ≤ length body.now)) }
 {
     let (front, _) = body.split_at_checked(head)?;
